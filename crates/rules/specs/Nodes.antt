@@ -1,0 +1,161 @@
+-- Document 01, "The file from top to bottom": words, phrases and their secondary edges, line by line. Assumes nothing.
+use Prim.Native.Nat.{ℕ, suc, _+_}
+use mathlib.Core.Bool.{Bool, true, false, not, _&&_}
+use mathlib.Core.Option.{Option}
+use mathlib.Core.List.{List, [], _∷_, _++_, map}
+use lib.ListN.{length, drop}
+use lib.Dec.{leb, ltb, eqb}
+use Rattle.rules.specs.Lists.{pick, empty}
+use Rattle.rules.specs.Texts.{Text, noText, reads, atMost}
+use Rattle.rules.specs.Columns.{columns, text, fields, comment}
+use Rattle.rules.specs.Numbers.{wordLimit, edgeLimit, phraseNumber, number, parentNumber, good, value}
+use Rattle.rules.specs.Rules.{Rule, rule, Verdict, checked}
+use Rattle.rules.specs.Tables.{Tables, morphTags, edgeTags, secEdgeTags, dashes, known, tagLimit}
+use Rattle.rules.specs.Sentences.{Edge, Node, Sentence, listed}
+
+-- the places of the fields behind the word, or behind # and its number
+abbrev pub tagField : ℕ
+tagField = 1
+
+abbrev pub morphologyField : ℕ
+morphologyField = 2
+
+abbrev pub edgeField : ℕ
+edgeField = 3
+
+abbrev pub parentField : ℕ
+parentField = 4
+
+abbrev pub pairsField : ℕ
+pairsField = 5
+
+-- any number of pairs of secondary label and secondary parent
+pub record Pair : Type 0 where
+  pub label : Text
+  pub parent : Text
+
+unfoldable pub pairs : List Text → List Pair
+pairs [] = []
+pairs (l ∷ []) = []
+pairs (l ∷ p ∷ ts) = record { label = l; parent = p } ∷ pairs ts
+
+unfoldable pub paired : List Text → Bool
+paired [] = true
+paired (l ∷ []) = false
+paired (l ∷ p ∷ ts) = paired ts
+
+abbrev pub secondaryParent : Pair → Option ℕ
+secondaryParent p = number phraseNumber (p .parent .bytes)
+
+abbrev pub asEdge : Pair → Edge
+asEdge p = record { label = p .label; parent = value (secondaryParent p) }
+
+module _ (fs : List Text) where
+  abbrev pub itsTag : Text
+  itsTag = text fs tagField
+
+  abbrev pub itsMorphology : Text
+  itsMorphology = text fs morphologyField
+
+  abbrev pub itsEdge : Text
+  itsEdge = text fs edgeField
+
+  abbrev pub itsParent : Option ℕ
+  itsParent = parentNumber (text fs parentField .bytes)
+
+  abbrev pub itsPairs : List Pair
+  itsPairs = pairs (drop pairsField fs)
+
+  abbrev pub nodeOf : ℕ → Text → Text → Node
+  nodeOf its-number word its-comment =
+      record {
+        number = its-number;
+        word = word;
+        tag = itsTag;
+        morphology = itsMorphology;
+        edge = itsEdge;
+        parent = value itsParent;
+        secondary = map asEdge itsPairs;
+        comment = its-comment;
+      }
+
+  -- 7: no column is missing, no label is without its parent
+  abbrev pub shaped : Bool
+  shaped = leb pairsField (length fs) && paired (drop pairsField fs)
+
+  -- 8: a parent is 0 or 500 to 999; a secondary parent is 500 to 999
+  unfoldable pub parentsWritten : List Rule
+  unfolding pairs
+  parentsWritten =
+      rule 8 (text fs parentField) (good itsParent) ∷ map (λ (p : Pair). rule 8 (p .parent) (good (secondaryParent p))) itsPairs
+
+  -- 10: length limits hold without a table too
+  unfoldable pub tagsShort : ℕ → List Rule
+  unfolding pairs
+  tagsShort tags =
+      rule 10 itsTag (atMost (tagLimit tags) itsTag)
+      ∷ rule 10 itsMorphology (atMost (tagLimit morphTags) itsMorphology)
+      ∷ rule 10 itsEdge (atMost (tagLimit edgeTags) itsEdge)
+      ∷ map (λ (p : Pair). rule 10 (p .label) (atMost (tagLimit secEdgeTags) (p .label))) itsPairs
+
+  -- 18: each tag stands in its table
+  unfoldable pub tagsKnown : Tables → ℕ → List Rule
+  unfolding pairs
+  tagsKnown ts tags =
+      rule 18 itsTag (known ts tags itsTag)
+      ∷ rule 18 itsMorphology (known ts morphTags itsMorphology)
+      ∷ rule 18 itsEdge (known ts edgeTags itsEdge)
+      ∷ map (λ (p : Pair). rule 18 (p .label) (known ts secEdgeTags (p .label))) itsPairs
+
+  -- 19: parent 0 needs the edge --; another parent, and each secondary parent, is larger than the node's number
+  -- (a word's number is below 500, so of a word this says nothing)
+  unfoldable pub parentsRise : ℕ → List Rule
+  unfolding pairs
+  parentsRise its-number =
+      rule 19 (text fs parentField) (pick (eqb (value itsParent) 0) (reads dashes itsEdge) (ltb its-number (value itsParent)))
+      ∷ map (λ (p : Pair). rule 19 (p .parent) (ltb its-number (value (secondaryParent p)))) itsPairs
+
+abbrev pub edgeCount : List Node → ℕ
+edgeCount [] = 0
+edgeCount (n ∷ ns) = length (n .secondary) + edgeCount ns
+
+abbrev pub edgesOf : Sentence → ℕ
+edgesOf s = edgeCount (s .words) + edgeCount (s .phrases)
+
+-- 16: at most 512 secondary edges
+abbrev pub roomy : Sentence → List Text → Bool
+roomy s fs = leb (edgesOf s + length (itsPairs fs)) edgeLimit
+
+-- words count from 0; a word after a phrase can't stand there
+unfoldable pub wordOf : Tables → ℕ → Sentence → Text → Verdict Node
+unfolding pairs
+wordOf ts tags s line =
+    let fs = fields (columns line) in
+    let its-number = length (s .words) in
+    checked
+    (rule 6 line (empty (s .phrases))
+    ∷ rule 7 line (shaped fs)
+    ∷ parentsWritten fs
+    ++ tagsShort fs tags
+    ++ (rule 16 line (ltb its-number wordLimit && roomy s fs) ∷ tagsKnown fs ts tags)
+    ++ parentsRise fs its-number)
+    (nodeOf fs its-number (text fs 0) (comment (columns line)))
+
+-- the digits behind a phrase line's #
+abbrev pub behindHash : Text → Text
+behindHash t = record { start = suc (t .start); bytes = drop 1 (t .bytes) }
+
+-- phrases are numbered from 500 and come in any order
+unfoldable pub phraseOf : Tables → ℕ → Sentence → Text → Verdict Node
+unfolding pairs
+phraseOf ts tags s line =
+    let fs = fields (columns line) in
+    let its-number = number phraseNumber (behindHash (text fs 0) .bytes) in
+    checked
+    (rule 7 line (shaped fs)
+    ∷ rule 8 (text fs 0) (good its-number)
+    ∷ parentsWritten fs
+    ++ tagsShort fs tags
+    ++ (rule 16 line (roomy s fs) ∷ rule 17 line (not (listed (s .phrases) (value its-number))) ∷ tagsKnown fs ts tags)
+    ++ parentsRise fs (value its-number))
+    (nodeOf fs (value its-number) noText (comment (columns line)))

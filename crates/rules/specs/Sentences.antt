@@ -1,0 +1,104 @@
+-- Document 01, "The file from top to bottom": a sentence, its beginning and its end. Assumes nothing.
+use Prim.Native.Nat.{ℕ, suc}
+use mathlib.Core.Bool.{Bool, not, _&&_, _||_}
+use mathlib.Core.List.{List, [], _∷_, _++_}
+use lib.ListN.{length, drop}
+use lib.Dec.{ltb, eqb}
+use Rattle.rules.specs.Lists.{empty, every, any, member, counting}
+use Rattle.rules.specs.Texts.{Text}
+use Rattle.rules.specs.Columns.{columns, written, fields, comment}
+use Rattle.rules.specs.Numbers.{sentenceNumber, originId, date, phraseNumber, number, signedId, good, value}
+use Rattle.rules.specs.Rules.{rule, Verdict, checked}
+use Rattle.rules.specs.Tables.{Tables, origins, editors, table, present, rowsOf, hasId}
+
+pub record Edge : Type 0 where
+  pub label : Text
+  pub parent : ℕ
+
+-- a word or a phrase; a phrase's word is absent
+pub record Node : Type 0 where
+  pub number : ℕ
+  pub word : Text
+  pub tag : Text
+  pub morphology : Text
+  pub edge : Text
+  pub parent : ℕ
+  pub secondary : List Edge
+  pub comment : Text
+
+-- what stands on #BOS
+pub record Heading : Type 0 where
+  pub number : ℕ
+  pub editor1 : ℕ
+  pub date : ℕ
+  pub origin : ℕ
+  pub comment : Text
+
+-- its words and its phrases are in file order
+pub record Sentence : Type 0 where
+  pub heading : Heading
+  pub words : List Node
+  pub phrases : List Node
+
+-- ---- #BOS number editor date origin; used are the numbers of the sentences before
+
+-- ids -1 and 0 may be cited without a row
+abbrev pub knownEditor : Tables → ℕ → Bool
+knownEditor ts i = ltb i 2 || hasId i (rowsOf (table editors ts))
+
+abbrev pub knownOrigin : Tables → ℕ → Bool
+knownOrigin ts n = hasId (suc n) (rowsOf (table origins ts))
+
+unfoldable pub headingOf : Tables → List ℕ → Text → Verdict Heading
+unfolding hasId
+headingOf ts used line =
+    let cs = columns line in
+    let its-number = number sentenceNumber (written cs 1 .bytes) in
+    let editor = signedId (written cs 2 .bytes) in
+    let when = number date (written cs 3 .bytes) in
+    let origin = number originId (written cs 4 .bytes) in
+    checked
+    (rule 7 line (ltb 4 (length cs) && empty (fields (drop 5 cs)))
+    ∷ rule 8 (written cs 1) (good its-number)
+    ∷ rule 8 (written cs 2) (good editor)
+    ∷ rule 8 (written cs 3) (good when)
+    ∷ rule 8 (written cs 4) (good origin)
+    ∷ rule 13 line (present origins ts && present editors ts)
+    ∷ rule 14 line (not (member (value its-number) used))
+    ∷ rule 15 (written cs 2) (knownEditor ts (value editor))
+    ∷ rule 15 (written cs 4) (knownOrigin ts (value origin))
+    ∷ [])
+    (record {
+      number = value its-number;
+      editor1 = value editor;
+      date = value when;
+      origin = value origin;
+      comment = comment (drop 5 cs);
+    })
+
+-- ---- #EOS number
+
+-- is there a phrase of this number?
+abbrev pub listed : List Node → ℕ → Bool
+listed ps n = any (λ (p : Node). eqb n (p .number)) ps
+
+-- phrases are numbered from 500 without a gap
+abbrev pub gapless : List Node → Bool
+gapless ps = every (listed ps) (counting (phraseNumber .lowest) (length ps))
+
+-- each parent other than 0 is a phrase of the sentence, secondary parents too
+abbrev pub parented : List Node → Node → Bool
+parented ps n = (eqb (n .parent) 0 || listed ps (n .parent)) && every (λ (e : Edge). listed ps (e .parent)) (n .secondary)
+
+unfoldable pub endOf : Sentence → Text → Verdict Sentence
+endOf s line =
+    let cs = columns line in
+    let its-number = number sentenceNumber (written cs 1 .bytes) in
+    checked
+    (rule 7 line (eqb (length cs) 2)
+    ∷ rule 8 (written cs 1) (good its-number)
+    ∷ rule 20 line (eqb (value its-number) (s .heading .number))
+    ∷ rule 21 line (gapless (s .phrases))
+    ∷ rule 22 line (every (parented (s .phrases)) (s .words ++ s .phrases))
+    ∷ [])
+    s
