@@ -1,1 +1,3 @@
 pub mod CheckedByHand
+pub mod Counting
+pub mod Classes

@@ -2,9 +2,9 @@
 -- ordinary byte; there are four classes of bytes. Assumes nothing.
 use Prim.Native.Nat.{ℕ}
 use mathlib.Core.Bool.{Bool, true, _||_}
-use mathlib.Core.List.{List, [], _∷_}
+use mathlib.Core.List.{List, [], _∷_, map}
 use lib.Dec.{eqb}
-use Rattle.rules.specs.Lists.{pick, between, every, same, bytes}
+use Rattle.rules.specs.Lists.{pick, between, every, same, bytes, counting}
 
 -- a line ends with this byte
 abbrev pub newline : ℕ
@@ -34,6 +34,11 @@ otherClass = 3
 
 unfoldable pub classOf : ℕ → ℕ
 classOf b = pick (white b) whiteClass (pick (digit b) digitClass (pick (legal b) otherClass illegalClass))
+
+-- the class of every byte from 0 to 255
+unfoldable pub classTable : List ℕ
+unfolding classOf
+classTable = map classOf (counting 0 256)
 
 -- two percent signs
 abbrev pub percents : List ℕ
