@@ -13,9 +13,10 @@ use Rattle.rules.specs.Numbers.{valueFrom, decimal}
 use Rattle.rules.specs.Rules.{broken, checked}
 use Rattle.rules.specs.Tables.{hasId, hasTag, known}
 use Rattle.rules.specs.Rows.{originRow, editorRow, tagRow}
-use Rattle.rules.specs.Sentences.{headingOf, endOf}
+use Rattle.rules.specs.Sentences.{headingOf, endRules, endOf}
 use Rattle.rules.specs.Nodes.{pairs, paired, parentsWritten, tagsShort, tagsKnown, parentsRise, wordOf, phraseOf}
-use Rattle.rules.specs.Lines.{formatOf, tableOpened, tableEnded, firstColumn, atStart, behindOne, atTop, amongRows, amongNodes, lineAt, taken, step}
+use Rattle.rules.specs.Keywords.{formatOf, tableOpened, tableEnded, firstColumn}
+use Rattle.rules.specs.Lines.{atStart, behindOne, atTop, amongRows, amongNodes, lineAt, taken, step}
 use Rattle.rules.specs.Survey.{Told, told, surveyOf}
 
 abbrev pub fileA : List ℕ
@@ -57,5 +58,5 @@ abbrev pub holds : Case → Bool
 holds c = same (fourNumbers (told (surveyOf (c .file)))) (c .tells)
 
 pub starred : T (every holds starredCases)
-unfolding ignored rightTrim trimFrom frontBytes behindFrom columnsFrom fields comment valueFrom decimal broken checked hasId hasTag known originRow editorRow tagRow headingOf endOf pairs paired parentsWritten tagsShort tagsKnown parentsRise wordOf phraseOf formatOf tableOpened tableEnded firstColumn atStart behindOne atTop amongRows amongNodes lineAt taken step surveyOf
+unfolding ignored rightTrim trimFrom frontBytes behindFrom columnsFrom fields comment valueFrom decimal broken checked hasId hasTag known originRow editorRow tagRow headingOf endRules endOf pairs paired parentsWritten tagsShort tagsKnown parentsRise wordOf phraseOf formatOf tableOpened tableEnded firstColumn atStart behindOne atTop amongRows amongNodes lineAt taken step surveyOf
 starred = tt

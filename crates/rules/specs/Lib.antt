@@ -8,6 +8,7 @@ pub mod Tables
 pub mod Rows
 pub mod Sentences
 pub mod Nodes
+pub mod Keywords
 pub mod Lines
 pub mod Reading
 pub mod Sheets

@@ -1,21 +1,20 @@
 -- Document 01, "The file from top to bottom" and refusal 6: which line may stand where, and what it does there.
 -- Assumes nothing.
 use Prim.Native.Nat.{ℕ}
-use mathlib.Core.Bool.{Bool, true, false, not, _&&_, _||_}
-use mathlib.Core.Option.{Option, none, some}
+use mathlib.Core.Bool.{Bool, false, _&&_}
 use mathlib.Core.List.{List, [], _∷_, _++_}
 use lib.ListN.{length}
-use lib.Dec.{leb, ltb, eqb}
-use Rattle.rules.specs.Lists.{pick, bytes, empty, every}
-use Rattle.rules.specs.Bytes.{white, digit, legal, ignored}
-use Rattle.rules.specs.Texts.{Text, noText, reads}
-use Rattle.rules.specs.Columns.{Column, columns, written}
-use Rattle.rules.specs.Numbers.{lineLimit, formatNumber, number, good, value}
+use lib.Dec.{leb}
+use Rattle.rules.specs.Lists.{pick, bytes, empty, every, member}
+use Rattle.rules.specs.Bytes.{legal, ignored}
+use Rattle.rules.specs.Texts.{Text, reads}
+use Rattle.rules.specs.Numbers.{lineLimit}
 use Rattle.rules.specs.Rules.{Rule, rule, Verdict, refused, granted, checked}
-use Rattle.rules.specs.Tables.{Tables, Row, noTables, origins, editors, wordTags, nodeTags, tableNamed, present, closed}
+use Rattle.rules.specs.Tables.{Tables, Row, noTables, origins, editors, present, closed}
 use Rattle.rules.specs.Rows.{rowOf}
-use Rattle.rules.specs.Sentences.{Node, Heading, Sentence, headingOf, endOf}
+use Rattle.rules.specs.Sentences.{Node, Heading, Sentence, listed, edgesOf, headingOf, endOf}
 use Rattle.rules.specs.Nodes.{wordOf, phraseOf}
+use Rattle.rules.specs.Keywords.{formatOf, tableOpened, tableEnded, firstColumn, startsRow, startsWord, startsPhrase}
 
 -- the format number, and the tables that are closed
 pub record Preamble : Type 0 where
@@ -41,75 +40,6 @@ abbrev pub next : {A : Type 0} → (A → Answer) → Verdict A → Answer
 next f (refused r) = refuse r
 next f (granted a) = f a
 
--- ---- keyword lines
-
--- #FORMAT 3
-unfoldable pub formatOf : Text → Verdict ℕ
-formatOf line =
-    let cs = columns line in
-    let n = number formatNumber (written cs 1 .bytes) in
-    checked
-    (rule 7 line (eqb (length cs) 2)
-    ∷ rule 8 (written cs 1) (good n)
-    ∷ rule 9 line (eqb (value n) 3)
-    ∷ [])
-    (value n)
-
--- each table at most once
-abbrev pub fresh : Tables → Option ℕ → Bool
-fresh ts none = false
-fresh ts (some n) = not (present n ts)
-
--- #BOT NAME; a missing name is a missing column
-unfoldable pub tableOpened : Tables → Text → Verdict ℕ
-tableOpened ts line =
-    let cs = columns line in
-    let n = tableNamed (written cs 1) in
-    checked (rule 6 line (ltb (length cs) 2 || fresh ts n) ∷ rule 7 line (eqb (length cs) 2) ∷ []) (value n)
-
-abbrev pub itself : ℕ → Option ℕ → Bool
-itself n none = false
-itself n (some m) = eqb n m
-
--- #EOT NAME, with the name at #BOT
-unfoldable pub tableEnded : ℕ → Text → Verdict ℕ
-tableEnded n line =
-    let cs = columns line in
-    checked (rule 6 line (ltb (length cs) 2 || itself n (tableNamed (written cs 1))) ∷ rule 7 line (eqb (length cs) 2) ∷ []) n
-
--- ---- kinds of lines, by their first column; a leading white byte leaves none
-
-abbrev pub leadingWhite : List ℕ → Bool
-leadingWhite [] = false
-leadingWhite (b ∷ bs) = white b
-
-unfoldable pub firstColumn : Text → Text
-firstColumn line = pick (leadingWhite (line .bytes)) noText (written (columns line) 0)
-
-abbrev pub hashed : List ℕ → Bool
-hashed [] = false
-hashed (b ∷ bs) = eqb b 35
-
--- in a table a line that begins with no # or white byte is a row
-abbrev pub startsRow : Text → Bool
-startsRow t = not (empty (t .bytes)) && not (hashed (t .bytes))
-
--- a word may be a lone #, but doesn't start with # otherwise
-abbrev pub startsWord : Text → Bool
-startsWord t = reads (bytes "#") t || startsRow t
-
-abbrev pub digits : List ℕ → Bool
-digits [] = false
-digits (d ∷ ds) = every digit (d ∷ ds)
-
-abbrev pub hashAndDigits : List ℕ → Bool
-hashAndDigits [] = false
-hashAndDigits (b ∷ bs) = eqb b 35 && digits bs
-
--- in a line of the form # and digits the number is a phrase's
-abbrev pub startsPhrase : Text → Bool
-startsPhrase t = hashAndDigits (t .bytes)
-
 -- ---- which line may stand where
 
 abbrev pub cannotStand : Text → Answer
@@ -123,7 +53,7 @@ module _ (line : Text) (first : Text) where
   beginning p h = go (inSentence p (record { heading = h; words = []; phrases = [] }))
 
   unfoldable pub behindOne : Preamble → List ℕ → Answer
-  behindOne p used = pick (reads (bytes "#BOS") first) (next (beginning p) (headingOf (p .tables) used line)) (cannotStand line)
+  behindOne p used = pick (reads (bytes "#BOS") first) (next (beginning p) (headingOf (p .tables) (λ n. member n used) line)) (cannotStand line)
 
   unfoldable pub atTop : Preamble → List ℕ → Answer
   unfolding behindOne
@@ -150,8 +80,8 @@ module _ (line : Text) (first : Text) where
   unfoldable pub amongNodes : Preamble → Sentence → Answer
   amongNodes p s =
       pick (reads (bytes "#EOS") first) (next (hand p) (endOf s line))
-      (pick (startsPhrase first) (next (withPhrase p s) (phraseOf (p .tables) nodeTags s line))
-      (pick (startsWord first) (next (withWord p s) (wordOf (p .tables) wordTags s line)) (cannotStand line)))
+      (pick (startsPhrase first) (next (withPhrase p s) (phraseOf (p .tables) (listed (s .phrases)) (edgesOf s) line))
+      (pick (startsWord first) (next (withWord p s) (wordOf (p .tables) (length (s .words)) (empty (s .phrases)) (edgesOf s) line)) (cannotStand line)))
 
 unfoldable pub lineAt : Phase → List ℕ → Text → Text → Answer
 lineAt start used line first = atStart line first

@@ -5,13 +5,13 @@ use mathlib.Core.Option.{Option}
 use mathlib.Core.List.{List, [], _∷_, _++_, map}
 use lib.ListN.{length, drop}
 use lib.Dec.{leb, ltb, eqb}
-use Rattle.rules.specs.Lists.{pick, empty}
+use Rattle.rules.specs.Lists.{pick}
 use Rattle.rules.specs.Texts.{Text, noText, reads, atMost}
 use Rattle.rules.specs.Columns.{columns, text, fields, comment}
 use Rattle.rules.specs.Numbers.{wordLimit, edgeLimit, phraseNumber, number, parentNumber, good, value}
 use Rattle.rules.specs.Rules.{Rule, rule, Verdict, checked}
-use Rattle.rules.specs.Tables.{Tables, morphTags, edgeTags, secEdgeTags, dashes, known, tagLimit}
-use Rattle.rules.specs.Sentences.{Edge, Node, Sentence, listed}
+use Rattle.rules.specs.Tables.{Tables, wordTags, morphTags, nodeTags, edgeTags, secEdgeTags, dashes, known, tagLimit}
+use Rattle.rules.specs.Sentences.{Edge, Node}
 
 -- the places of the fields behind the word, or behind # and its number
 abbrev pub tagField : ℕ
@@ -115,47 +115,39 @@ module _ (fs : List Text) where
       rule 19 (text fs parentField) (pick (eqb (value itsParent) 0) (reads dashes itsEdge) (ltb its-number (value itsParent)))
       ∷ map (λ (p : Pair). rule 19 (p .parent) (ltb its-number (value (secondaryParent p)))) itsPairs
 
-abbrev pub edgeCount : List Node → ℕ
-edgeCount [] = 0
-edgeCount (n ∷ ns) = length (n .secondary) + edgeCount ns
+-- 16: at most 512 secondary edges, of which so many stand in front of this line
+abbrev pub roomy : ℕ → List Text → Bool
+roomy edges fs = leb (edges + length (itsPairs fs)) edgeLimit
 
-abbrev pub edgesOf : Sentence → ℕ
-edgesOf s = edgeCount (s .words) + edgeCount (s .phrases)
-
--- 16: at most 512 secondary edges
-abbrev pub roomy : Sentence → List Text → Bool
-roomy s fs = leb (edgesOf s + length (itsPairs fs)) edgeLimit
-
--- words count from 0; a word after a phrase can't stand there
-unfoldable pub wordOf : Tables → ℕ → Sentence → Text → Verdict Node
+-- words count from 0: so many words and secondary edges stand in front of this one; a word after a phrase can't stand
+unfoldable pub wordOf : Tables → ℕ → Bool → ℕ → Text → Verdict Node
 unfolding pairs
-wordOf ts tags s line =
+wordOf ts words no-phrase edges line =
     let fs = fields (columns line) in
-    let its-number = length (s .words) in
     checked
-    (rule 6 line (empty (s .phrases))
+    (rule 6 line no-phrase
     ∷ rule 7 line (shaped fs)
     ∷ parentsWritten fs
-    ++ tagsShort fs tags
-    ++ (rule 16 line (ltb its-number wordLimit && roomy s fs) ∷ tagsKnown fs ts tags)
-    ++ parentsRise fs its-number)
-    (nodeOf fs its-number (text fs 0) (comment (columns line)))
+    ++ tagsShort fs wordTags
+    ++ (rule 16 line (ltb words wordLimit && roomy edges fs) ∷ tagsKnown fs ts wordTags)
+    ++ parentsRise fs words)
+    (nodeOf fs words (text fs 0) (comment (columns line)))
 
 -- the digits behind a phrase line's #
 abbrev pub behindHash : Text → Text
 behindHash t = record { start = suc (t .start); bytes = drop 1 (t .bytes) }
 
--- phrases are numbered from 500 and come in any order
-unfoldable pub phraseOf : Tables → ℕ → Sentence → Text → Verdict Node
+-- phrases are numbered from 500 and come in any order; given-before tells which numbers phrases in front have
+unfoldable pub phraseOf : Tables → (ℕ → Bool) → ℕ → Text → Verdict Node
 unfolding pairs
-phraseOf ts tags s line =
+phraseOf ts given-before edges line =
     let fs = fields (columns line) in
     let its-number = number phraseNumber (behindHash (text fs 0) .bytes) in
     checked
     (rule 7 line (shaped fs)
     ∷ rule 8 (text fs 0) (good its-number)
     ∷ parentsWritten fs
-    ++ tagsShort fs tags
-    ++ (rule 16 line (roomy s fs) ∷ rule 17 line (not (listed (s .phrases) (value its-number))) ∷ tagsKnown fs ts tags)
+    ++ tagsShort fs nodeTags
+    ++ (rule 16 line (roomy edges fs) ∷ rule 17 line (not (given-before (value its-number))) ∷ tagsKnown fs ts nodeTags)
     ++ parentsRise fs (value its-number))
     (nodeOf fs (value its-number) noText (comment (columns line)))

@@ -1,14 +1,14 @@
 -- Document 01, "The file from top to bottom": a sentence, its beginning and its end. Assumes nothing.
-use Prim.Native.Nat.{ℕ, suc}
+use Prim.Native.Nat.{ℕ, suc, _+_}
 use mathlib.Core.Bool.{Bool, not, _&&_, _||_}
 use mathlib.Core.List.{List, [], _∷_, _++_}
 use lib.ListN.{length, drop}
 use lib.Dec.{ltb, eqb}
-use Rattle.rules.specs.Lists.{empty, every, any, member, counting}
+use Rattle.rules.specs.Lists.{empty, every, any, counting}
 use Rattle.rules.specs.Texts.{Text}
 use Rattle.rules.specs.Columns.{columns, written, fields, comment}
 use Rattle.rules.specs.Numbers.{sentenceNumber, originId, date, phraseNumber, number, signedId, good, value}
-use Rattle.rules.specs.Rules.{rule, Verdict, checked}
+use Rattle.rules.specs.Rules.{Rule, rule, Verdict, checked}
 use Rattle.rules.specs.Tables.{Tables, origins, editors, table, present, rowsOf, hasId}
 
 pub record Edge : Type 0 where
@@ -40,7 +40,7 @@ pub record Sentence : Type 0 where
   pub words : List Node
   pub phrases : List Node
 
--- ---- #BOS number editor date origin; used are the numbers of the sentences before
+-- ---- #BOS number editor date origin; used tells which numbers sentences before have
 
 -- ids -1 and 0 may be cited without a row
 abbrev pub knownEditor : Tables → ℕ → Bool
@@ -49,7 +49,7 @@ knownEditor ts i = ltb i 2 || hasId i (rowsOf (table editors ts))
 abbrev pub knownOrigin : Tables → ℕ → Bool
 knownOrigin ts n = hasId (suc n) (rowsOf (table origins ts))
 
-unfoldable pub headingOf : Tables → List ℕ → Text → Verdict Heading
+unfoldable pub headingOf : Tables → (ℕ → Bool) → Text → Verdict Heading
 unfolding hasId
 headingOf ts used line =
     let cs = columns line in
@@ -64,7 +64,7 @@ headingOf ts used line =
     ∷ rule 8 (written cs 3) (good when)
     ∷ rule 8 (written cs 4) (good origin)
     ∷ rule 13 line (present origins ts && present editors ts)
-    ∷ rule 14 line (not (member (value its-number) used))
+    ∷ rule 14 line (not (used (value its-number)))
     ∷ rule 15 (written cs 2) (knownEditor ts (value editor))
     ∷ rule 15 (written cs 4) (knownOrigin ts (value origin))
     ∷ [])
@@ -75,6 +75,13 @@ headingOf ts used line =
       origin = value origin;
       comment = comment (drop 5 cs);
     })
+
+abbrev pub edgeCount : List Node → ℕ
+edgeCount [] = 0
+edgeCount (n ∷ ns) = length (n .secondary) + edgeCount ns
+
+abbrev pub edgesOf : Sentence → ℕ
+edgesOf s = edgeCount (s .words) + edgeCount (s .phrases)
 
 -- ---- #EOS number
 
@@ -90,15 +97,21 @@ gapless ps = every (listed ps) (counting (phraseNumber .lowest) (length ps))
 abbrev pub parented : List Node → Node → Bool
 parented ps n = (eqb (n .parent) 0 || listed ps (n .parent)) && every (λ (e : Edge). listed ps (e .parent)) (n .secondary)
 
-unfoldable pub endOf : Sentence → Text → Verdict Sentence
-endOf s line =
+-- the sentence's number again, with no gap in its phrases and no parent absent
+unfoldable pub endRules : ℕ → Bool → Bool → Text → List Rule
+endRules itself no-gap no-absent line =
     let cs = columns line in
     let its-number = number sentenceNumber (written cs 1 .bytes) in
-    checked
-    (rule 7 line (eqb (length cs) 2)
+    rule 7 line (eqb (length cs) 2)
     ∷ rule 8 (written cs 1) (good its-number)
-    ∷ rule 20 line (eqb (value its-number) (s .heading .number))
-    ∷ rule 21 line (gapless (s .phrases))
-    ∷ rule 22 line (every (parented (s .phrases)) (s .words ++ s .phrases))
-    ∷ [])
+    ∷ rule 20 line (eqb (value its-number) itself)
+    ∷ rule 21 line no-gap
+    ∷ rule 22 line no-absent
+    ∷ []
+
+unfoldable pub endOf : Sentence → Text → Verdict Sentence
+unfolding endRules
+endOf s line =
+    checked
+    (endRules (s .heading .number) (gapless (s .phrases)) (every (parented (s .phrases)) (s .words ++ s .phrases)) line)
     s

@@ -8,8 +8,7 @@ use Rattle.rules.specs.Lists.{pick, member, counting, joined}
 use Rattle.rules.specs.Texts.{Text}
 use Rattle.rules.specs.Numbers.{rowLimit, edgeLimit}
 use Rattle.rules.specs.Tables.{Tables, Row, rowsOf}
-use Rattle.rules.specs.Sentences.{Edge, Node, Sentence}
-use Rattle.rules.specs.Nodes.{edgesOf}
+use Rattle.rules.specs.Sentences.{Edge, Node, Sentence, edgesOf}
 
 -- unused room is zero
 abbrev pub filledUp {ℓ} : {A : Type ℓ} → ℕ → A → List A → List A
