@@ -5,7 +5,7 @@ use mathlib.Core.Bool.{Bool}
 use mathlib.Core.List.{List, [], _∷_, _++_}
 use lib.ListN.{take, drop}
 use lib.Dec.{T}
-use Rattle.rules.specs.Lists.{bytes, every, same}
+use Rattle.rules.specs.Lists.{bytes, every, same, inserted, sorted}
 use Rattle.rules.specs.Bytes.{ignored}
 use Rattle.rules.specs.Texts.{rightTrim, trimFrom, frontBytes, behindFrom}
 use Rattle.rules.specs.Columns.{columnsFrom, fields, comment}
@@ -18,6 +18,9 @@ use Rattle.rules.specs.Nodes.{pairs, paired, parentsWritten, tagsShort, 
 use Rattle.rules.specs.Keywords.{formatOf, tableOpened, tableEnded, firstColumn}
 use Rattle.rules.specs.Lines.{atStart, behindOne, atTop, amongRows, amongNodes, lineAt, taken, step}
 use Rattle.rules.specs.Survey.{Told, told, surveyOf}
+use Rattle.rules.specs.Meaning.{meaningOf}
+use Rattle.rules.specs.Tidy.{digitsWithin, digitsOf, parted, tidyText}
+use Rattle.rules.specs.Writing.{tidyOf}
 
 abbrev pub fileA : List ℕ
 fileA =
@@ -60,3 +63,12 @@ holds c = same (fourNumbers (told (surveyOf (c .file)))) (c .tells)
 pub starred : T (every holds starredCases)
 unfolding ignored rightTrim trimFrom frontBytes behindFrom columnsFrom fields comment valueFrom decimal broken checked hasId hasTag known originRow editorRow tagRow headingOf endRules endOf pairs paired parentsWritten tagsShort tagsKnown parentsRise wordOf phraseOf formatOf tableOpened tableEnded firstColumn atStart behindOne atTop amongRows amongNodes lineAt taken step surveyOf
 starred = tt
+
+-- the tidy text of A is A with tabs in lines 3, 6, 9 and 10
+abbrev pub tidyA : List ℕ
+tidyA =
+    bytes "#FORMAT 3\n#BOT ORIGIN\n1\tlab\n#EOT ORIGIN\n#BOT EDITOR\n2\tkim\tKim\n#EOT EDITOR\n#BOS 7 2 0 1\nJa\tITJ\t--\t--\t500\n#500\tS\t--\t--\t0\n#EOS 7\n"
+
+pub tidy-of-A : T (same (tidyOf fileA) tidyA)
+unfolding ignored rightTrim trimFrom frontBytes behindFrom columnsFrom fields comment valueFrom decimal broken checked hasId hasTag known originRow editorRow tagRow headingOf endRules endOf pairs paired parentsWritten tagsShort tagsKnown parentsRise wordOf phraseOf formatOf tableOpened tableEnded firstColumn atStart behindOne atTop amongRows amongNodes lineAt taken step surveyOf inserted sorted meaningOf digitsWithin digitsOf parted tidyText tidyOf
+tidy-of-A = tt
