@@ -1,5 +1,7 @@
 pub mod CheckedByHand
+pub mod Conjunctions
 pub mod Counting
 pub mod Classes
+pub mod RuleLaws
 pub mod Cut
 pub mod CutRule

@@ -1,9 +1,10 @@
--- Document 01, "The numbers of refusal": the first faulty line decides, and within it the smallest number. A line's
--- rules stand in rising order of their numbers, so the first that doesn't hold has the smallest. Assumes nothing.
+-- Document 01, "The numbers of refusal": the first faulty line decides, and within it the smallest number. Assumes
+-- nothing.
 use Prim.Native.Nat.{ℕ}
 use mathlib.Core.Bool.{Bool}
 use mathlib.Core.Option.{Option, none, some}
 use mathlib.Core.List.{List, [], _∷_}
+use lib.Dec.{leb}
 use Rattle.rules.specs.Lists.{pick}
 use Rattle.rules.specs.Texts.{Text}
 
@@ -29,10 +30,15 @@ pub data Verdict (A : Type 0) : Type 0 where
   refused : Rule → Verdict A
   granted : A → Verdict A
 
--- the first rule that doesn't hold
+-- of two rules the one with the smaller number, the first if these are equal
+abbrev pub sooner : Rule → Option Rule → Rule
+sooner r none = r
+sooner r (some q) = pick (leb (r .number) (q .number)) r q
+
+-- of the rules that don't hold the one with the smallest number, the leftmost of these
 unfoldable pub broken : List Rule → Option Rule
 broken [] = none
-broken (r ∷ rs) = let later = broken rs in pick (r .holds) later (some r)
+broken (r ∷ rs) = let others = broken rs in pick (r .holds) others (some (sooner r others))
 
 abbrev pub unless : {A : Type 0} → Option Rule → A → Verdict A
 unless none a = granted a
