@@ -94,6 +94,13 @@ impl Lent {
         self.seen[number / 8] >> (number % 8) & 1 == 1
     }
 
+    pub fn count_seen(&self) -> usize {
+        self.seen
+            .iter()
+            .map(|byte| byte.count_ones() as usize)
+            .sum()
+    }
+
     pub fn numbers_seen(&self) -> Vec<u32> {
         (0..65_536)
             .filter(|&number| self.has_seen(number as usize))

@@ -166,41 +166,42 @@ fn unended_rest() {
     }
 }
 
+const FORMAT_LINES: &[(&str, u32)] = &[
+    ("#FORMAT 3", 0),
+    ("#FORMAT\t 3 \t", 0),
+    ("#FORMAT", 7),
+    ("#FORMAT ", 7),
+    ("#FORMAT 3 3", 7),
+    ("#FORMAT 3 %%", 7),
+    ("#FORMAT 4 %%", 7),
+    ("#FORMAT x y", 7),
+    ("#FORMAT %%", 8),
+    ("#FORMAT 65536", 8),
+    ("#FORMAT 03", 8),
+    ("#FORMAT -1", 8),
+    ("#FORMAT +3", 8),
+    ("#FORMAT x", 8),
+    ("#FORMAT 3%%", 8),
+    ("#FORMAT 99999999999999999999", 8),
+    ("#FORMAT 0", 9),
+    ("#FORMAT 4", 9),
+    ("#FORMAT 65535", 9),
+    ("#FORMAT3", 6),
+    ("#format 3", 6),
+    (" #FORMAT 3", 6),
+    ("#BOT ORIGIN", 6),
+    ("#BOS 7 2 0 1", 6),
+    ("Ja", 6),
+    ("#", 6),
+    ("#500", 6),
+    ("1", 6),
+];
+
 #[test]
 fn format_line() {
-    let cases = [
-        ("#FORMAT 3", 0),
-        ("#FORMAT\t 3 \t", 0),
-        ("#FORMAT", 7),
-        ("#FORMAT ", 7),
-        ("#FORMAT 3 3", 7),
-        ("#FORMAT 3 %%", 7),
-        ("#FORMAT 4 %%", 7),
-        ("#FORMAT x y", 7),
-        ("#FORMAT %%", 8),
-        ("#FORMAT 65536", 8),
-        ("#FORMAT 03", 8),
-        ("#FORMAT -1", 8),
-        ("#FORMAT +3", 8),
-        ("#FORMAT x", 8),
-        ("#FORMAT 3%%", 8),
-        ("#FORMAT 99999999999999999999", 8),
-        ("#FORMAT 0", 9),
-        ("#FORMAT 4", 9),
-        ("#FORMAT 65535", 9),
-        ("#FORMAT3", 6),
-        ("#format 3", 6),
-        (" #FORMAT 3", 6),
-        ("#BOT ORIGIN", 6),
-        ("#BOS 7 2 0 1", 6),
-        ("Ja", 6),
-        ("#", 6),
-        ("#500", 6),
-        ("1", 6),
-    ];
     let rest = TABLES.strip_prefix("#FORMAT 3\n").unwrap();
-    judge_all("", rest, &cases);
-    judge_all("\n%% x\n \t\n", rest, &cases);
+    judge_all("", rest, FORMAT_LINES);
+    judge_all("\n%% x\n \t\n", rest, FORMAT_LINES);
 }
 
 #[test]
@@ -249,39 +250,40 @@ fn file_ends() {
     }
 }
 
+const LINES_OUTSIDE: &[(&str, u32)] = &[
+    ("#BOT WORDTAG", 0),
+    ("#BOT  WORDTAG\t", 0),
+    ("#BOT", 7),
+    ("#BOT ", 7),
+    ("#BOT WORDTAG x", 7),
+    ("#BOT WORDTAG %%", 7),
+    ("#BOT %%", 6),
+    ("#BOT wordtag", 6),
+    ("#BOT ORIGIN", 6),
+    ("#BOT EDITOR x", 6),
+    ("#BOT TAG x", 6),
+    ("#BOTWORDTAG", 6),
+    ("#Bot WORDTAG", 6),
+    ("#EOT WORDTAG", 6),
+    ("#EOT", 6),
+    ("#EOS 7", 6),
+    ("#EOS", 6),
+    ("#FORMAT 3", 6),
+    ("#FORMAT", 6),
+    ("#500 S -- -- 0", 6),
+    ("#499", 6),
+    ("#x", 6),
+    ("#", 6),
+    ("# ITJ -- -- 0", 6),
+    ("Ja ITJ -- -- 0", 6),
+    ("1 lab", 6),
+    ("%x", 6),
+    (" #BOT WORDTAG", 6),
+];
+
 #[test]
 fn lines_outside() {
-    let cases = [
-        ("#BOT WORDTAG", 0),
-        ("#BOT  WORDTAG\t", 0),
-        ("#BOT", 7),
-        ("#BOT ", 7),
-        ("#BOT WORDTAG x", 7),
-        ("#BOT WORDTAG %%", 7),
-        ("#BOT %%", 6),
-        ("#BOT wordtag", 6),
-        ("#BOT ORIGIN", 6),
-        ("#BOT EDITOR x", 6),
-        ("#BOT TAG x", 6),
-        ("#BOTWORDTAG", 6),
-        ("#Bot WORDTAG", 6),
-        ("#EOT WORDTAG", 6),
-        ("#EOT", 6),
-        ("#EOS 7", 6),
-        ("#EOS", 6),
-        ("#FORMAT 3", 6),
-        ("#FORMAT", 6),
-        ("#500 S -- -- 0", 6),
-        ("#499", 6),
-        ("#x", 6),
-        ("#", 6),
-        ("# ITJ -- -- 0", 6),
-        ("Ja ITJ -- -- 0", 6),
-        ("1 lab", 6),
-        ("%x", 6),
-        (" #BOT WORDTAG", 6),
-    ];
-    judge_all(TABLES, "#EOT WORDTAG\n", &cases);
+    judge_all(TABLES, "#EOT WORDTAG\n", LINES_OUTSIDE);
 }
 
 #[test]
@@ -335,46 +337,52 @@ fn table_ends() {
     assert_eq!(lent.table_sheet[1], 1);
 }
 
+const ORIGIN_ROWS: &[(&str, u32)] = &[
+    ("2 x", 0),
+    ("65535\tx  y\t", 0),
+    ("2 lab%%", 0),
+    ("2 lab%%%c", 0),
+    ("2 lab %% %%", 0),
+    ("2 % %", 0),
+    ("2", 7),
+    ("x", 7),
+    ("2%%", 7),
+    ("2 %% lab", 7),
+    ("1 %% lab", 7),
+    ("2 %%", 7),
+    ("x %%", 7),
+    ("1%% lab", 8),
+    ("2%% lab", 8),
+    ("x lab", 8),
+    ("0 lab", 8),
+    ("-1 lab", 8),
+    ("65536 lab", 8),
+    ("01 lab", 8),
+    ("+2 lab", 8),
+    ("-2 lab", 8),
+    ("-0 lab", 8),
+    ("1 lab", 11),
+    ("1 other %% x", 11),
+];
+
 #[test]
 fn origin_rows() {
+    let before = "#FORMAT 3\n#BOT EDITOR\n#EOT EDITOR\n#BOT ORIGIN\n1 lab\n";
+    let after = "#EOT ORIGIN\n";
+    judge_all(before, after, ORIGIN_ROWS);
     let (name, comment) = (long(128), long(160));
     let rows = [
-        ("2 x".to_string(), 0),
-        ("65535\tx  y\t".to_string(), 0),
-        ("2 lab%%".to_string(), 0),
-        ("2 lab%%%c".to_string(), 0),
-        ("2 lab %% %%".to_string(), 0),
-        ("2 % %".to_string(), 0),
         (format!("2 {name}"), 0),
         (format!("2  \t{name} %% {comment} \t"), 0),
         (format!("2 {name}%%{comment}"), 0),
-        ("2".to_string(), 7),
-        ("x".to_string(), 7),
-        ("2%%".to_string(), 7),
-        ("2 %% lab".to_string(), 7),
-        ("2 %%".to_string(), 7),
         (format!("2 %% {comment}x"), 7),
-        ("x %%".to_string(), 7),
-        ("1%% lab".to_string(), 8),
-        ("2%% lab".to_string(), 8),
-        ("x lab".to_string(), 8),
-        ("0 lab".to_string(), 8),
-        ("-1 lab".to_string(), 8),
-        ("65536 lab".to_string(), 8),
-        ("01 lab".to_string(), 8),
-        ("+2 lab".to_string(), 8),
-        ("-2 lab".to_string(), 8),
-        ("-0 lab".to_string(), 8),
         (format!("x {name}x"), 8),
         (format!("2 {name}x"), 10),
         (format!("1 {name}x"), 10),
         (format!("2 {name} %% {comment}x"), 10),
-        ("1 lab".to_string(), 11),
-        ("1 other %% x".to_string(), 11),
     ];
-    let before = "#FORMAT 3\n#BOT EDITOR\n#EOT EDITOR\n#BOT ORIGIN\n1 lab\n";
     for (row, refusal) in rows {
-        judge(before, &row, "#EOT ORIGIN\n", refusal);
+        judge(before, &row, after, refusal);
     }
 }
 
@@ -571,47 +579,54 @@ fn an_empty_table_is_present() {
     assert_eq!(lent.table_sheet[..7], [2, 2, 1, 0, 0, 0, 0]);
 }
 
+const SENTENCE_BEGINNINGS: &[(&str, u32)] = &[
+    ("#BOS 7 2 0 1", 0),
+    ("#BOS\t7  2 0\t1 \t", 0),
+    ("#BOS 7 2 0 1 %%", 0),
+    ("#BOS 7 2 0 1 %% x %% y", 0),
+    ("#BOS 7 -1 4294967295 1", 0),
+    ("#BOS 7 0 0 1", 0),
+    ("#BOS", 7),
+    ("#BOS 7 2 0", 7),
+    ("#BOS x 2 0", 7),
+    ("#BOS 7 2 %%", 7),
+    ("#BOS 7 2 0 1 x", 7),
+    ("#BOS 7 2 0 1 %%x", 7),
+    ("#BOS 7 2 0 1 x %% y", 7),
+    ("#BOS 7 %% 2 0 1", 7),
+    ("#BOS 7 2 0 %%", 8),
+    ("#BOS 7 2 0 %% 1", 7),
+    ("#BOS 7 2 0 1%%x", 8),
+    ("#BOS 7 2 0 1%%", 8),
+    ("#BOS 0 2 0 1", 8),
+    ("#BOS 65536 2 0 1", 8),
+    ("#BOS -1 2 0 1", 8),
+    ("#BOS 07 2 0 1", 8),
+    ("#BOS 7 -2 0 1", 8),
+    ("#BOS 7 65536 0 1", 8),
+    ("#BOS 7 2 -1 1", 8),
+    ("#BOS 7 2 4294967296 1", 8),
+    ("#BOS 7 2 99999999999999999999999 1", 8),
+    ("#BOS 7 2 0 0", 8),
+    ("#BOS 7 2 0 65536", 8),
+    ("#BOS 7 3 x 1", 8),
+    ("#BOS 7 3 0 1", 15),
+    ("#BOS 7 1 0 1", 15),
+    ("#BOS 7 2 0 2", 15),
+    ("#BOS7 2 0 1", 6),
+    ("#bos 7 2 0 1", 6),
+];
+
 #[test]
 fn sentence_beginnings() {
-    let cases = [
-        ("#BOS 7 2 0 1", 0),
-        ("#BOS\t7  2 0\t1 \t", 0),
-        ("#BOS 7 2 0 1 %%", 0),
-        ("#BOS 7 2 0 1 %% x %% y", 0),
-        ("#BOS 7 -1 4294967295 1", 0),
-        ("#BOS 7 0 0 1", 0),
-        ("#BOS", 7),
-        ("#BOS 7 2 0", 7),
-        ("#BOS x 2 0", 7),
-        ("#BOS 7 2 %%", 7),
-        ("#BOS 7 2 0 1 x", 7),
-        ("#BOS 7 2 0 1 %%x", 7),
-        ("#BOS 7 2 0 1 x %% y", 7),
-        ("#BOS 7 %% 2 0 1", 7),
-        ("#BOS 7 2 0 %%", 8),
-        ("#BOS 7 2 0 %% 1", 7),
-        ("#BOS 7 2 0 1%%x", 8),
-        ("#BOS 7 2 0 1%%", 8),
-        ("#BOS 0 2 0 1", 8),
-        ("#BOS 65536 2 0 1", 8),
-        ("#BOS -1 2 0 1", 8),
-        ("#BOS 07 2 0 1", 8),
-        ("#BOS 7 -2 0 1", 8),
-        ("#BOS 7 65536 0 1", 8),
-        ("#BOS 7 2 -1 1", 8),
-        ("#BOS 7 2 4294967296 1", 8),
-        ("#BOS 7 2 99999999999999999999999 1", 8),
-        ("#BOS 7 2 0 0", 8),
-        ("#BOS 7 2 0 65536", 8),
-        ("#BOS 7 3 x 1", 8),
-        ("#BOS 7 3 0 1", 15),
-        ("#BOS 7 1 0 1", 15),
-        ("#BOS 7 2 0 2", 15),
-        ("#BOS7 2 0 1", 6),
-        ("#bos 7 2 0 1", 6),
-    ];
-    judge_all(TABLES, EOS, &cases);
+    judge_all(TABLES, EOS, SENTENCE_BEGINNINGS);
     let missing = "#FORMAT 3\n#BOT ORIGIN\n1 lab\n#EOT ORIGIN\n";
+    let no_origins = "#FORMAT 3\n#BOT ORIGIN\n#EOT ORIGIN\n#BOT EDITOR\n#EOT EDITOR\n";
+    judge_all(
+        no_origins,
+        EOS,
+        &[("#BOS 7 0 0 1", 15), ("#BOS 7 -1 0 1", 15)],
+    );
     let cases = [
         ("#BOS 7 2 0 1", 13),
         ("#BOS 7 2 0 x", 8),
@@ -622,35 +637,36 @@ fn sentence_beginnings() {
     judge_all("#FORMAT 3\n", EOS, &cases);
 }
 
+const SENTENCE_ENDS: &[(&str, u32)] = &[
+    ("#EOS 7", 0),
+    ("#EOS\t 7\t", 0),
+    ("#EOS", 7),
+    ("#EOS 7 7", 7),
+    ("#EOS 7 %%", 7),
+    ("#EOS 8 %%", 7),
+    ("#EOS 0", 8),
+    ("#EOS 65536", 8),
+    ("#EOS -1", 8),
+    ("#EOS x", 8),
+    ("#EOS 07", 8),
+    ("#EOS %%", 8),
+    ("#EOS 8", 20),
+    ("#EOS 65535", 20),
+    ("#EOS7", 6),
+    ("#eos 7", 6),
+    ("#EOT", 6),
+    ("#EOT ORIGIN", 6),
+    ("#BOT", 6),
+    ("#BOT WORDTAG", 6),
+    ("#BOS", 6),
+    ("#BOS 8 2 0 1", 6),
+    ("#FORMAT 3", 6),
+];
+
 #[test]
 fn sentence_ends() {
     let before = [TABLES, BOS].concat();
-    let cases = [
-        ("#EOS 7", 0),
-        ("#EOS\t 7\t", 0),
-        ("#EOS", 7),
-        ("#EOS 7 7", 7),
-        ("#EOS 7 %%", 7),
-        ("#EOS 8 %%", 7),
-        ("#EOS 0", 8),
-        ("#EOS 65536", 8),
-        ("#EOS -1", 8),
-        ("#EOS x", 8),
-        ("#EOS 07", 8),
-        ("#EOS %%", 8),
-        ("#EOS 8", 20),
-        ("#EOS 65535", 20),
-        ("#EOS7", 6),
-        ("#eos 7", 6),
-        ("#EOT", 6),
-        ("#EOT ORIGIN", 6),
-        ("#BOT", 6),
-        ("#BOT WORDTAG", 6),
-        ("#BOS", 6),
-        ("#BOS 8 2 0 1", 6),
-        ("#FORMAT 3", 6),
-    ];
-    judge_all(&before, "", &cases);
+    judge_all(&before, "", SENTENCE_ENDS);
     let gap = [before.as_str(), "Ja ITJ -- -- 500\n#501 S -- -- 0\n"].concat();
     judge_all(
         &gap,
@@ -666,123 +682,125 @@ fn sentence_ends() {
     judge(&other_gap, "#501 S -- -- 502", EOS, 0);
 }
 
+const WORD_LINES: &[(&str, u32)] = &[
+    ("Ja ITJ -- -- 500", 0),
+    ("Ja\tITJ\t\t--  SB\t500\t", 0),
+    ("Ja ITJ -- -- 0", 0),
+    ("# ITJ -- -- 500", 0),
+    ("# 500 S -- 0", 0),
+    ("# 500 S -- -- 0", 7),
+    ("# 500 S -- SB", 8),
+    ("500 ITJ -- -- 0", 0),
+    ("BOS ITJ -- -- 0", 0),
+    ("-1 -1 -1 -- 0", 0),
+    ("%x ITJ -- -- 0", 0),
+    ("x# ITJ -- -- 0", 0),
+    ("Ja %%x %%x %%x 500 %%x 500", 0),
+    ("Ja ITJ -- -- 0 %% 500", 0),
+    ("Ja ITJ -- -- 0 %%", 0),
+    ("Ja ITJ -- -- 0 SB 500 SB 500 HD 500", 0),
+    ("Ja ITJ -- SB 500 SB 500 %% SB", 0),
+    ("Ja ITJ -- -- 0 SB %% 500", 7),
+    ("Ja %% -- -- 0", 7),
+    ("Ja ITJ -- %% 0", 7),
+    ("Ja ITJ -- -- %%", 7),
+    ("Ja ITJ -- --", 7),
+    ("Ja", 7),
+    ("#", 7),
+    ("Ja ITJ -- -- 0 SB", 7),
+    ("Ja ITJ -- -- x SB", 7),
+    ("Ja ITJ -- -- 0 %%x", 7),
+    ("Ja ITJ -- -- 0 SB 500 SB", 7),
+    ("Ja ITJ -- -- x", 8),
+    ("Ja ITJ -- -- 1", 8),
+    ("Ja ITJ -- -- 499", 8),
+    ("Ja ITJ -- -- 1000", 8),
+    ("Ja ITJ -- -- -1", 8),
+    ("Ja ITJ -- -- 0500", 8),
+    ("Ja ITJ -- -- 00", 8),
+    ("Ja ITJ -- -- 500%%", 8),
+    ("Ja ITJ -- SB 500 HD 0", 8),
+    ("Ja ITJ -- SB 500 HD 499", 8),
+    ("Ja ITJ -- SB 500 HD 1000", 8),
+    ("Ja ITJ -- SB 0 HD x", 8),
+    ("Ja ITJ12345678 -- -- 0", 10),
+    ("Ja ITJ1234567 -- -- 0", 0),
+    ("Ja ITJ -- SB345678901 500", 10),
+    ("Ja ITJ -- SB345678901 0", 10),
+    ("Ja ITJ -- SB34567890 500", 0),
+    ("Ja ITJ -- -- 0 SB345678901 500", 10),
+    ("Ja ITJ -- -- 0 SB34567890 500", 0),
+    ("Ja ITJ12345678 -- -- x", 8),
+    ("Ja ITJ 12345678901234567890123456789012 -- 0", 0),
+    ("Ja ITJ 123456789012345678901234567890123 -- 0", 10),
+    ("Ja ITJ -- SB 0", 19),
+    ("Ja ITJ -- UNKNOWN 0", 19),
+    ("Ja ITJ -- UNKNOWN 500", 0),
+    ("#x", 6),
+    ("#-1", 6),
+    ("#500x S -- -- 0", 6),
+    ("## S -- -- 0", 6),
+    ("#%% S -- -- 0", 6),
+    (" Ja ITJ -- -- 0", 6),
+    ("\tJa", 6),
+];
+
 #[test]
 fn word_lines() {
     let before = [TABLES, BOS].concat();
     let after = ["#500 S -- -- 0\n", EOS].concat();
-    let cases = [
-        ("Ja ITJ -- -- 500", 0),
-        ("Ja\tITJ\t\t--  SB\t500\t", 0),
-        ("Ja ITJ -- -- 0", 0),
-        ("# ITJ -- -- 500", 0),
-        ("# 500 S -- 0", 0),
-        ("# 500 S -- -- 0", 7),
-        ("# 500 S -- SB", 8),
-        ("500 ITJ -- -- 0", 0),
-        ("BOS ITJ -- -- 0", 0),
-        ("-1 -1 -1 -- 0", 0),
-        ("%x ITJ -- -- 0", 0),
-        ("x# ITJ -- -- 0", 0),
-        ("Ja %%x %%x %%x 500 %%x 500", 0),
-        ("Ja ITJ -- -- 0 %% 500", 0),
-        ("Ja ITJ -- -- 0 %%", 0),
-        ("Ja ITJ -- -- 0 SB 500 SB 500 HD 500", 0),
-        ("Ja ITJ -- SB 500 SB 500 %% SB", 0),
-        ("Ja ITJ -- -- 0 SB %% 500", 7),
-        ("Ja %% -- -- 0", 7),
-        ("Ja ITJ -- %% 0", 7),
-        ("Ja ITJ -- -- %%", 7),
-        ("Ja ITJ -- --", 7),
-        ("Ja", 7),
-        ("#", 7),
-        ("Ja ITJ -- -- 0 SB", 7),
-        ("Ja ITJ -- -- x SB", 7),
-        ("Ja ITJ -- -- 0 %%x", 7),
-        ("Ja ITJ -- -- 0 SB 500 SB", 7),
-        ("Ja ITJ -- -- x", 8),
-        ("Ja ITJ -- -- 1", 8),
-        ("Ja ITJ -- -- 499", 8),
-        ("Ja ITJ -- -- 1000", 8),
-        ("Ja ITJ -- -- -1", 8),
-        ("Ja ITJ -- -- 0500", 8),
-        ("Ja ITJ -- -- 00", 8),
-        ("Ja ITJ -- -- 500%%", 8),
-        ("Ja ITJ -- SB 500 HD 0", 8),
-        ("Ja ITJ -- SB 500 HD 499", 8),
-        ("Ja ITJ -- SB 500 HD 1000", 8),
-        ("Ja ITJ -- SB 0 HD x", 8),
-        ("Ja ITJ12345678 -- -- 0", 10),
-        ("Ja ITJ1234567 -- -- 0", 0),
-        ("Ja ITJ -- SB345678901 500", 10),
-        ("Ja ITJ -- SB345678901 0", 10),
-        ("Ja ITJ -- SB34567890 500", 0),
-        ("Ja ITJ -- -- 0 SB345678901 500", 10),
-        ("Ja ITJ -- -- 0 SB34567890 500", 0),
-        ("Ja ITJ12345678 -- -- x", 8),
-        ("Ja ITJ 12345678901234567890123456789012 -- 0", 0),
-        ("Ja ITJ 123456789012345678901234567890123 -- 0", 10),
-        ("Ja ITJ -- SB 0", 19),
-        ("Ja ITJ -- UNKNOWN 0", 19),
-        ("Ja ITJ -- UNKNOWN 500", 0),
-        ("#x", 6),
-        ("#-1", 6),
-        ("#500x S -- -- 0", 6),
-        ("## S -- -- 0", 6),
-        ("#%% S -- -- 0", 6),
-        (" Ja ITJ -- -- 0", 6),
-        ("\tJa", 6),
-    ];
-    judge_all(&before, &after, &cases);
+    judge_all(&before, &after, WORD_LINES);
     let absent = [before.as_str(), "Ja ITJ -- -- 501\n#500 S -- -- 0\n"].concat();
     judge(&absent, "#EOS 7", "", 22);
 }
+
+const PHRASE_LINES: &[(&str, u32)] = &[
+    ("#501 S -- -- 0", 0),
+    ("#501\tS -- SB 502 SB 502 SB 503\t%% x", 0),
+    ("#501", 7),
+    ("#499", 7),
+    ("#0500", 7),
+    ("#501 %% S -- -- 0", 7),
+    ("#501 S -- -- 0 SB", 7),
+    ("#500 S -- -- 0 SB", 7),
+    ("#499 S -- -- 0", 8),
+    ("#0 S -- -- 0", 8),
+    ("#0501 S -- -- 0", 8),
+    ("#1000 S -- -- 0", 8),
+    ("#5000000000000 S -- -- 0", 8),
+    ("#50000000000000000000000000000000000000000 S -- -- 0", 8),
+    ("#501 S -- -- 1", 8),
+    ("#501 S -- SB 502 SB 0", 8),
+    ("#500 S -- SB x", 8),
+    ("#501 S1234567890 -- -- 0", 10),
+    ("#500 S1234567890 -- -- 0", 10),
+    ("#500 S -- -- 0", 17),
+    ("#500 S -- SB 0", 17),
+    ("#501 S -- -- 501", 19),
+    ("#501 S -- -- 500", 19),
+    ("#501 S -- SB 0", 19),
+    ("#501 S -- -- 0 SB 501", 19),
+    ("#501 S -- -- 0 SB 502 SB 500", 19),
+    ("Ja ITJ -- -- 500", 6),
+    ("Ja", 6),
+    ("#", 6),
+    ("# ITJ -- -- 500", 6),
+    ("#501x S -- -- 0", 6),
+    ("#-1", 6),
+    ("#x", 6),
+];
 
 #[test]
 fn phrase_lines() {
     let before = [TABLES, BOS, "Ja ITJ -- -- 500\n#500 NP -- SB 503\n"].concat();
     let after = ["#503 S -- -- 0\n#502 S -- -- 0\n", EOS].concat();
-    let cases = [
-        ("#501 S -- -- 0", 0),
-        ("#501\tS -- SB 502 SB 502 SB 503\t%% x", 0),
-        ("#501", 7),
-        ("#499", 7),
-        ("#0500", 7),
-        ("#501 %% S -- -- 0", 7),
-        ("#501 S -- -- 0 SB", 7),
-        ("#500 S -- -- 0 SB", 7),
-        ("#499 S -- -- 0", 8),
-        ("#0 S -- -- 0", 8),
-        ("#0501 S -- -- 0", 8),
-        ("#1000 S -- -- 0", 8),
-        ("#5000000000000 S -- -- 0", 8),
-        ("#50000000000000000000000000000000000000000 S -- -- 0", 8),
-        ("#501 S -- -- 1", 8),
-        ("#501 S -- SB 502 SB 0", 8),
-        ("#500 S -- SB x", 8),
-        ("#501 S1234567890 -- -- 0", 10),
-        ("#500 S1234567890 -- -- 0", 10),
-        ("#500 S -- -- 0", 17),
-        ("#500 S -- SB 0", 17),
-        ("#501 S -- -- 501", 19),
-        ("#501 S -- -- 500", 19),
-        ("#501 S -- SB 0", 19),
-        ("#501 S -- -- 0 SB 501", 19),
-        ("#501 S -- -- 0 SB 502 SB 500", 19),
-        ("Ja ITJ -- -- 500", 6),
-        ("Ja", 6),
-        ("#", 6),
-        ("# ITJ -- -- 500", 6),
-        ("#501x S -- -- 0", 6),
-        ("#-1", 6),
-        ("#x", 6),
-    ];
-    judge_all(&before, &after, &cases);
+    judge_all(&before, &after, PHRASE_LINES);
 }
 
-#[test]
-fn tags_in_their_tables() {
+/// A file with a tag in each table, up to the first word.
+fn one_tag_in_each_table() -> String {
     let table = |name: &str, rows: &str| format!("#BOT {name}\n{rows}#EOT {name}\n");
-    let before = [
+    [
         TABLES,
         &table("SECEDGETAG", "1 SE d\n"),
         &table("WORDTAG", "1 W Y d\n"),
@@ -791,7 +809,11 @@ fn tags_in_their_tables() {
         &table("EDGETAG", "1 E d\n"),
         BOS,
     ]
-    .concat();
+    .concat()
+}
+
+#[test]
+fn tags_of_words_in_their_tables() {
     let after = ["#500 N M -- 0\n", EOS].concat();
     let cases = [
         ("Ja W M E 500 SE 500", 0),
@@ -807,7 +829,11 @@ fn tags_in_their_tables() {
         ("Ja W M x1234567890 0", 10),
         ("Ja N M E x", 8),
     ];
-    judge_all(&before, &after, &cases);
+    judge_all(&one_tag_in_each_table(), &after, &cases);
+}
+
+#[test]
+fn tags_of_phrases_in_their_tables() {
     let after = ["#501 N M -- 0\n", EOS].concat();
     let cases = [
         ("#500 N M E 501", 0),
@@ -818,7 +844,7 @@ fn tags_in_their_tables() {
         ("#500 N M x 500", 18),
         ("#500 N M E 500", 19),
     ];
-    judge_all(&before, &after, &cases);
+    judge_all(&one_tag_in_each_table(), &after, &cases);
 }
 
 #[test]
