@@ -164,3 +164,67 @@ fn tidy_text_longer_than_its_file() {
     let mut out = vec![0; file.len() + 1];
     assert_eq!(Lent::with_old_contents().write(&file, &mut out).refusal, 25);
 }
+
+/// A tidy file as long as a file may be: its tables, then lines as long as lines may be.
+fn longest_tidy_file(tables: &[u8]) -> Vec<u8> {
+    let mut file = Vec::with_capacity(FILE_LIMIT);
+    file.extend(tables);
+    let ending = b"\tx\tx\t--\t0\n";
+    let mut number = 0;
+    while file.len() < FILE_LIMIT {
+        number += 1;
+        file.extend(format!("#BOS {number} 0 0 1\n").as_bytes());
+        let end = format!("#EOS {number}\n").into_bytes();
+        for _ in 0..500 {
+            let room = FILE_LIMIT - file.len() - end.len();
+            // What is left at last must hold another sentence or nothing.
+            let length = if room < 4_097 {
+                room
+            } else {
+                4_097.min(room - 100)
+            };
+            if length < 20 {
+                break;
+            }
+            file.extend(std::iter::repeat_n(b'w', length - ending.len()));
+            file.extend(ending);
+        }
+        file.extend(end);
+    }
+    file
+}
+
+#[test]
+fn tidy_text_longer_than_a_file_may_be() {
+    let tidy = b"#FORMAT 3\n#BOT ORIGIN\n1\tlab\t%%\tc\n#EOT ORIGIN\n#BOT EDITOR\n#EOT EDITOR\n";
+    let glued = b"#FORMAT 3\n#BOT ORIGIN\n1\tlab%%cc\n#EOT ORIGIN\n#BOT EDITOR\n#EOT EDITOR\n\n";
+    assert_eq!(tidy.len(), glued.len());
+    let mut file = longest_tidy_file(tidy);
+    assert_eq!(file.len(), FILE_LIMIT);
+    let mut lent = Lent::with_old_contents();
+    let mut out = vec![3; FILE_LIMIT + 10];
+    let granted = lent.write(&file, &mut out);
+    let whole = FILE_LIMIT as u32;
+    assert_eq!(
+        granted,
+        Written {
+            refusal: 0,
+            place: whole,
+            length: whole
+        }
+    );
+    assert!(out[..FILE_LIMIT] == file && out[FILE_LIMIT..] == [3; 10]);
+    // Two tabs come and one ignored newline goes: one byte too many.
+    file[..glued.len()].copy_from_slice(glued);
+    out.fill(3);
+    let refused = lent.write(&file, &mut out);
+    assert_eq!(
+        refused,
+        Written {
+            refusal: 25,
+            place: whole,
+            length: 0
+        }
+    );
+    assert!(out.iter().all(|&byte| byte == 3) && lent.sentence_is_zero());
+}
