@@ -1,0 +1,94 @@
+//! Files made by dice: accepted ones that use every freedom of the rules, damaged
+//! ones that meet every refusal, small ones to be cut at every byte, and a corpus.
+//!
+//! The same seed always gives the same file.
+
+mod aimed;
+mod blind;
+mod corpus;
+mod dice;
+mod draft;
+mod draft_sentences;
+mod draft_tables;
+mod line_damage;
+mod texts;
+
+pub use corpus::corpus;
+pub use dice::Dice;
+
+use draft::{Draft, Measure};
+
+/// Small files are shorter than this.
+pub const SMALL_FILE: usize = 400;
+
+/// An accepted file. The larger the size, the more sentences, nodes and rows; from
+/// size 2 on some files go to the limits.
+pub fn accepted(seed: u64, size: usize) -> Vec<u8> {
+    accepted_with_count(seed, size).0
+}
+
+/// An accepted file and the count of its sentences.
+pub fn accepted_with_count(seed: u64, size: usize) -> (Vec<u8>, usize) {
+    let draft = draft_file(&mut Dice::new(seed), Measure::of_size(size));
+    (draft.bytes(), draft.sentence_count())
+}
+
+/// An accepted file with some damage done to it, which it may survive.
+pub fn damaged(seed: u64, size: usize) -> Vec<u8> {
+    let mut dice = Dice::new(seed ^ 0x5eed_da3a_6ed0_0000);
+    let draft = draft_file(&mut dice, Measure::of_size(size));
+    damage(&mut dice, draft)
+}
+
+/// A small accepted file.
+pub fn small_accepted(seed: u64) -> Vec<u8> {
+    small_draft(&mut Dice::new(seed ^ 0x0005_3a11_acce_0000)).bytes()
+}
+
+/// A small accepted file with some damage done to it. Its length has no limit.
+pub fn small_damaged(seed: u64) -> Vec<u8> {
+    let mut dice = Dice::new(seed ^ 0x0005_3a11_da3a_0000);
+    let draft = small_draft(&mut dice);
+    damage(&mut dice, draft)
+}
+
+/// A small file, accepted or damaged.
+pub fn small(seed: u64) -> Vec<u8> {
+    if seed.is_multiple_of(2) {
+        small_accepted(seed)
+    } else {
+        small_damaged(seed)
+    }
+}
+
+fn small_draft(dice: &mut Dice) -> Draft {
+    loop {
+        let draft = draft_file(dice, Measure::small());
+        if draft.bytes().len() < SMALL_FILE {
+            return draft;
+        }
+    }
+}
+
+/// An accepted file from top to bottom.
+fn draft_file(dice: &mut Dice, measure: Measure) -> Draft {
+    let mut draft = Draft::default();
+    draft.format_line(dice, &measure);
+    let sentences = dice.between(0, measure.sentences);
+    let known = draft_tables::draft_tables(dice, &measure, sentences > 0, &mut draft);
+    draft_sentences::draft_sentences(dice, &measure, sentences, &known, &mut draft);
+    draft
+}
+
+fn damage(dice: &mut Dice, mut draft: Draft) -> Vec<u8> {
+    let rounds = if dice.one_in(5) { 2 } else { 1 };
+    for _ in 0..rounds {
+        match dice.below(10) {
+            0..=5 => aimed::aim_at_any(dice, &mut draft),
+            6 => line_damage::two_faults_in_a_line(dice, &mut draft),
+            7 => blind::move_lines(dice, &mut draft),
+            _ => return blind::change_bytes(dice, draft.bytes()),
+        }
+    }
+    draft.bytes()
+}

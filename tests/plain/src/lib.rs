@@ -1,0 +1,170 @@
+//! A plain reader of NeGra export files, written from document 01 alone, to be
+//! compared with the library. It shares no code with it.
+//!
+//! The whole file is read into a model (`reading`), and the sheets (`sheets`) and
+//! the tidy text (`tidy`) are made from the model.
+
+mod columns;
+pub mod generate;
+mod lines;
+mod numbers;
+mod reading;
+mod refusals;
+mod sentences;
+mod sheets;
+mod tables;
+mod tidy;
+
+use reading::read;
+use refusals::{BUFFER_SIZE, FILE_TOO_LONG, NOT_HANDED_OUT, TIDY_TOO_LONG};
+use sheets::{clear_sentence, fill_sentence, fill_tables_and_seen};
+
+/// Numbers in a table sheet.
+pub const TABLE_SHEET: usize = 10_759;
+/// Bytes in a seen set.
+pub const SEEN_SET: usize = 8_192;
+/// Numbers in a sentence sheet.
+pub const SENTENCE_SHEET: usize = 11_009;
+/// Records in an edge list.
+pub const EDGE_LIST: usize = 512;
+/// The longest file in bytes.
+pub const FILE_LIMIT: usize = 268_435_456;
+
+/// A secondary edge in the edge list.
+#[repr(C)]
+#[derive(Clone, Copy, Default, PartialEq, Eq, Debug)]
+pub struct Edge {
+    pub child: u32,
+    pub label_start: u32,
+    pub label_length: u32,
+    pub parent: u32,
+}
+
+/// The answer of a survey.
+#[derive(Clone, Copy, PartialEq, Eq, Debug)]
+pub struct Survey {
+    pub refusal: u32,
+    pub place: u32,
+    pub sentences: u32,
+    pub sound_end: u32,
+}
+
+/// The answer of a writing.
+#[derive(Clone, Copy, PartialEq, Eq, Debug)]
+pub struct Written {
+    pub refusal: u32,
+    pub place: u32,
+    pub length: u32,
+}
+
+/// Checks the file and fills the table sheet and the seen set.
+pub fn survey(file: &[u8], table_sheet: &mut [u32], seen: &mut [u8]) -> Survey {
+    let sizes_right = table_sheet.len() == TABLE_SHEET && seen.len() == SEEN_SET;
+    if let Some(refusal) = refusal_before_reading(file, sizes_right) {
+        return Survey {
+            refusal,
+            place: 0,
+            sentences: 0,
+            sound_end: 0,
+        };
+    }
+    let reading = read(file);
+    fill_tables_and_seen(&reading, table_sheet, seen);
+    Survey {
+        refusal: reading.refusal,
+        place: reading.place as u32,
+        sentences: reading.sentences.len() as u32,
+        sound_end: reading.sound_end as u32,
+    }
+}
+
+/// Opens the sentence with the given number; the answer is a refusal, 0 if granted.
+pub fn open(
+    file: &[u8],
+    number: u32,
+    table_sheet: &mut [u32],
+    seen: &mut [u8],
+    sentence_sheet: &mut [u32],
+    edges: &mut [Edge],
+) -> u32 {
+    let sizes_right = sizes_right(table_sheet, seen, sentence_sheet, edges);
+    if let Some(refusal) = refusal_before_reading(file, sizes_right) {
+        return refusal;
+    }
+    let reading = read(file);
+    fill_tables_and_seen(&reading, table_sheet, seen);
+    clear_sentence(sentence_sheet, edges);
+    match reading
+        .sentences
+        .iter()
+        .find(|sentence| sentence.number == number)
+    {
+        None => NOT_HANDED_OUT,
+        Some(sentence) => {
+            fill_sentence(sentence, sentence_sheet, edges);
+            0
+        }
+    }
+}
+
+/// Writes the tidy text of an accepted file to the beginning of `out`.
+pub fn write(
+    file: &[u8],
+    table_sheet: &mut [u32],
+    seen: &mut [u8],
+    sentence_sheet: &mut [u32],
+    edges: &mut [Edge],
+    out: &mut [u8],
+) -> Written {
+    let sizes_right = sizes_right(table_sheet, seen, sentence_sheet, edges);
+    if let Some(refusal) = refusal_before_reading(file, sizes_right) {
+        return Written {
+            refusal,
+            place: 0,
+            length: 0,
+        };
+    }
+    let reading = read(file);
+    fill_tables_and_seen(&reading, table_sheet, seen);
+    clear_sentence(sentence_sheet, edges);
+    let place = reading.place as u32;
+    if reading.refusal != 0 {
+        return Written {
+            refusal: reading.refusal,
+            place,
+            length: 0,
+        };
+    }
+    let tidy = tidy::tidy_text(&reading);
+    if tidy.len() > out.len() || tidy.len() > FILE_LIMIT {
+        return Written {
+            refusal: TIDY_TOO_LONG,
+            place,
+            length: 0,
+        };
+    }
+    out[..tidy.len()].copy_from_slice(&tidy);
+    Written {
+        refusal: 0,
+        place,
+        length: tidy.len() as u32,
+    }
+}
+
+fn sizes_right(tables: &[u32], seen: &[u8], sentence: &[u32], edges: &[Edge]) -> bool {
+    tables.len() == TABLE_SHEET
+        && seen.len() == SEEN_SET
+        && sentence.len() == SENTENCE_SHEET
+        && edges.len() == EDGE_LIST
+}
+
+/// 1 and 2 come before everything else and change no buffer.
+fn refusal_before_reading(file: &[u8], sizes_right: bool) -> Option<u32> {
+    if !sizes_right {
+        Some(BUFFER_SIZE)
+    } else if file.len() > FILE_LIMIT {
+        Some(FILE_TOO_LONG)
+    } else {
+        None
+    }
+}

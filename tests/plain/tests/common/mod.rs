@@ -1,0 +1,150 @@
+//! Buffers to lend, and files the tests share.
+#![allow(dead_code)]
+
+use plain::{Edge, Survey, Written, EDGE_LIST, SEEN_SET, SENTENCE_SHEET, TABLE_SHEET};
+
+/// File A of document 01.
+pub const A: &[u8] = b"#FORMAT 3
+#BOT ORIGIN
+1 lab
+#EOT ORIGIN
+#BOT EDITOR
+2 kim Kim
+#EOT EDITOR
+#BOS 7 2 0 1
+Ja ITJ -- -- 500
+#500 S -- -- 0
+#EOS 7
+";
+
+/// The length of A's format line and tables.
+pub const HEAD: usize = 74;
+
+/// The tidy text of A.
+pub const TIDY_A: &[u8] = b"#FORMAT 3
+#BOT ORIGIN
+1\tlab
+#EOT ORIGIN
+#BOT EDITOR
+2\tkim\tKim
+#EOT EDITOR
+#BOS 7 2 0 1
+Ja\tITJ\t--\t--\t500
+#500\tS\t--\t--\t0
+#EOS 7
+";
+
+/// All buffers a caller lends, full of old contents.
+#[derive(Clone, PartialEq, Eq)]
+pub struct Lent {
+    pub table_sheet: Vec<u32>,
+    pub seen: Vec<u8>,
+    pub sentence_sheet: Vec<u32>,
+    pub edges: Vec<Edge>,
+}
+
+pub const OLD: u32 = 0xdead_beef;
+
+impl Lent {
+    pub fn with_old_contents() -> Lent {
+        let edge = Edge {
+            child: OLD,
+            label_start: OLD,
+            label_length: OLD,
+            parent: OLD,
+        };
+        Lent {
+            table_sheet: vec![OLD; TABLE_SHEET],
+            seen: vec![0xa5; SEEN_SET],
+            sentence_sheet: vec![OLD; SENTENCE_SHEET],
+            edges: vec![edge; EDGE_LIST],
+        }
+    }
+
+    pub fn survey(&mut self, file: &[u8]) -> Survey {
+        plain::survey(file, &mut self.table_sheet, &mut self.seen)
+    }
+
+    pub fn open(&mut self, file: &[u8], number: u32) -> u32 {
+        let Lent {
+            table_sheet,
+            seen,
+            sentence_sheet,
+            edges,
+        } = self;
+        plain::open(file, number, table_sheet, seen, sentence_sheet, edges)
+    }
+
+    pub fn write(&mut self, file: &[u8], out: &mut [u8]) -> Written {
+        let Lent {
+            table_sheet,
+            seen,
+            sentence_sheet,
+            edges,
+        } = self;
+        plain::write(file, table_sheet, seen, sentence_sheet, edges, out)
+    }
+
+    pub fn sentence_is_zero(&self) -> bool {
+        let no_edges = self.edges.iter().all(|edge| *edge == Edge::default());
+        no_edges && self.sentence_sheet.iter().all(|&number| number == 0)
+    }
+
+    pub fn has_seen(&self, number: usize) -> bool {
+        self.seen[number / 8] >> (number % 8) & 1 == 1
+    }
+
+    pub fn count_seen(&self) -> usize {
+        self.seen
+            .iter()
+            .map(|byte| byte.count_ones() as usize)
+            .sum()
+    }
+
+    pub fn numbers_seen(&self) -> Vec<u32> {
+        (0..65_536)
+            .filter(|&number| self.has_seen(number as usize))
+            .collect()
+    }
+}
+
+pub fn survey_of(file: &[u8]) -> Survey {
+    Lent::with_old_contents().survey(file)
+}
+
+/// The tidy text of a file that must be accepted.
+pub fn tidy_of(file: &[u8]) -> Vec<u8> {
+    let mut out = vec![0; file.len() + 512];
+    let written = Lent::with_old_contents().write(file, &mut out);
+    assert_eq!((written.refusal, written.place as usize), (0, file.len()));
+    out.truncate(written.length as usize);
+    out
+}
+
+pub fn survey(refusal: u32, place: usize, sentences: u32, sound_end: usize) -> Survey {
+    Survey {
+        refusal,
+        place: place as u32,
+        sentences,
+        sound_end: sound_end as u32,
+    }
+}
+
+/// A with one stretch of text replaced; the stretch must stand there just once.
+pub fn changed(from: &str, to: &str) -> Vec<u8> {
+    replaced(A, from, to)
+}
+
+pub fn replaced(file: &[u8], from: &str, to: &str) -> Vec<u8> {
+    let from = from.as_bytes();
+    let places: Vec<usize> = (0..file.len())
+        .filter(|&place| file[place..].starts_with(from))
+        .collect();
+    assert_eq!(places.len(), 1, "{:?}", String::from_utf8_lossy(from));
+    [
+        &file[..places[0]],
+        to.as_bytes(),
+        &file[places[0] + from.len()..],
+    ]
+    .concat()
+}
