@@ -1,17 +1,17 @@
 -- What is still to be found of a line, from a place within it on: the same at every place, so that the walk along the
 -- line finds what the line's start asks for. Assumes nothing.
-use mathlib.Core.Path.{_≡_, refl, sym, ap, _∙_}
-use mathlib.Core.Bool.{Bool, true, false, _&&_, not, and-false, and-true}
-use mathlib.Core.List.{List, [], _∷_}
+use mathlib.Core.Path.{_≡_, sym, ap, _∙_}
+use mathlib.Core.Bool.{Bool, true, false, _&&_, and-false, and-true}
+use mathlib.Core.List.{List, _∷_}
 use Prim.Native.Nat.{ℕ, suc, _+_, _-_, _≤_, _<_}
 use native.Mathlib.Nat.{add-zero, add-suc, suc-add}
 use native.Mathlib.Numerals.{add-one}
 use native.Mathlib.Omega.{arith}
-use lib.Dec.{eqb, leb}
+use lib.Dec.{eqb}
 use lib.ListN.{length, drop, getD, drop-of-length-le}
 use lib.Seq.{drop-cons}
 use borrow.Author.Tests.{eq-eqb, ne-eqb, le-leb, lt-leb, not-true, not-false}
-use Rattle.rules.specs.Lists.{pick, every}
+use Rattle.rules.specs.Lists.{every}
 use Rattle.rules.specs.Bytes.{newline, legal, illegalClass, classOf}
 use Rattle.rules.specs.Numbers.{lineLimit}
 use Rattle.rules.proofs.Classes.{class-illegal}

@@ -11,9 +11,6 @@ use Rattle.rules.specs.Bytes.{white}
 use Rattle.lines.proofs.White.{white-stop, white-more, white-end}
 use Rattle.lines.proofs.all_white.Statement.{statement}
 use Rattle.lines.proofs.all_white.Tie as tie
-use Rattle.lines.proofs.all_white.Reads as reads
-use Rattle.lines.proofs.all_white.Lts as lts
-use Rattle.classes.proofs.class_of.Reads as class-of-reads
 
 abbrev Inv-loop : tie.InvT-loop
 Inv-loop head from classes at₀ at = every white (drop at head) ≡ every white (drop from head)

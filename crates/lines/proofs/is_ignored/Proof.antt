@@ -1,16 +1,14 @@
 -- `lines::is_ignored` meets its contract: each way to the last call tells that the line doesn't begin with %%, and of such
 -- a line only white bytes are asked. Assumes nothing.
 use borrow.Author.Needs.{needs}
+use native.Mathlib.Omega.{arith}
 use Prim.Native.Nat.{ℕ}
-use mathlib.Core.Path.{_≡_, sym, _∙_}
+use mathlib.Core.Path.{sym, _∙_}
 use mathlib.Core.List.{List}
 use mathlib.Core.Logic.{⊎-elim}
 use Rattle.lines.proofs.White.{ignored-short, ignored-marked, ignored-first, ignored-second}
 use Rattle.lines.proofs.is_ignored.Statement.{statement}
 use Rattle.lines.proofs.is_ignored.Tie as tie
-use Rattle.lines.proofs.is_ignored.Reads as reads
-use Rattle.lines.proofs.is_ignored.Lts as lts
-use Rattle.lines.proofs.all_white.Reads as all-white-reads
 
 abbrev head : tie.Start → List ℕ
 head s = s .args .head .now
@@ -33,7 +31,7 @@ shared-slice-read-if3 c = search needs
 returns : tie.Need-returns
 returns c =
     let s = c .before .before .before .before .before .before in
-    sym (ignored-marked (head s) (at s) (c .before .before .before .before .if1 .taken) (c .before .before .if2 .taken) (c .if3 .taken))
+    sym (ignored-marked (head s) (at s) (omega arith) (c .before .before .if2 .taken) (c .if3 .taken))
 
 all-white-requires : tie.Need-all-white-requires
 all-white-requires c κs = search needs
@@ -44,10 +42,10 @@ returns-2 c =
     c .all-white .ensures
     ∙ sym
     (⊎-elim
-    (λ w. ignored-second (head s) (at s) (w .0 .taken) (w .4 .left))
+    (λ w. ignored-second (head s) (at s) (omega arith) (w .4 .left))
     (⊎-elim
-    (λ w. ignored-first (head s) (at s) (w .0 .taken) (w .2 .left))
-    (λ w. ignored-short (head s) (at s) (w .left)))
+    (λ w. ignored-first (head s) (at s) (omega arith) (w .2 .left))
+    (λ w. ignored-short (head s) (at s) (omega arith)))
     (c .before .if1 .came))
 
 pub is-ignored-spec : {M : Type 1} → statement M

@@ -9,14 +9,10 @@ use mathlib.Core.List.{List}
 use mathlib.Core.Logic.{⊎-elim}
 use borrow.Author.Tests.{not-true, not-false}
 use lib.ListN.{length, getD}
-use Rattle.rules.specs.Bytes.{classOf}
 use Rattle.lines.specs.LineEnds.{lineEnd}
 use Rattle.lines.proofs.Scan.{scan, scan-start, scan-illegal, scan-at, scan-long, scan-legal, scan-marred, scan-unended}
 use Rattle.lines.proofs.line_end.Statement.{statement}
 use Rattle.lines.proofs.line_end.Tie as tie
-use Rattle.lines.proofs.line_end.Reads as reads
-use Rattle.lines.proofs.line_end.Lts as lts
-use Rattle.classes.proofs.class_of.Reads as class-of-reads
 
 abbrev Inv-loop : tie.InvT-loop
 Inv-loop file from classes at₀ sound₀ at sound = (from ≤ at) × (scan file from at sound ≡ lineEnd file from)
@@ -72,13 +68,13 @@ sub-if4 c = search needs
 returns-2 : tie.Need-returns-2 Inv-loop μ-loop
 returns-2 c =
     let t = c .before .before .before .before in
-    sym (scan-at (file t) (from t) (at t) (sound t) (below t) (c .before .before .if2 .taken) (not-false _ (c .before .if3 .left)) (passed t) (c .if4 .taken))
+    sym (scan-at (file t) (from t) (at t) (sound t) (below t) (c .before .before .if2 .taken) (not-false _ (c .before .if3 .left)) (passed t) (omega arith))
     ∙ found t
 
 returns-3 : tie.Need-returns-3 Inv-loop μ-loop
 returns-3 c =
     let t = c .before .before .before .before in
-    sym (scan-long (file t) (from t) (at t) (sound t) (below t) (c .before .before .if2 .taken) (not-false _ (c .before .if3 .left)) (c .if4 .left))
+    sym (scan-long (file t) (from t) (at t) (sound t) (below t) (c .before .before .if2 .taken) (not-false _ (c .before .if3 .left)) (omega arith))
     ∙ found t
 
 add-at : tie.Need-add-at Inv-loop μ-loop
@@ -97,7 +93,7 @@ loop-again c =
           (λ w. ap after (w .2) ∙ scan-marred (file t) (from t) (at t) (sound t) (below t) (passed t) (is-byte t) (sym k ∙ w .0 .taken) (w .1 .left))
           (λ w. ap after (w .1) ∙ scan-legal (file t) (from t) (at t) (sound t) (below t) (passed t) (is-byte t) (λ z. w .0 .left (k ∙ z)))
           (c .if1 .came)
-      ∙ found t,
+          ∙ found t,
     )
 
 returns-4 : tie.Need-returns-4 Inv-loop μ-loop
