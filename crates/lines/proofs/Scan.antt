@@ -38,7 +38,8 @@ left-newline : (from n b : ℕ) (sound : Bool) (rest : List ℕ) → eqb b newli
 unfolding lineOf
 left-newline from n b sound rest e = rw (e, and-true, add-zero)
 
-left-other : (from n b : ℕ) (sound : Bool) (rest : List ℕ) → eqb b newline ≡ false → left from n sound (b ∷ rest) ≡ left from (suc n) (sound && legal b) rest
+left-other : (from n b : ℕ) (sound : Bool) (rest : List ℕ) → eqb b newline ≡ false
+    → left from n sound (b ∷ rest) ≡ left from (suc n) (sound && legal b) rest
 unfolding lineOf
 left-other from n b true rest e = rw (e, add-suc, suc-add)
 left-other from n b false rest e = rw (e, add-suc, suc-add)
@@ -78,7 +79,8 @@ module _ (file : List ℕ) (from at : ℕ) (sound : Bool) (below : at < length f
       let l : legal here ≡ true = not-false _ (sym (class-illegal here h) ∙ ne-eqb _ _ k) in
       sym (scan-other f (legal-other here l) ∙ ap (scan file from (at + 1)) (ap (λ (t : Bool). sound && t) l ∙ and-true sound))
 
-  pub scan-marred : from ≤ at → here < 256 → classOf here ≡ illegalClass → (here ≡ newline → ⊥) → scan file from (at + 1) false ≡ scan file from at sound
+  pub scan-marred : from ≤ at → here < 256 → classOf here ≡ illegalClass → (here ≡ newline → ⊥)
+      → scan file from (at + 1) false ≡ scan file from at sound
   scan-marred f h k e =
       let l : legal here ≡ false = not-true _ (sym (class-illegal here h) ∙ eq-eqb _ _ k) in
       sym (scan-other f (ne-eqb here newline e) ∙ ap (scan file from (at + 1)) (ap (λ (t : Bool). sound && t) l ∙ and-false sound))

@@ -34,7 +34,7 @@ ignored-is [] = refl
 ignored-is (a ∷ []) = sym (and-true (white a))
 ignored-is (a ∷ b ∷ bs) = refl
 
-pub ignored-unmarked : (bs : List ℕ) → marked bs ≡ false → ignored bs ≡ every white bs
+ignored-unmarked : (bs : List ℕ) → marked bs ≡ false → ignored bs ≡ every white bs
 ignored-unmarked bs m = ignored-is bs ∙ ap (λ (t : Bool). t || every white bs) m
 
 short-unmarked : (bs : List ℕ) → length bs < 2 → marked bs ≡ false
