@@ -93,10 +93,6 @@ one-byte r b = by-fault r b (r .fault)
 
 -- ---- many bytes
 
-pub read-append : (r : Reading) (xs ys : List ℕ) → read r (xs ++ ys) ≡ read (read r xs) ys
-read-append r [] ys = refl
-read-append r (x ∷ xs) ys = read-append (byte r x) xs ys
-
 -- what further bytes add: sentences that end behind the place where the bytes began, and not behind their end
 pub record Grown (r s : Reading) (n : ℕ) : Type 0 where
   pub place : s .at ≡ r .at + n
