@@ -6,3 +6,14 @@ pub mod RuleLaws
 pub mod ReadLines
 pub mod Cut
 pub mod CutRule
+pub mod Same
+pub mod ColumnLaws
+pub mod Decimal
+pub mod Elements
+pub mod Sorting
+pub mod TrimLaws
+pub mod PrintedLines
+pub mod AnyLine
+pub mod LineFit
+pub mod MeantTables
+pub mod PlacelessNodes
