@@ -17,3 +17,10 @@ pub mod AnyLine
 pub mod LineFit
 pub mod MeantTables
 pub mod PlacelessNodes
+pub mod Steps
+pub mod NumbersAgain
+pub mod NodesKept
+pub mod NodeLines
+pub mod KeywordLines
+pub mod RulesHeld
+pub mod Headings

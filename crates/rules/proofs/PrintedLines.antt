@@ -108,6 +108,15 @@ pub comment-here : (c : Column) (cs : List Column) → same (c .text .bytes) per
 unfolding comment
 comment-here c cs e = rw e
 
+abbrev pub columnBytes : List Column → List (List ℕ)
+columnBytes cs = map (λ (c : Column). c .text .bytes) cs
+
+-- columns of these bytes, and behind them those of what follows
+pub record Behind (cs : List Column) (xs : List (List ℕ)) (rest-bytes : List ℕ) : Type 0 where
+  pub at : ℕ
+  pub texts : columnBytes cs ≡ xs ++ columnBytes (columnsFrom at rest-bytes)
+  pub rest : drop (length xs) cs ≡ columnsFrom at rest-bytes
+
 module _ (w : ℕ) (h : white w ≡ true) where
   goes-remark : (n : List ℕ) → goesOn (remark w n) ≡ false
   goes-remark [] = refl
@@ -144,7 +153,7 @@ module _ (w : ℕ) (h : white w ≡ true) where
         → columnsFrom at (c ++ tailed w cs (remark w n)) ≡ columnOf at c (tailed w cs (remark w n)) ∷ columnsFrom (at + length c) (tailed w cs (remark w n))
     printed-columns at c cs s = column-solid at c (tailed w cs (remark w n)) s (goes-printed cs n)
 
-    tailed-columns : (at : ℕ) (c : List ℕ) (cs : List (List ℕ)) → solid c ≡ true
+    pub tailed-columns : (at : ℕ) (c : List ℕ) (cs : List (List ℕ)) → solid c ≡ true
         → columnsFrom at (tailed w (c ∷ cs) (remark w n))
         ≡ columnOf (suc at) c (tailed w cs (remark w n)) ∷ columnsFrom (suc at + length c) (tailed w cs (remark w n))
     unfolding tailed
@@ -192,3 +201,27 @@ module _ (w : ℕ) (h : white w ≡ true) where
         ap (λ (ks : List Column). bare (comment ks)) (printed-columns at c cs (and-left (solid c) (not (same c percents)) f))
         ∙ ap bare (comment-field (columnOf at c (tailed w cs (remark w n))) _ (is-field c f))
         ∙ tailed-comment (at + length c) cs (and-right (field c) (every field cs) e) t
+
+    -- where each column stands, and what stands behind the last of them
+    tailed-read : (at : ℕ) (cs : List (List ℕ)) → every solid cs ≡ true → Behind (columnsFrom at (tailed w cs (remark w n))) cs (remark w n)
+    unfolding tailed
+    tailed-read at [] e = record { at = at; texts = refl; rest = refl }
+    tailed-read at (c ∷ cs) e =
+        let b = tailed-read (suc at + length c) cs (and-right (solid c) (every solid cs) e) in
+        let f = tailed-columns at c cs (and-left (solid c) (every solid cs) e) in
+        record {
+          at = b .at;
+          texts = ap columnBytes f ∙ ap (λ (l : List (List ℕ)). c ∷ l) (b .texts);
+          rest = ap (drop (suc (length cs))) f ∙ b .rest;
+        }
+
+    pub printed-read : (at : ℕ) (c : List ℕ) (cs : List (List ℕ)) → every solid (c ∷ cs) ≡ true → Behind (columnsFrom at (printed w c cs n)) (c ∷ cs) (remark w n)
+    unfolding printed
+    printed-read at c cs e =
+        let b = tailed-read (at + length c) cs (and-right (solid c) (every solid cs) e) in
+        let f = printed-columns at c cs (and-left (solid c) (every solid cs) e) in
+        record {
+          at = b .at;
+          texts = ap columnBytes f ∙ ap (λ (l : List (List ℕ)). c ∷ l) (b .texts);
+          rest = ap (drop (suc (length cs))) f ∙ b .rest;
+        }
