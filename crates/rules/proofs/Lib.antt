@@ -24,3 +24,10 @@ pub mod NodeLines
 pub mod KeywordLines
 pub mod RulesHeld
 pub mod Headings
+pub mod PercentPairs
+pub mod RowTexts
+pub mod OriginRows
+pub mod EditorRows
+pub mod TagRows
+pub mod RowsKept
+pub mod RowLines
