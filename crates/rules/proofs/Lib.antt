@@ -31,3 +31,6 @@ pub mod EditorRows
 pub mod TagRows
 pub mod RowsKept
 pub mod RowLines
+pub mod SentencesKept
+pub mod Kept
+pub mod KeptSteps

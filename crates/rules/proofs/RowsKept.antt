@@ -12,7 +12,7 @@ use Rattle.rules.specs.Tables.{Row, hasId, hasTag}
 use Rattle.rules.specs.Rows.{lastId, follows}
 use Rattle.rules.specs.Meaning.{rowId}
 use Rattle.rules.proofs.Elements.{All, all-last, all-weaker}
-use Rattle.rules.proofs.Sorting.{Distinct, Rising, all-sorted, rising-sorted, length-sorted, distinct-last, below-lacks}
+use Rattle.rules.proofs.Sorting.{Distinct, Rising, all-sorted, rising-from-zero, length-sorted, distinct-last, below-lacks}
 use Rattle.rules.proofs.OriginRows.{OriginKept}
 use Rattle.rules.proofs.EditorRows.{EditorKept}
 use Rattle.rules.proofs.TagRows.{TagKept}
@@ -75,13 +75,9 @@ module _ (n : ℕ) (differ : (done : List Row) (r : Row) → RowNew n done r →
             (rise .1) (own .1) (omega (arith, length-append done (r ∷ []))),
       )
 
-  from-zero : (rs : List Row) → All (λ (r : Row). 0 ≤ rowId r) rs
-  from-zero [] = tt
-  from-zero (r ∷ rs) = (omega arith, from-zero rs)
-
   sorted-kept : (rs : List Row) → RowsKept n [] rs → RowsKept n [] (sorted rowId rs)
   sorted-kept rs k =
-      rising-rows 0 [] (sorted rowId rs) tt (rising-sorted rowId 0 rs (from-zero rs) (distinct-rows [] rs tt k))
+      rising-rows 0 [] (sorted rowId rs) tt (rising-from-zero rowId rs (distinct-rows [] rs tt k))
       (all-sorted rowId (RowOwn n) rs (all-own [] rs k)) (omega (arith, length-sorted rowId rs, few-rows [] rs (omega arith) k))
 
 pub origins-sorted : (rs : List Row) → RowsKept 0 [] rs → RowsKept 0 [] (sorted rowId rs)
