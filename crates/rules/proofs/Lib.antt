@@ -34,3 +34,6 @@ pub mod RowLines
 pub mod SentencesKept
 pub mod Kept
 pub mod KeptSteps
+pub mod KeptReading
+pub mod Stands
+pub mod TablesBack

@@ -14,7 +14,7 @@ use Rattle.rules.specs.Sentences.{knownEditor, knownOrigin}
 use Rattle.rules.specs.Meaning.{bareRow, rowId, meantRows, byId, meantTables}
 use Rattle.rules.proofs.Sorting.{any-sorted, map-sorted, sorted-sorted}
 
-there-meant : (o : Option (List Row)) → there (meantRows o) ≡ there o
+pub there-meant : (o : Option (List Row)) → there (meantRows o) ≡ there o
 there-meant none = refl
 there-meant (some rs) = refl
 
