@@ -37,3 +37,6 @@ pub mod KeptSteps
 pub mod KeptReading
 pub mod Stands
 pub mod TablesBack
+pub mod NodesBack
+pub mod SentencesBack
+pub mod RoundTrip
