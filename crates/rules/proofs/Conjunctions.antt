@@ -21,6 +21,14 @@ pub not-true : (a : Bool) → not a ≡ true → a ≡ false
 not-true true e = cc
 not-true false e = refl
 
+pub or-left : (a b : Bool) → (a || b) ≡ false → a ≡ false
+or-left true b e = e
+or-left false b e = refl
+
+pub or-right : (a b : Bool) → (a || b) ≡ false → b ≡ false
+or-right true b e = cc
+or-right false b e = e
+
 pub or-false : (a b : Bool) → (a || b) ≡ true → a ≡ false → b ≡ true
 or-false true b e f = absurd (let z : _≡_ {A = ℕ} 0 1 = cc in omega arith)
 or-false false b e f = e

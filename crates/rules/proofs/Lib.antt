@@ -2,6 +2,8 @@ pub mod CheckedByHand
 pub mod Conjunctions
 pub mod Counting
 pub mod Classes
+pub mod Same
+pub mod ColumnLaws
 pub mod RuleLaws
 pub mod ReadLines
 pub mod Cut
