@@ -1,3 +1,4 @@
 pub mod CheckedByHand
 pub mod Counting
 pub mod Classes
+pub mod Decimal
