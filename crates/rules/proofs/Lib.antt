@@ -3,6 +3,7 @@ pub mod Conjunctions
 pub mod Counting
 pub mod Classes
 pub mod Same
+pub mod Decimal
 pub mod ColumnLaws
 pub mod RuleLaws
 pub mod ReadLines
