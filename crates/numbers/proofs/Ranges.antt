@@ -9,7 +9,7 @@ use lib.Dec.{leb, eqb}
 use borrow.Author.Tests.{eq-eqb, ne-eqb, eqb-true, le-leb, lt-leb, leb-true, leb-false}
 use Rattle.rules.specs.Lists.{pick, between}
 use Rattle.rules.specs.Numbers.{phraseNumber, decimal, within, number, zeroOr, parentNumber}
-use Rattle.rules.proofs.Decimal.{both}
+use Rattle.rules.proofs.Conjunctions.{both}
 use Rattle.numbers.specs.Answers.{asNumber, kind}
 use Rattle.numbers.specs.Ranges.{rangeOf}
 use Rattle.numbers.specs.declared.Number.{Number}

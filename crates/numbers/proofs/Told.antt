@@ -11,7 +11,7 @@ use lib.Dec.{leb, eqb}
 use borrow.Author.Tests.{leb-true}
 use Rattle.rules.specs.Lists.{pick, bytes, between, same}
 use Rattle.rules.specs.Numbers.{Kind, idPlusOne, phraseNumber, decimal, within, number, plusOne, signedId, zeroOr, parentNumber, good, value}
-use Rattle.rules.proofs.Decimal.{both}
+use Rattle.rules.proofs.Conjunctions.{both}
 use Rattle.numbers.specs.Answers.{asNumber, refusalOf}
 use Rattle.numbers.specs.declared.Number.the-variants.{Good, Bad}
 
