@@ -2,7 +2,7 @@
 -- leading zero. By induction on the count of digits allowed. Assumes nothing.
 use mathlib.Core.Path.{_≡_, refl, sym, ap, ap₂, _∙_}
 use mathlib.Core.Logic.{_⊎_, inl, inr}
-use mathlib.Core.Bool.{Bool, true, false, not, _&&_, false≢true, and-false, and-assoc}
+use mathlib.Core.Bool.{Bool, true, false, not, _&&_, false≢true, and-false}
 use mathlib.Core.Option.{Option, none, some}
 use mathlib.Core.List.{List, [], _∷_, _++_, cons≢nil}
 use Prim.Native.Nat.{ℕ, zero, suc, _+_, _-_, _*_, _/_, _%_, _≤_, _<_}

@@ -2,16 +2,15 @@
 -- that don't, however the rules are put together. Assumes nothing.
 use Prim.Native.Nat.{ℕ, zero, suc, _≤_, _<_}
 use native.Mathlib.Omega.{arith}
-use mathlib.Core.Path.{_≡_, refl, sym, ap, _∙_}
+use mathlib.Core.Path.{_≡_, refl, ap, _∙_}
 use mathlib.Core.Bool.{Bool, true, false, _&&_}
 use mathlib.Core.Option.{Option, none, some}
 use mathlib.Core.List.{List, [], _∷_, _++_}
 use lib.Dec.{leb, eqb}
 use borrow.Author.Tests.{le-leb, lt-leb, leb-true, leb-false, ne-eqb}
 use Rattle.rules.specs.Lists.{pick, every}
-use Rattle.rules.specs.Texts.{Text}
 use Rattle.rules.proofs.Conjunctions.{and-left, and-right}
-use Rattle.rules.specs.Rules.{Rule, rule, Verdict, refused, granted, sooner, broken, unless, checked}
+use Rattle.rules.specs.Rules.{Rule, Verdict, refused, granted, sooner, broken, unless, checked}
 
 abbrev pub holdsOf : Rule → Bool
 holdsOf r = r .holds

@@ -1,0 +1,4 @@
+pub mod Hashes
+pub mod FirstColumns
+pub mod SecondColumns
+pub mod KeywordLines
