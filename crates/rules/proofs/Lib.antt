@@ -5,3 +5,5 @@ pub mod Classes
 pub mod RuleLaws
 pub mod Cut
 pub mod CutRule
+pub mod ColumnLaws
+pub mod Same
