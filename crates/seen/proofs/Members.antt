@@ -1,11 +1,11 @@
 -- Which numbers stand in a list that has one number more at its end. Assumes nothing.
-use mathlib.Core.Path.{_≡_, refl, sym, ap, _∙_}
+use mathlib.Core.Path.{_≡_, refl, ap, _∙_}
 use mathlib.Core.Bool.{Bool, true, false, _||_}
 use mathlib.Core.List.{List, [], _∷_, _++_}
 use Prim.Native.Nat.{ℕ}
 use lib.Dec.{eqb}
 use borrow.Author.Tests.{eq-eqb, ne-eqb}
-use Rattle.rules.specs.Lists.{any, member}
+use Rattle.rules.specs.Lists.{member}
 
 either-true : (b : Bool) → (b || true) ≡ true
 either-true true = refl

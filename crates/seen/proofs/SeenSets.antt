@@ -3,14 +3,14 @@
 use mathlib.Core.Path.{_≡_, refl, sym, ap, ap₂, _∙_}
 use mathlib.Core.Bool.{Bool, true, false}
 use mathlib.Core.List.{List, [], _∷_, _++_, map}
-use Prim.Native.Nat.{ℕ, zero, suc, _+_, _*_, _/_, _%_, _^_, _≤_, _<_}
+use Prim.Native.Nat.{ℕ, zero, suc, _+_, _*_, _/_, _%_, _^_, _<_}
 use native.Mathlib.Nat.{add-zero, zero-add, suc-add, add-suc, pow-suc, not-suc-le-zero, le-of-suc-le-suc}
 use native.Mathlib.Omega.{arith}
-use lib.Dec.{eqb, ltb}
+use lib.Dec.{eqb}
 use lib.ListN.{length, getD, set, replicate, length-map, length-set}
 use lib.Seq.{ext-getD, getD-set-same, getD-set-other}
-use borrow.Author.Tests.{eqb-true, eqb-false, ltb-true, ltb-false}
-use Rattle.rules.specs.Lists.{pick, member, counting}
+use borrow.Author.Tests.{eqb-true, eqb-false}
+use Rattle.rules.specs.Lists.{member, counting}
 use Rattle.rules.specs.Sheets.{weighed, seenByte, seenSetSize, seenSet}
 use Rattle.rules.proofs.Counting.{length-counting, at-counting}
 use Rattle.seen.specs.Bits.{bit, bitAt, withBit, seenSetOf}
@@ -31,21 +31,13 @@ bit-weighed ns from (suc count) (suc k) h =
     ∙ ap (λ (n : ℕ). weighs (member n ns)) (suc-add from k ∙ sym (add-suc from k))
 
 module _ (ns : List ℕ) (n : ℕ) where
-  weighed-past : (from count : ℕ) → n < from
+  weighed-other : (from count : ℕ) → ((k : ℕ) → k < count → from + k ≡ n → ⊥)
       → weighed (ns ++ (n ∷ [])) (counting from count) ≡ weighed ns (counting from count)
-  weighed-past from zero h = refl
-  weighed-past from (suc count) h =
+  weighed-other from zero other = refl
+  weighed-other from (suc count) other =
       ap₂ (λ (b : Bool) (w : ℕ). weighs b + 2 * w)
-      (member-other from n ns (λ e. omega arith))
-      (weighed-past (suc from) count (omega arith))
-
-  weighed-before : (from count : ℕ) → from + count ≤ n
-      → weighed (ns ++ (n ∷ [])) (counting from count) ≡ weighed ns (counting from count)
-  weighed-before from zero h = refl
-  weighed-before from (suc count) h =
-      ap₂ (λ (b : Bool) (w : ℕ). weighs b + 2 * w)
-      (member-other from n ns (λ e. omega arith))
-      (weighed-before (suc from) count (omega arith))
+      (member-other from n ns (λ e. other 0 (omega arith) (omega arith)))
+      (weighed-other (suc from) count (λ k h e. other (suc k) (omega arith) (omega arith)))
 
   module _ (new : member n ns ≡ false) where
     weighed-at : (from count k : ℕ) → k < count → n ≡ from + k
@@ -56,7 +48,7 @@ module _ (ns : List ℕ) (n : ℕ) where
         let w : ℕ = weighed ns (counting (suc from) count) in
         ap₂ (λ (b : Bool) (w : ℕ). weighs b + 2 * w)
         (ap (λ (m : ℕ). member m (ns ++ (n ∷ []))) f ∙ member-added n ns)
-        (weighed-past (suc from) count (omega arith))
+        (weighed-other (suc from) count (λ k l same. omega arith))
         ∙ (let g : 1 + 2 * w ≡ (0 + 2 * w) + 1 = omega arith in g)
         ∙ ap (λ (b : Bool). weighs b + 2 * w + 1) (sym (ap (λ (m : ℕ). member m ns) f ∙ new))
     weighed-at from (suc count) (suc k) h e =
@@ -94,13 +86,7 @@ seen-holds size ns n h =
 -- one number more changes one byte
 module _ (ns : List ℕ) (n : ℕ) where
   byte-other : (k : ℕ) → (k ≡ n / 8 → ⊥) → seenByte (ns ++ (n ∷ [])) k ≡ seenByte ns k
-  byte-other k other = by (ltb n (8 * k)) refl
-    where
-      by : (t : Bool) → ltb n (8 * k) ≡ t → seenByte (ns ++ (n ∷ [])) k ≡ seenByte ns k
-      by true past = weighed-past ns n (8 * k) 8 (ltb-true n (8 * k) past)
-      by false e =
-          let from : 8 * k ≤ n = ltb-false n (8 * k) e in
-          weighed-before ns n (8 * k) 8 (omega arith)
+  byte-other k other = weighed-other ns n (8 * k) 8 (λ j h e. other (omega arith))
 
   byte-added : member n ns ≡ false → seenByte (ns ++ (n ∷ [])) (n / 8) ≡ seenByte ns (n / 8) + 2 ^ (n % 8)
   byte-added new = weighed-at ns n new (8 * (n / 8)) 8 (n % 8) (omega arith) (omega arith)
