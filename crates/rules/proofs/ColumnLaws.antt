@@ -2,14 +2,14 @@
 -- byte or nothing behind it, is one column. By one step along the bytes. Assumes nothing.
 use Prim.Native.Nat.{ℕ, suc, _+_, _<_}
 use native.Mathlib.Nat.{add-zero, add-suc, suc-add, zero-lt-suc, not-suc-le-zero}
-use mathlib.Core.Path.{_≡_, refl, sym, ap, _∙_}
-use mathlib.Core.Bool.{Bool, true, false, not, _||_}
+use mathlib.Core.Path.{_≡_, sym, ap, _∙_}
+use mathlib.Core.Bool.{true, false, not}
 use mathlib.Core.List.{List, [], _∷_, _++_}
 use lib.ListN.{length}
 use Rattle.rules.specs.Lists.{every, any}
 use Rattle.rules.specs.Bytes.{white}
+use Rattle.rules.proofs.Conjunctions.{and-left, and-right, or-left, or-right}
 use Rattle.rules.specs.Columns.{Column, goesOn, longer, lastByte, columnsFrom}
-use Rattle.rules.proofs.Same.{and-left, and-right}
 
 -- the column of these bytes at a place, with the rest of its line
 abbrev pub columnOf : ℕ → List ℕ → List ℕ → Column
@@ -27,14 +27,6 @@ columns-on at b rest e g = rw (e, g)
 pub columns-last : (at b : ℕ) (rest : List ℕ) → white b ≡ false → goesOn rest ≡ false → columnsFrom at (b ∷ rest) ≡ lastByte at b rest ∷ columnsFrom (suc at) rest
 unfolding columnsFrom
 columns-last at b rest e g = rw (e, g)
-
-pub or-left : (a b : Bool) → a || b ≡ false → a ≡ false
-or-left true b e = e
-or-left false b e = refl
-
-pub or-right : (a b : Bool) → a || b ≡ false → b ≡ false
-or-right true b e = cc
-or-right false b e = e
 
 pub columns-skip : (at : ℕ) (xs rest : List ℕ) → every white xs ≡ true → columnsFrom at (xs ++ rest) ≡ columnsFrom (at + length xs) rest
 columns-skip at [] rest e = rw add-zero

@@ -2,7 +2,7 @@
 -- leading zero. By induction on the count of digits allowed. Assumes nothing.
 use mathlib.Core.Path.{_≡_, refl, sym, ap, ap₂, _∙_}
 use mathlib.Core.Logic.{_⊎_, inl, inr}
-use mathlib.Core.Bool.{Bool, true, false, not, _&&_, false≢true, and-false, and-assoc}
+use mathlib.Core.Bool.{Bool, true, false, not, _&&_, false≢true, and-false}
 use mathlib.Core.Option.{Option, none, some}
 use mathlib.Core.List.{List, [], _∷_, _++_, cons≢nil}
 use Prim.Native.Nat.{ℕ, zero, suc, _+_, _-_, _*_, _/_, _%_, _≤_, _<_}
@@ -10,23 +10,13 @@ use native.Mathlib.Nat.{le-refl}
 use native.Mathlib.Omega.{arith}
 use lib.Dec.{leb, ltb, eqb}
 use borrow.Author.Tests.{le-leb, leb-true, lt-ltb, le-ltb, ltb-true, ltb-false, ne-eqb, eqb-true, eqb-false, not-true}
+use Rattle.rules.proofs.Conjunctions.{and-both, both, every-joined}
 use Rattle.rules.specs.Lists.{pick, between, bytes, empty, every, same, member}
 use Rattle.rules.specs.Bytes.{white, digit, legal}
 use Rattle.rules.specs.Numbers.{Kind, idPlusOne, valueFrom, plain, decimal, within, number, plusOne, signedId, parentNumber}
 use Rattle.rules.specs.Tidy.{digitsWithin, digitsOf, idDigits}
 
 -- ---- tests that hold together
-
-pub both : (a b : Bool) → a && b ≡ true → (a ≡ true) × (b ≡ true)
-both true b e = (refl, e)
-both false b e = (e, cc)
-
-both-hold : (a b : Bool) → a ≡ true → b ≡ true → a && b ≡ true
-both-hold a b p q = rw (p, q)
-
-every-joined : (f : ℕ → Bool) (xs ys : List ℕ) → every f (xs ++ ys) ≡ (every f xs && every f ys)
-every-joined f [] ys = refl
-every-joined f (x ∷ xs) ys = ap (λ (b : Bool). f x && b) (every-joined f xs ys) ∙ sym (and-assoc (f x) (every f xs) (every f ys))
 
 pub digit-range : (b : ℕ) → digit b ≡ true → (48 ≤ b) × (b ≤ 57)
 digit-range b e = let p = both (leb 48 b) (leb b 57) e in (leb-true 48 b (p .0), leb-true b 57 (p .1))
@@ -133,7 +123,7 @@ module _ (f : ℕ → Bool) (of-digit : (b : ℕ) → digit b ≡ true → f b �
   every-of-digits [] e = refl
   every-of-digits (x ∷ xs) e =
       let b = both (digit x) (every digit xs) e in
-      both-hold (f x) (every f xs) (of-digit x (b .0)) (every-of-digits xs (b .1))
+      and-both (f x) (every f xs) (of-digit x (b .0)) (every-of-digits xs (b .1))
 
   -- what holds of each digit holds of a number's bytes
   pub digits-every : (n : ℕ) → every f (digitsOf n) ≡ true
@@ -141,7 +131,7 @@ module _ (f : ℕ → Bool) (of-digit : (b : ℕ) → digit b ≡ true → f b �
 
   -- and of an id's, if it holds of the sign
   pub id-every : f 45 ≡ true → (i : ℕ) → every f (idDigits i) ≡ true
-  id-every s zero = both-hold (f 45) (f 49 && true) s (both-hold (f 49) true (of-digit 49 refl) refl)
+  id-every s zero = and-both (f 45) (f 49 && true) s (and-both (f 49) true (of-digit 49 refl) refl)
   id-every s (suc i) = digits-every i
 
 pub digits-given : (n : ℕ) → empty (digitsOf n) ≡ false

@@ -2,13 +2,13 @@ pub mod CheckedByHand
 pub mod Conjunctions
 pub mod Counting
 pub mod Classes
+pub mod Same
+pub mod Decimal
+pub mod ColumnLaws
 pub mod RuleLaws
 pub mod ReadLines
 pub mod Cut
 pub mod CutRule
-pub mod Same
-pub mod ColumnLaws
-pub mod Decimal
 pub mod Elements
 pub mod Sorting
 pub mod TrimLaws
