@@ -7,18 +7,19 @@ use mathlib.Core.Bool.{Bool, true, false, not, _&&_, false≢true, and-false}
 use mathlib.Core.List.{List, [], _∷_, _++_, map}
 use lib.ListN.{length}
 use lib.Dec.{eqb}
-use borrow.Author.Tests.{not-true, not-false}
+use borrow.Author.Tests.{not-false}
 use Rattle.rules.specs.Lists.{pick, empty, every, same}
 use Rattle.rules.specs.Bytes.{white, legal, percents}
-use Rattle.rules.specs.Texts.{Text, noText, reads, bare, trim, trimFrom}
+use Rattle.rules.specs.Texts.{Text, trim, trimFrom}
 use Rattle.rules.specs.Columns.{Column, goesOn, longer, lastByte, columnsFrom, fields, comment}
-use Rattle.rules.proofs.Conjunctions.{and-left, and-right, and-both}
-use Rattle.rules.proofs.TrimLaws.{Trimmed, trimmed-nothing, trim-trim, trim-every, trim-length, trim-white}
+use Rattle.rules.proofs.ColumnLaws.{columns-on, columns-last}
+use Rattle.rules.proofs.Conjunctions.{and-left, and-right, and-both, not-true}
+use Rattle.rules.proofs.TrimLaws.{Trimmed, trimmed-nothing, trim-trim, trim-every, trim-length}
 use Rattle.rules.proofs.PrintedLines.{black, solid, field, remark}
 
 -- ---- solid, and of legal bytes
 
-abbrev solidColumn : Column → Bool
+abbrev pub solidColumn : Column → Bool
 solidColumn c = solid (c .text .bytes)
 
 longer-solid : (at b : ℕ) (cs : List Column) → white b ≡ false → every solidColumn cs ≡ true → every solidColumn (longer at b cs) ≡ true
@@ -42,7 +43,7 @@ columns-solid at (b ∷ bs) = by (white b) (goesOn bs) refl (columns-solid (suc 
 abbrev lawful : List ℕ → Bool
 lawful c = every legal c
 
-abbrev lawfulColumn : Column → Bool
+abbrev pub lawfulColumn : Column → Bool
 lawfulColumn c = lawful (c .text .bytes) && lawful (c .after .bytes)
 
 longer-lawful : (at b : ℕ) (cs : List Column) → legal b ≡ true → every lawfulColumn cs ≡ true → every lawfulColumn (longer at b cs) ≡ true
@@ -187,3 +188,26 @@ pub record Begun (at : ℕ) (bs : List ℕ) : Type 0 where
   pub form : columnsFrom at bs ≡ first ∷ others
   pub whole : bs ≡ first .text .bytes ++ first .after .bytes
   pub ends : goesOn (first .after .bytes) ≡ false
+
+pub begun : (at : ℕ) (bs : List ℕ) → goesOn bs ≡ true → Begun at bs
+begun at [] g = absurd (false≢true g)
+begun at (b ∷ bs) g = by (goesOn bs) refl (λ q. begun (suc at) bs q)
+  where
+    by : (t : Bool) → goesOn bs ≡ t → (goesOn bs ≡ true → Begun (suc at) bs) → Begun at (b ∷ bs)
+    by true e more =
+        let s = more e in
+        record {
+          first = record { text = record { start = at; bytes = b ∷ s .first .text .bytes }; after = s .first .after };
+          others = s .others;
+          form = columns-on at b bs (not-true (white b) g) e ∙ ap (longer at b) (s .form);
+          whole = ap (λ (l : List ℕ). b ∷ l) (s .whole);
+          ends = s .ends;
+        }
+    by false e more =
+        record {
+          first = record { text = record { start = at; bytes = b ∷ [] }; after = record { start = suc at; bytes = bs } };
+          others = columnsFrom (suc at) bs;
+          form = columns-last at b bs (not-true (white b) g) e;
+          whole = refl;
+          ends = e;
+        }

@@ -12,7 +12,8 @@ use Rattle.rules.specs.Numbers.{fileLimit}
 use Rattle.rules.specs.Reading.{Handed, Reading, begin, read}
 use Rattle.rules.specs.Survey.{lastEnd, surveyOf}
 use Rattle.rules.proofs.ReadLines.{read-append}
-use Rattle.rules.proofs.Cut.{All, all-weaker, within, within-all, within-none, within-append, Rested, grow, nothing-more, Last, last}
+use Rattle.rules.proofs.Elements.{All, all-weaker}
+use Rattle.rules.proofs.Cut.{within, within-all, within-none, within-append, Rested, grow, nothing-more, Last, last}
 
 module _ (f : List ℕ) (fits : length f ≤ fileLimit) where
   handed-read : surveyOf f .handed ≡ read begin f .handed

@@ -2,10 +2,10 @@
 -- the list. Assumes nothing.
 use Prim.Native.Nat.{ℕ, zero, suc}
 use mathlib.Core.Path.{_≡_, refl, sym, ap, _∙_}
-use mathlib.Core.Bool.{Bool, true, false, _&&_, _||_}
+use mathlib.Core.Bool.{Bool, _||_}
 use mathlib.Core.List.{List, [], _∷_, _++_, map, append-assoc}
-use lib.ListN.{length, drop, set}
-use Rattle.rules.specs.Lists.{every, any, joined}
+use lib.ListN.{drop, set}
+use Rattle.rules.specs.Lists.{any, joined}
 
 module _ {A : Type 0} where
   abbrev pub All : (A → Type 0) → List A → Type 0

@@ -1,38 +1,38 @@
 -- What stands on a #BOS line that was granted is fit to be printed, and read back from the printed line. From the line's
 -- rules, one by one. Assumes nothing.
-use Prim.Native.Nat.{ℕ, suc, _+_, _≤_, _<_}
+use Prim.Native.Nat.{ℕ, _≤_}
 use native.Mathlib.Omega.{arith}
 use mathlib.Core.Path.{_≡_, refl, sym, ap, ap₂, _∙_, subst}
 use mathlib.Core.Bool.{Bool, true, false, not, _&&_, false≢true}
-use mathlib.Core.Option.{Option, none, some}
-use mathlib.Core.List.{List, [], _∷_, _++_, map}
+use mathlib.Core.Option.{Option, some}
+use mathlib.Core.List.{List, [], _∷_, _++_}
 use lib.ListN.{length, drop, getD, length-map}
 use lib.Dec.{ltb}
 use borrow.Author.Tests.{lt-ltb}
-use Rattle.rules.specs.Lists.{pick, empty, every, same, bytes}
+use Rattle.rules.specs.Lists.{empty, every, same, bytes}
 use Rattle.rules.specs.Bytes.{percents, ignored}
-use Rattle.rules.specs.Texts.{Text, noText, bare}
+use Rattle.rules.specs.Texts.{Text, bare}
 use Rattle.rules.specs.Columns.{Column, columns, columnsFrom, written, fields, comment}
 use Rattle.rules.specs.Numbers.{Kind, sentenceNumber, originId, date, number, decimal, signedId, good, value}
 use Rattle.rules.specs.Rules.{Rule, rule, granted}
-use Rattle.rules.specs.Tables.{Tables, origins, editors, present, hasId}
+use Rattle.rules.specs.Tables.{Tables, origins, editors, present}
 use Rattle.rules.specs.Sentences.{Heading, knownEditor, knownOrigin, headingOf}
 use Rattle.rules.specs.Lines.{Answer, refuse, next}
 use Rattle.rules.specs.Meaning.{bareHeading, meantTables}
 use Rattle.rules.specs.Tidy.{space, digitsOf, idDigits}
 use Rattle.rules.proofs.Conjunctions.{and-left, and-right, and-both, not-true}
 use Rattle.rules.proofs.Same.{same-eq}
-use Rattle.rules.proofs.RuleLaws.{holdsOf, holds-granted}
+use Rattle.rules.proofs.RuleLaws.{holds-granted}
 use Rattle.rules.proofs.RulesHeld.{Held, held, hold}
-use Rattle.rules.proofs.Decimal.{id-given, id-not-white, number-read-back, id-read-back, id-one-writing}
+use Rattle.rules.proofs.Decimal.{number-read-back, id-read-back, id-one-writing}
 use Rattle.rules.proofs.TrimLaws.{Trimmed}
 use Rattle.rules.proofs.PrintedLines.{plain, solid, columnBytes, Behind, printed, remark, printed-read, remark-fields, remark-comment, fields-field, comment-field}
 use Rattle.rules.proofs.AnyLine.{bytesOf, comment-trimmed}
 use Rattle.rules.proofs.LineFit.{LineFit, again-fit}
-use Rattle.rules.proofs.NumbersAgain.{good-some, number-again, number-range, id-range}
+use Rattle.rules.proofs.NumbersAgain.{good-some, number-again, number-range, id-range, digits-solid, id-solid}
 use Rattle.rules.proofs.MeantTables.{present-meant, known-editor-meant, known-origin-meant}
 use Rattle.rules.proofs.Steps.{Opened, next-checked}
-use Rattle.rules.proofs.KeywordLines.{written-bytes, digits-solid}
+use Rattle.rules.proofs.KeywordLines.{written-bytes}
 
 abbrev pub headingColumns : Heading → List (List ℕ)
 headingColumns h = digitsOf (h .number) ∷ idDigits (h .editor1) ∷ digitsOf (h .date) ∷ digitsOf (h .origin) ∷ []
@@ -200,9 +200,6 @@ pub record HeadingBack (us : Tables) (used : ℕ → Bool) (line : Text) (h : He
 module _ (us : Tables) (h : Heading) (k : HeadingKept (meantTables us) h) (used : ℕ → Bool) (at : ℕ) where
   abbrev lineBack : Text
   lineBack = record { start = at; bytes = printedHeading h }
-
-  id-solid : (i : ℕ) → solid (idDigits i) ≡ true
-  id-solid i = rw (id-given i) (id-not-white i)
 
   heading-solid : every solid (bytes "#BOS" ∷ headingColumns h) ≡ true
   heading-solid = rw (digits-solid (h .number), id-solid (h .editor1), digits-solid (h .date), digits-solid (h .origin))

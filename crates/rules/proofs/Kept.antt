@@ -1,13 +1,13 @@
 -- What holds wherever a reading stands: the tables, the rows so far, the sentence so far and the sentences handed out are
 -- fit to be printed. Assumes nothing.
 use Prim.Native.Nat.{ℕ, zero, suc, _+_, _≤_, _<_}
-use mathlib.Core.Path.{_≡_, refl, sym, ap, _∙_, subst}
+use mathlib.Core.Path.{_≡_, sym, _∙_, subst}
 use mathlib.Core.Bool.{Bool, true, false, _&&_}
 use mathlib.Core.Option.{Option, none, some}
 use mathlib.Core.List.{List, [], _∷_, _++_, map}
 use native.Mathlib.Nat.{add-zero, add-suc, suc-add}
-use lib.ListN.{length, set, length-set}
-use Rattle.rules.specs.Tables.{Tables, Row, origins, editors, present, closed}
+use lib.ListN.{length, set}
+use Rattle.rules.specs.Tables.{Tables, Row, origins, editors, present}
 use Rattle.rules.specs.Sentences.{Sentence}
 use Rattle.rules.specs.Lines.{Preamble, Phase, start, top, inTable, inSentence, behindSentence, Answer, refuse, go, hand}
 use Rattle.rules.specs.Meaning.{bareRow, sentenceNumberOf, meantTables}

@@ -1,29 +1,28 @@
 -- What every reading keeps, byte by byte, and so what is known of a file that is accepted: its tables and its sentences are
 -- fit to be printed, and what it means is told from them. By one step along the bytes. Assumes nothing.
-use Prim.Native.Nat.{ℕ, zero, suc, _+_, _≤_}
+use Prim.Native.Nat.{ℕ, suc, _≤_}
 use native.Mathlib.Omega.{arith}
 use mathlib.Core.Path.{_≡_, refl, sym, ap, ap₂, _∙_, subst}
-use mathlib.Core.Bool.{Bool, true, false, not, _&&_, false≢true}
+use mathlib.Core.Bool.{Bool, true, false, _&&_}
 use mathlib.Core.Option.{Option, none, some}
-use mathlib.Core.List.{List, [], _∷_, _++_, map}
+use mathlib.Core.List.{List, [], _∷_, map}
 use lib.ListN.{length}
 use lib.Dec.{leb, eqb}
-use borrow.Author.Tests.{leb-true}
-use Rattle.rules.specs.Lists.{pick, any, member, sorted}
+use Rattle.rules.specs.Lists.{pick, member, sorted}
 use Rattle.rules.specs.Bytes.{newline}
 use Rattle.rules.specs.Numbers.{fileLimit}
 use Rattle.rules.specs.Rules.{Fault}
-use Rattle.rules.specs.Tables.{Tables, origins, editors, present}
+use Rattle.rules.specs.Tables.{origins, editors}
 use Rattle.rules.specs.Sentences.{Sentence}
 use Rattle.rules.specs.Lines.{Preamble, Phase, start, top, inTable, inSentence, behindSentence, Answer, refuse, go, hand, step, atEnd, formatAt, tablesAt}
-use Rattle.rules.specs.Reading.{Handed, Reading, begin, line, numbers, ended, longer, later, sound, byteUnless, byte, read, closing, closingUnless, outcome}
+use Rattle.rules.specs.Reading.{Handed, Reading, begin, line, numbers, ended, longer, byteUnless, byte, read, closing, closingUnless, outcome}
 use Rattle.rules.specs.Survey.{Survey, answered, nothingRead, surveyOf}
-use Rattle.rules.specs.Meaning.{Meaning, sentenceNumberOf, meantSentence, meantSentences, meantTables, meaningOf}
-use Rattle.rules.proofs.Elements.{map-append, map-map, any-map}
+use Rattle.rules.specs.Meaning.{Meaning, sentenceNumberOf, meantSentence, meaningOf}
+use Rattle.rules.proofs.Elements.{map-append, any-map}
 use Rattle.rules.proofs.Sorting.{has}
 use Rattle.rules.proofs.MeantTables.{present-meant}
 use Rattle.rules.proofs.SentencesKept.{bareSentence, byNumber, meant-by-number}
-use Rattle.rules.proofs.Kept.{PreambleKept, SentencesKept, both, means, InSentence, BehindSentence, InTable, Kept, KeptAnswer}
+use Rattle.rules.proofs.Kept.{PreambleKept, SentencesKept, both, means, Kept, KeptAnswer}
 use Rattle.rules.proofs.KeptSteps.{step-kept}
 
 -- the sentences handed out, without places

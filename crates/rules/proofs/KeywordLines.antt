@@ -1,36 +1,33 @@
 -- Keyword lines printed and read back: the format, a table's beginning and end, a sentence's end. From the columns of a
 -- printed line. Assumes nothing.
-use Prim.Native.Nat.{ℕ, zero, suc, _+_, _≤_, _<_}
+use Prim.Native.Nat.{ℕ, zero, suc, _≤_, _<_}
 use native.Mathlib.Omega.{arith}
-use mathlib.Core.Path.{_≡_, refl, sym, ap, ap₂, _∙_}
-use mathlib.Core.Bool.{Bool, true, false, not, _&&_, _||_, false≢true}
-use mathlib.Core.Option.{Option, none, some}
-use mathlib.Core.List.{List, [], _∷_, _++_, map}
+use mathlib.Core.Path.{_≡_, refl, sym, ap, _∙_}
+use mathlib.Core.Bool.{Bool, true, false, not, _&&_, _||_}
+use mathlib.Core.Option.{Option, some}
+use mathlib.Core.List.{List, [], _∷_, _++_}
 use lib.ListN.{length, getD, length-map, List·getD-map}
-use lib.Dec.{leb, ltb, eqb}
-use borrow.Author.Tests.{eq-eqb, not-true}
-use Rattle.rules.specs.Lists.{pick, empty, every, bytes}
+use lib.Dec.{ltb, eqb}
+use borrow.Author.Tests.{eq-eqb}
+use Rattle.rules.specs.Lists.{every, bytes}
 use Rattle.rules.specs.Bytes.{legal, ignored}
 use Rattle.rules.specs.Texts.{Text, noText}
 use Rattle.rules.specs.Columns.{Column, columnsFrom, columns, written}
 use Rattle.rules.specs.Numbers.{sentenceNumber, formatNumber, number, good, value}
-use Rattle.rules.specs.Rules.{Rule, rule, granted}
-use Rattle.rules.specs.Tables.{Tables, tableNames, tableNamed, present}
+use Rattle.rules.specs.Rules.{granted}
+use Rattle.rules.specs.Tables.{Tables, tableNamed, present}
 use Rattle.rules.specs.Sentences.{Sentence, gapless, parented, endRules, endOf}
 use Rattle.rules.specs.Keywords.{formatOf, fresh, tableOpened, itself, tableEnded}
 use Rattle.rules.specs.Tidy.{space, digitsOf, tableName}
-use Rattle.rules.proofs.Conjunctions.{and-left, and-right, and-both}
-use Rattle.rules.proofs.RuleLaws.{holdsOf, holds-granted}
-use Rattle.rules.proofs.Decimal.{digits-given, digits-not-white, digits-legal, number-read-back}
-use Rattle.rules.proofs.PrintedLines.{black, solid, columnBytes, Behind, printed, remark, printed-read}
+use Rattle.rules.proofs.Conjunctions.{and-left, and-both}
+use Rattle.rules.proofs.RuleLaws.{holds-granted}
+use Rattle.rules.proofs.Decimal.{digits-legal, number-read-back}
+use Rattle.rules.proofs.PrintedLines.{solid, columnBytes, printed, printed-read}
 use Rattle.rules.proofs.LineFit.{LineFit, printed-fit}
-use Rattle.rules.proofs.NumbersAgain.{digits-five}
+use Rattle.rules.proofs.NumbersAgain.{digits-five, digits-solid}
 
 pub written-bytes : (cs : List Column) (n : ℕ) → written cs n .bytes ≡ getD (columnBytes cs) n []
 written-bytes cs n = sym (List·getD-map (λ (c : Column). c .text .bytes) cs n (record { text = noText; after = noText }))
-
-pub digits-solid : (n : ℕ) → solid (digitsOf n) ≡ true
-digits-solid n = rw (digits-given n) (digits-not-white n)
 
 -- ---- a keyword and one column
 

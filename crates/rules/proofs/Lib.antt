@@ -33,6 +33,8 @@ pub mod RowsKept
 pub mod RowLines
 pub mod SentencesKept
 pub mod Kept
+pub mod FirstColumns
+pub mod KeptNodes
 pub mod KeptSteps
 pub mod KeptReading
 pub mod Stands

@@ -3,20 +3,18 @@
 use Prim.Native.Nat.{ℕ, suc, _+_, _≤_}
 use native.Mathlib.Omega.{arith}
 use mathlib.Core.Path.{_≡_, refl, sym, ap, _∙_}
-use mathlib.Core.Bool.{Bool, true, false, not, _&&_, _||_, false≢true, and-false}
-use mathlib.Core.List.{List, [], _∷_, _++_, map}
+use mathlib.Core.Bool.{true, false, false≢true, and-false}
+use mathlib.Core.List.{List, [], _∷_, _++_}
 use lib.ListN.{length, length-append}
-use lib.Dec.{leb, eqb}
-use borrow.Author.Tests.{not-true, not-false, le-leb, leb-true, ne-eqb}
-use Rattle.rules.specs.Lists.{pick, empty, every, same}
-use Rattle.rules.specs.Bytes.{white, legal, percents, ignored}
-use Rattle.rules.specs.Texts.{Text}
+use lib.Dec.{eqb}
+use borrow.Author.Tests.{not-true, not-false, ne-eqb}
+use Rattle.rules.specs.Lists.{every}
+use Rattle.rules.specs.Bytes.{white, legal, ignored}
 use Rattle.rules.specs.Numbers.{lineLimit}
-use Rattle.rules.specs.Columns.{Column, goesOn, longer, columnsFrom, fields, comment}
-use Rattle.rules.proofs.Conjunctions.{and-left, and-right, and-both, every-append}
-use Rattle.rules.proofs.ColumnLaws.{columns-on, columns-last}
-use Rattle.rules.proofs.PrintedLines.{black, solid, field, tailed, remark, printed, goes-printed}
-use Rattle.rules.proofs.AnyLine.{bytesOf, room, unled, line-room, line-fields-lawful, line-comment-lawful, Begun}
+use Rattle.rules.specs.Columns.{goesOn, columnsFrom, fields, comment}
+use Rattle.rules.proofs.Conjunctions.{and-left, and-right, every-append}
+use Rattle.rules.proofs.PrintedLines.{black, solid, tailed, remark, printed, goes-printed}
+use Rattle.rules.proofs.AnyLine.{bytesOf, room, unled, line-room, line-fields-lawful, line-comment-lawful}
 
 pub record LineFit (l : List ℕ) : Type 0 where
   pub lawful : every legal l ≡ true
@@ -72,31 +70,6 @@ ignored-first (a ∷ []) x s g =
     let e : white a ≡ false = not-true (white a) (and-left (black a) true s) in
     ignored-one a x e g ∙ sym e
 ignored-first (a ∷ b ∷ bs) x s g = rw (not-true (white a) (and-left (black a) (every black (b ∷ bs)) s))
-
--- ---- a line that starts with its first column
-
-pub begun : (at : ℕ) (bs : List ℕ) → goesOn bs ≡ true → Begun at bs
-begun at [] g = absurd (false≢true g)
-begun at (b ∷ bs) g = by (goesOn bs) refl (λ q. begun (suc at) bs q)
-  where
-    by : (t : Bool) → goesOn bs ≡ t → (goesOn bs ≡ true → Begun (suc at) bs) → Begun at (b ∷ bs)
-    by true e more =
-        let s = more e in
-        record {
-          first = record { text = record { start = at; bytes = b ∷ s .first .text .bytes }; after = s .first .after };
-          others = s .others;
-          form = columns-on at b bs (not-true (white b) g) e ∙ ap (longer at b) (s .form);
-          whole = ap (λ (l : List ℕ). b ∷ l) (s .whole);
-          ends = s .ends;
-        }
-    by false e more =
-        record {
-          first = record { text = record { start = at; bytes = b ∷ [] }; after = record { start = suc at; bytes = bs } };
-          others = columnsFrom (suc at) bs;
-          form = columns-last at b bs (not-true (white b) g) e;
-          whole = refl;
-          ends = e;
-        }
 
 -- ---- printed anew
 

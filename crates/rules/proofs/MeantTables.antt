@@ -2,10 +2,10 @@
 -- means: neither places nor the order of origin and editor rows count. Assumes nothing.
 use Prim.Native.Nat.{ℕ, zero, suc}
 use mathlib.Core.Path.{_≡_, refl, sym, ap, ap₂, _∙_}
-use mathlib.Core.Bool.{Bool, true, false, not, _||_}
+use mathlib.Core.Bool.{Bool, not, _||_}
 use mathlib.Core.Option.{Option, none, some}
 use mathlib.Core.List.{List, [], _∷_, map}
-use lib.ListN.{getD, List·getD-map}
+use lib.ListN.{List·getD-map}
 use lib.Dec.{eqb}
 use Rattle.rules.specs.Lists.{any, sorted}
 use Rattle.rules.specs.Texts.{Text, bare, sameBytes}

@@ -1,31 +1,31 @@
 -- A word or a phrase that is fit to be printed is read back from its printed line as the same node. Its rules hold of the
 -- columns that it is printed with, and places don't count. Assumes nothing.
-use Prim.Native.Nat.{ℕ, suc, _+_, _≤_, _<_}
+use Prim.Native.Nat.{ℕ, _+_, _≤_, _<_}
 use native.Mathlib.Omega.{arith}
 use mathlib.Core.Path.{_≡_, refl, sym, ap, ap₂, _∙_, subst}
-use mathlib.Core.Bool.{Bool, true, false, not, _&&_}
-use mathlib.Core.Option.{Option, some}
+use mathlib.Core.Bool.{true, false, not}
 use mathlib.Core.List.{List, [], _∷_, _++_, map}
 use lib.ListN.{length, drop, length-map}
-use Rattle.rules.specs.Lists.{pick, empty, every, same, bytes}
+use Rattle.rules.specs.Lists.{empty, every, same, bytes}
 use Rattle.rules.specs.Bytes.{newline, percents}
-use Rattle.rules.specs.Texts.{Text, noText, bare, reads}
+use Rattle.rules.specs.Texts.{Text, noText, bare}
 use Rattle.rules.specs.Columns.{columns, text, fields, comment}
 use Rattle.rules.specs.Numbers.{wordLimit, edgeLimit, phraseNumber, number}
 use Rattle.rules.specs.Rules.{granted}
 use Rattle.rules.specs.Tables.{Tables, wordTags, nodeTags}
-use Rattle.rules.specs.Sentences.{Edge, Node, Sentence, edgesOf, listed}
+use Rattle.rules.specs.Sentences.{Node, Sentence, edgesOf, listed}
 use Rattle.rules.specs.Nodes.{itsPairs, asEdge, nodeOf, wordOf, phraseOf}
 use Rattle.rules.specs.Keywords.{startsWord, startsPhrase}
-use Rattle.rules.specs.Lines.{Preamble, Phase, inSentence, Answer, go, next, withWord, withPhrase, amongNodes, lineAt, step}
+use Rattle.rules.specs.Lines.{Preamble, Phase, inSentence, go, next, withWord, withPhrase, amongNodes, lineAt, step}
 use Rattle.rules.specs.Meaning.{bareEdge, bareNode, meantTables}
 use Rattle.rules.specs.Tidy.{tab, nodeName, nodeLine}
 use Rattle.rules.proofs.Conjunctions.{and-left}
-use Rattle.rules.proofs.PrintedLines.{plain, solid, field, printed, printed-fields, printed-comment, parted-printed}
+use Rattle.rules.proofs.PrintedLines.{plain, solid, field, printed-fields, printed-comment, parted-printed}
 use Rattle.rules.proofs.PlacelessNodes.{NodeHolds, text-bare, holds-placed, node-placeless}
 use Rattle.rules.proofs.NodesKept.{tailColumns, nodeColumns, printedNode, NodeKept, WordKept, PhraseKept}
 use Rattle.rules.proofs.NodeLines.{WordHolds, wordRead, word-granted, PhraseHolds, phraseRead, phrase-granted}
 use Rattle.rules.proofs.Kept.{means}
+use Rattle.rules.proofs.Steps.{pick-true, pick-false}
 use Rattle.rules.proofs.Stands.{step-printed}
 
 pub node-printed : (n : Node) → nodeLine n ≡ printedNode n ++ (newline ∷ [])
@@ -90,24 +90,12 @@ module _ (p : Preamble) (s : Sentence) (used : List ℕ) (at : ℕ) (n : Node) (
       → lineAt (inSentence p s) used lineBack firstBack ≡ go (inSentence p (moreWord s q))
   unfolding lineAt amongNodes
   word-taken q a b c e = pick-false _ _ _ a ∙ pick-false _ _ _ b ∙ pick-true _ _ _ c ∙ ap (next (withWord lineBack firstBack p s)) e
-    where
-      pick-false : (t : Bool) (x y : Answer) → t ≡ false → pick t x y ≡ y
-      pick-false t x y e = rw e
-
-      pick-true : (t : Bool) (x y : Answer) → t ≡ true → pick t x y ≡ x
-      pick-true t x y e = rw e
 
   phrase-taken : (q : Node) → same (nodeName n) (bytes "#EOS") ≡ false → startsPhrase firstBack ≡ true
       → phraseOf (p .tables) (listed (s .phrases)) (edgesOf s) lineBack ≡ granted q
       → lineAt (inSentence p s) used lineBack firstBack ≡ go (inSentence p (morePhrase s q))
   unfolding lineAt amongNodes
   phrase-taken q a b e = pick-false _ _ _ a ∙ pick-true _ _ _ b ∙ ap (next (withPhrase lineBack firstBack p s)) e
-    where
-      pick-false : (t : Bool) (x y : Answer) → t ≡ false → pick t x y ≡ y
-      pick-false t x y e = rw e
-
-      pick-true : (t : Bool) (x y : Answer) → t ≡ true → pick t x y ≡ x
-      pick-true t x y e = rw e
 
   pub word-back : WordKept (means p) n → empty (s .phrases) ≡ true → n .number ≡ length (s .words) → length (s .words) < wordLimit → NodeBack p s (moreWord s) used at n
   word-back k none-yet e few =

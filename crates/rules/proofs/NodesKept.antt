@@ -1,26 +1,25 @@
 -- A node that was read from a line is fit to be printed: its rules hold of the very columns that it is printed with, and
 -- its printed line may stand. From the line that was granted. Assumes nothing.
-use Prim.Native.Nat.{ℕ, suc, _+_, _≤_}
-use native.Mathlib.Omega.{arith}
+use Prim.Native.Nat.{ℕ}
 use mathlib.Core.Path.{_≡_, refl, sym, ap, ap₂, _∙_, subst}
-use mathlib.Core.Bool.{Bool, true, false, not, _&&_, _||_, false≢true}
-use mathlib.Core.Option.{Option, none, some}
-use mathlib.Core.List.{List, [], _∷_, _++_, map}
+use mathlib.Core.Bool.{true, false, false≢true}
+use mathlib.Core.Option.{some}
+use mathlib.Core.List.{List, [], _∷_, map}
 use lib.ListN.{length, drop}
-use lib.Dec.{leb, ltb, eqb}
-use Rattle.rules.specs.Lists.{pick, empty, every, same, bytes, joined}
-use Rattle.rules.specs.Bytes.{white, legal, ignored}
-use Rattle.rules.specs.Texts.{Text, noText, given, bare}
-use Rattle.rules.specs.Columns.{Column, goesOn, columns, columnsFrom, fields, comment, text}
+use lib.Dec.{leb}
+use Rattle.rules.specs.Lists.{every, same, bytes, joined}
+use Rattle.rules.specs.Bytes.{ignored}
+use Rattle.rules.specs.Texts.{Text, noText, bare}
+use Rattle.rules.specs.Columns.{columns, fields, comment, text}
 use Rattle.rules.specs.Numbers.{phraseNumber, number, parentNumber, good, value}
-use Rattle.rules.specs.Rules.{Rule, rule}
+use Rattle.rules.specs.Rules.{rule}
 use Rattle.rules.specs.Tables.{Tables, wordTags, nodeTags}
-use Rattle.rules.specs.Sentences.{Edge, Node}
-use Rattle.rules.specs.Nodes.{Pair, pairs, paired, secondaryParent, asEdge, itsParent, itsPairs, nodeOf, shaped, parentsWritten}
+use Rattle.rules.specs.Sentences.{Node}
+use Rattle.rules.specs.Nodes.{Pair, pairs, paired, secondaryParent, asEdge, nodeOf, shaped, parentsWritten}
 use Rattle.rules.specs.Keywords.{startsWord, startsPhrase}
 use Rattle.rules.specs.Meaning.{bareEdge, bareNode, meantTables}
-use Rattle.rules.specs.Tidy.{digitsOf, tab, commented, nodeName, edgeColumns, nodeLine}
-use Rattle.rules.proofs.Conjunctions.{and-left, and-right, and-both}
+use Rattle.rules.specs.Tidy.{digitsOf, tab, nodeName, edgeColumns}
+use Rattle.rules.proofs.Conjunctions.{and-left, and-right}
 use Rattle.rules.proofs.RuleLaws.{holdsOf}
 use Rattle.rules.proofs.Elements.{map-map}
 use Rattle.rules.proofs.TrimLaws.{Trimmed}

@@ -2,8 +2,8 @@
 -- Assumes nothing.
 use Prim.Native.Nat.{ℕ, zero, suc, _+_, _*_, _/_, _%_, _≤_, _<_}
 use native.Mathlib.Omega.{arith}
-use mathlib.Core.Path.{_≡_, refl, sym, ap, _∙_}
-use mathlib.Core.Bool.{Bool, true, false, not, _&&_, false≢true}
+use mathlib.Core.Path.{_≡_, refl, ap, _∙_}
+use mathlib.Core.Bool.{Bool, true, false, false≢true}
 use mathlib.Core.Option.{Option, none, some}
 use mathlib.Core.List.{List, [], _∷_, _++_}
 use lib.ListN.{length, length-append}
@@ -13,7 +13,8 @@ use Rattle.rules.specs.Lists.{pick, between, same, bytes}
 use Rattle.rules.specs.Numbers.{Kind, idPlusOne, decimal, within, plusOne, number, phraseNumber, zeroOr, parentNumber, signedId, good, value}
 use Rattle.rules.specs.Tidy.{digitsWithin, digitsOf, idDigits}
 use Rattle.rules.proofs.Conjunctions.{and-left, and-right}
-use Rattle.rules.proofs.Decimal.{digits-read-back, digits-one-writing, id-one-writing}
+use Rattle.rules.proofs.Decimal.{digits-one-writing, digits-given, id-given, digits-not-white, id-not-white}
+use Rattle.rules.proofs.PrintedLines.{solid}
 
 pub good-some : (o : Option ℕ) → good o ≡ true → o ≡ some (value o)
 good-some none e = absurd (false≢true e)
@@ -83,3 +84,11 @@ digits-five n h = digits-few n 4 n h
 pub id-five : (i : ℕ) → i ≤ 65536 → length (idDigits i) ≤ 5
 id-five zero h = omega arith
 id-five (suc i) h = digits-five i (omega arith)
+
+-- ---- a number is a column
+
+pub digits-solid : (n : ℕ) → solid (digitsOf n) ≡ true
+digits-solid n = rw (digits-given n) (digits-not-white n)
+
+pub id-solid : (i : ℕ) → solid (idDigits i) ≡ true
+id-solid i = rw (id-given i) (id-not-white i)

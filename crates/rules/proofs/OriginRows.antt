@@ -1,18 +1,18 @@
 -- A row of ORIGIN that was granted is fit to be printed, and read back from the printed line. From the line's rules, one
 -- by one. Assumes nothing.
-use Prim.Native.Nat.{ℕ, zero, suc, _+_, _≤_, _<_}
+use Prim.Native.Nat.{ℕ, suc, _+_, _≤_, _<_}
 use native.Mathlib.Omega.{arith}
-use mathlib.Core.Path.{_≡_, refl, sym, ap, ap₂, _∙_, subst}
-use mathlib.Core.Bool.{Bool, true, false, not, _&&_, false≢true}
-use mathlib.Core.Option.{Option, none, some}
+use mathlib.Core.Path.{_≡_, refl, sym, ap, _∙_, subst}
+use mathlib.Core.Bool.{true, false, not, false≢true}
+use mathlib.Core.Option.{Option, some}
 use mathlib.Core.List.{List, [], _∷_, _++_, append-nil}
-use lib.ListN.{length, getD}
-use lib.Dec.{leb, ltb}
+use lib.ListN.{length}
+use lib.Dec.{leb}
 use borrow.Author.Tests.{ltb-true, lt-ltb, leb-true, le-leb}
-use Rattle.rules.specs.Lists.{pick, empty, every}
-use Rattle.rules.specs.Bytes.{white, legal}
-use Rattle.rules.specs.Texts.{Text, noText, given, bare, atMost, trim, trimFrom, rightTrim, frontBytes, behindFrom, inFront, behind}
-use Rattle.rules.specs.Columns.{Column, columns, columnsFrom, column}
+use Rattle.rules.specs.Lists.{empty, every}
+use Rattle.rules.specs.Bytes.{legal}
+use Rattle.rules.specs.Texts.{Text, given, atMost, trim, trimFrom, frontBytes, behindFrom, inFront, behind}
+use Rattle.rules.specs.Columns.{Column, columns, column}
 use Rattle.rules.specs.Numbers.{rowLimit, originId, number, good, value}
 use Rattle.rules.specs.Rules.{Rule, rule, granted}
 use Rattle.rules.specs.Tables.{Row, hasId}
@@ -20,18 +20,17 @@ use Rattle.rules.specs.Rows.{roomFor, originRow}
 use Rattle.rules.specs.Lines.{Answer, refuse, next}
 use Rattle.rules.specs.Keywords.{leadingWhite}
 use Rattle.rules.specs.Meaning.{bareRow}
-use Rattle.rules.specs.Tidy.{tab, digitsOf, idDigits}
-use Rattle.rules.proofs.Conjunctions.{and-left, and-right, and-both, not-true}
+use Rattle.rules.specs.Tidy.{tab, idDigits}
+use Rattle.rules.proofs.Conjunctions.{not-true}
 use Rattle.rules.proofs.RuleLaws.{holds-granted}
 use Rattle.rules.proofs.RulesHeld.{Held, held, hold}
 use Rattle.rules.proofs.Decimal.{id-legal, number-read-back}
 use Rattle.rules.proofs.TrimLaws.{Trimmed, trim-white, trim-begun, trim-trimmed, trim-trim, trim-every, right-trim-white}
-use Rattle.rules.proofs.PrintedLines.{plain, solid, tailed, remark, printed, printed-columns}
-use Rattle.rules.proofs.AnyLine.{room}
+use Rattle.rules.proofs.PrintedLines.{plain, tailed, remark, printed, printed-columns}
 use Rattle.rules.proofs.LineFit.{LineFit, printed-fit}
-use Rattle.rules.proofs.NumbersAgain.{good-some, number-range, digits-five}
+use Rattle.rules.proofs.NumbersAgain.{good-some, number-range, digits-five, id-solid}
 use Rattle.rules.proofs.PercentPairs.{pairless, front-whole, behind-nothing, front-cut, behind-cut, pairless-tab, front-pairless, trim-pairless, front-every, behind-every}
-use Rattle.rules.proofs.RowTexts.{id-solid, id-seen, Described, described, Legal}
+use Rattle.rules.proofs.RowTexts.{id-seen, Described, described, RowBack}
 use Rattle.rules.proofs.Steps.{next-checked}
 
 pub record OriginKept (r : Row) : Type 0 where
@@ -138,11 +137,6 @@ note-back at n (b ∷ bs) p t =
     ap (λ (l : List ℕ). trimFrom (x .start) l .bytes) (behind-cut at (tab ∷ n) (tab ∷ b ∷ bs) (pairless-tab n p))
     ∙ ap (λ (y : Text). y .bytes) (trim-white (x .start) tab (b ∷ bs) refl)
     ∙ trim-trimmed (suc (x .start)) (b ∷ bs) t
-
-pub record RowBack (answer : Row → Type 0) (r : Row) : Type 0 where
-  pub read : Row
-  pub same : bareRow read ≡ r
-  pub granted : answer read
 
 module _ (rs : List Row) (r : Row) (k : OriginKept r) (at : ℕ) where
   abbrev lineBack : Text

@@ -1,14 +1,14 @@
 -- Laws of the cut at the first two adjacent percent signs: what stands in front of them has none, and a text that has none
 -- is cut just at the %% printed behind it. By one step along the bytes. Assumes nothing.
 use Prim.Native.Nat.{ℕ, suc}
-use mathlib.Core.Path.{_≡_, refl, sym, ap, _∙_}
+use mathlib.Core.Path.{_≡_, refl, ap}
 use mathlib.Core.Bool.{Bool, true, false, not, _&&_, and-false}
 use mathlib.Core.List.{List, [], _∷_, _++_}
 use lib.Dec.{eqb}
 use borrow.Author.Tests.{not-true}
-use Rattle.rules.specs.Lists.{pick, every, same}
-use Rattle.rules.specs.Bytes.{white, percents}
-use Rattle.rules.specs.Texts.{Text, noText, unlessWhite, rightTrim, trimFrom, startsComment, frontBytes, behindFrom}
+use Rattle.rules.specs.Lists.{pick, every}
+use Rattle.rules.specs.Bytes.{white}
+use Rattle.rules.specs.Texts.{noText, unlessWhite, rightTrim, trimFrom, startsComment, frontBytes, behindFrom}
 use Rattle.rules.specs.Tidy.{tab}
 use Rattle.rules.proofs.Conjunctions.{and-left, and-right, and-both}
 

@@ -1,19 +1,18 @@
 -- Whether the rules of a node hold, and what the node is, depends on the bytes of its fields and on what the tables mean,
 -- not on places. Rule by rule, along the pairs. Assumes nothing.
-use Prim.Native.Nat.{ℕ, suc, _+_}
-use mathlib.Core.Path.{_≡_, refl, sym, ap, ap₂, _∙_, subst}
-use mathlib.Core.Bool.{Bool, true, false, not, _&&_}
-use mathlib.Core.List.{List, [], _∷_, _++_, map}
+use Prim.Native.Nat.{ℕ}
+use mathlib.Core.Path.{_≡_, refl, sym, ap, ap₂, _∙_}
+use mathlib.Core.Bool.{Bool, true, _&&_}
+use mathlib.Core.List.{List, [], _∷_, map}
 use lib.ListN.{length, drop, length-map, List·getD-map}
 use lib.Dec.{leb, ltb, eqb}
 use Rattle.rules.specs.Lists.{pick, every}
 use Rattle.rules.specs.Texts.{Text, noText, bare, reads, atMost}
 use Rattle.rules.specs.Columns.{text}
 use Rattle.rules.specs.Numbers.{good, value}
-use Rattle.rules.specs.Rules.{Rule, rule}
+use Rattle.rules.specs.Rules.{Rule}
 use Rattle.rules.specs.Tables.{Tables, morphTags, edgeTags, secEdgeTags, dashes, known, tagLimit}
-use Rattle.rules.specs.Sentences.{Edge, Node}
-use Rattle.rules.specs.Nodes.{tagField, morphologyField, edgeField, parentField, pairsField, Pair, pairs, paired, secondaryParent, asEdge, itsTag, itsMorphology, itsEdge, itsParent, itsPairs, nodeOf, shaped, parentsWritten, tagsShort, tagsKnown, parentsRise, roomy}
+use Rattle.rules.specs.Nodes.{tagField, morphologyField, edgeField, parentField, pairsField, Pair, pairs, paired, asEdge, itsTag, itsMorphology, itsEdge, itsParent, itsPairs, nodeOf, shaped, parentsWritten, tagsShort, tagsKnown, parentsRise}
 use Rattle.rules.specs.Meaning.{bareEdge, bareNode, meantTables}
 use Rattle.rules.proofs.RuleLaws.{holdsOf}
 use Rattle.rules.proofs.Elements.{map-map, drop-map}

@@ -9,12 +9,12 @@ use lib.ListN.{length, drop}
 use borrow.Author.Tests.{not-true}
 use Rattle.rules.specs.Lists.{pick, empty, every, any, same}
 use Rattle.rules.specs.Bytes.{newline, white, percents}
-use Rattle.rules.specs.Texts.{Text, noText, given, bare, reads, trim, trimFrom}
+use Rattle.rules.specs.Texts.{Text, bare, trim}
 use Rattle.rules.specs.Columns.{Column, goesOn, columnsFrom, texts, fields, comment}
 use Rattle.rules.specs.Tidy.{parted, commented}
-use Rattle.rules.proofs.Conjunctions.{and-left, and-right, and-both}
+use Rattle.rules.proofs.Conjunctions.{and-left, and-right}
 use Rattle.rules.proofs.ColumnLaws.{columnOf, columns-white, columns-run}
-use Rattle.rules.proofs.TrimLaws.{Trimmed, trim-white, trim-trimmed, trimmed-nothing, trim-trim}
+use Rattle.rules.proofs.TrimLaws.{Trimmed, trim-white, trim-trimmed}
 
 -- a text without its place
 abbrev pub plain : List ℕ → Text

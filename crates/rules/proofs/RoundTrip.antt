@@ -1,39 +1,36 @@
 -- Demand 2: the tidy text written for an accepted file is accepted and has the same tables and sentences. What a reading
 -- keeps is fit to be printed, and what is fit is read back. Assumes nothing.
-use Prim.Native.Nat.{ℕ, zero, suc, _+_, _≤_}
+use Prim.Native.Nat.{ℕ, suc, _≤_}
 use native.Mathlib.Omega.{arith}
 use mathlib.Core.Path.{_≡_, refl, sym, ap, ap₂, _∙_, subst}
-use mathlib.Core.Logic.{_⊎_, inl, inr}
-use mathlib.Core.Bool.{Bool, true, false, _&&_}
-use mathlib.Core.Option.{Option, none, some}
+use mathlib.Core.Bool.{true, false, _&&_}
+use mathlib.Core.Option.{none}
 use mathlib.Core.List.{List, [], _∷_, _++_, map}
 use lib.ListN.{length, replicate, length-map}
-use lib.Dec.{leb, eqb}
+use lib.Dec.{eqb}
 use borrow.Author.Tests.{le-leb}
-use Rattle.rules.specs.Lists.{pick, any, bytes, joined, sorted}
-use Rattle.rules.specs.Bytes.{newline, ignored}
-use Rattle.rules.specs.Texts.{Text}
+use Rattle.rules.specs.Lists.{bytes, joined, sorted}
+use Rattle.rules.specs.Bytes.{ignored}
 use Rattle.rules.specs.Numbers.{fileLimit}
-use Rattle.rules.specs.Tables.{Tables, Row, origins, editors, present, noTables}
+use Rattle.rules.specs.Tables.{Tables, origins, editors, noTables}
 use Rattle.rules.specs.Sentences.{Sentence}
-use Rattle.rules.specs.Keywords.{formatOf}
-use Rattle.rules.specs.Lines.{Preamble, Phase, start, top, behindSentence, go, next, atStart, lineAt, step, formatAt, tablesAt}
-use Rattle.rules.specs.Reading.{Handed, Reading, begin, numbers, read, outcome}
-use Rattle.rules.specs.Survey.{Survey, answered, surveyOf}
-use Rattle.rules.specs.Meaning.{Meaning, meantRows, byId, nodeNumber, sentenceNumberOf, meantTables, meaningOf}
+use Rattle.rules.specs.Lines.{Preamble, start, top, behindSentence, go, next, atStart, lineAt, step, formatAt, tablesAt}
+use Rattle.rules.specs.Reading.{Reading, begin, numbers, read, outcome}
+use Rattle.rules.specs.Survey.{Survey, surveyOf}
+use Rattle.rules.specs.Meaning.{Meaning, meantRows, nodeNumber, sentenceNumberOf, meantTables, meaningOf}
 use Rattle.rules.specs.Tidy.{space, digitsOf, keywordLine, tablesText, sentenceText, tidyText}
 use Rattle.rules.specs.Writing.{tidyOf}
 use Rattle.rules.proofs.ReadLines.{read-append}
 use Rattle.rules.proofs.Elements.{All, any-map}
-use Rattle.rules.proofs.Sorting.{has, Distinct, Rising, all-sorted, rising-from-zero, sorted-sorted, map-sorted}
+use Rattle.rules.proofs.Sorting.{Distinct, Rising, all-sorted, rising-from-zero, sorted-sorted, map-sorted}
 use Rattle.rules.proofs.PrintedLines.{parted-plain}
 use Rattle.rules.proofs.LineFit.{LineFit}
 use Rattle.rules.proofs.KeywordLines.{keyed, keyed-number-fit, format-granted}
 use Rattle.rules.proofs.MeantTables.{present-meant, same-meaning}
 use Rattle.rules.proofs.SentencesKept.{byNumber, SentenceKept, sentence-sorted}
-use Rattle.rules.proofs.Kept.{TablesKept, PreambleKept, SentencesKept, both, means}
-use Rattle.rules.proofs.KeptReading.{bares, FileKept, meantBy, reading-meaning, survey-read, AcceptedKept, accepted-kept}
-use Rattle.rules.proofs.Stands.{Stands, lineOf, line-go, step-printed}
+use Rattle.rules.proofs.Kept.{PreambleKept, both, means}
+use Rattle.rules.proofs.KeptReading.{bares, FileKept, meantBy, reading-meaning, survey-read, accepted-kept}
+use Rattle.rules.proofs.Stands.{Stands, line-go, step-printed}
 use Rattle.rules.proofs.TablesBack.{blanks, TablesRead, tables-read, tables-printed}
 use Rattle.rules.proofs.SentencesBack.{all-sentences-read}
 

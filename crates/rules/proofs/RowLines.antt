@@ -1,37 +1,37 @@
 -- A row's line in its table, whichever that is: a row that was granted is fit to be printed, and a row that is fit is read
 -- back from its printed line. By the kind of the table. Assumes nothing.
-use Prim.Native.Nat.{ℕ, zero, suc, _+_, _≤_, _<_}
+use Prim.Native.Nat.{ℕ, zero, suc, _≤_, _<_}
 use native.Mathlib.Omega.{arith}
-use mathlib.Core.Path.{_≡_, refl, sym, ap, ap₂, _∙_, subst}
-use mathlib.Core.Bool.{Bool, true, false, not, _&&_, false≢true}
-use mathlib.Core.Option.{Option, none, some}
+use mathlib.Core.Path.{_≡_, refl, sym, ap, _∙_}
+use mathlib.Core.Bool.{true, false, _&&_}
+use mathlib.Core.Option.{Option}
 use mathlib.Core.List.{List, [], _∷_, _++_, map}
 use lib.ListN.{length, length-map}
 use lib.Dec.{eqb}
 use borrow.Author.Tests.{ne-eqb}
-use Rattle.rules.specs.Lists.{pick, empty, every, same, bytes}
+use Rattle.rules.specs.Lists.{every, same, bytes}
 use Rattle.rules.specs.Bytes.{newline, digit, legal}
-use Rattle.rules.specs.Texts.{Text, noText, bare, reads, sameBytes}
+use Rattle.rules.specs.Texts.{Text, bare, sameBytes}
 use Rattle.rules.specs.Columns.{Column, columns, column}
 use Rattle.rules.specs.Numbers.{rowLimit}
 use Rattle.rules.specs.Rules.{Rule, granted}
-use Rattle.rules.specs.Tables.{Row, origins, editors, wordTags, hasId, hasTag}
-use Rattle.rules.specs.Rows.{lastId, follows, originRow, editorRow, tagRow, rowOf}
+use Rattle.rules.specs.Tables.{Row, wordTags, hasId, hasTag}
+use Rattle.rules.specs.Rows.{lastId, follows, rowOf}
 use Rattle.rules.specs.Keywords.{startsRow}
 use Rattle.rules.specs.Lines.{Answer, refuse, next}
 use Rattle.rules.specs.Meaning.{bareRow}
-use Rattle.rules.specs.Tidy.{tab, digitsOf, idDigits, commented, flagText, rowLine, parted}
+use Rattle.rules.specs.Tidy.{tab, idDigits, rowLine}
 use Rattle.rules.proofs.Conjunctions.{and-left, and-right}
-use Rattle.rules.proofs.Decimal.{digits-written, id-legal}
-use Rattle.rules.proofs.PrintedLines.{plain, solid, printed, parted-printed, parted-plain}
-use Rattle.rules.proofs.AnyLine.{columns-lawful}
+use Rattle.rules.proofs.Decimal.{digits-written}
+use Rattle.rules.proofs.PrintedLines.{plain, parted-printed, parted-plain}
+use Rattle.rules.proofs.AnyLine.{lawfulColumn, columns-lawful}
 use Rattle.rules.proofs.LineFit.{LineFit}
 use Rattle.rules.proofs.MeantTables.{any-bare}
-use Rattle.rules.proofs.RowTexts.{digits-start}
-use Rattle.rules.proofs.OriginRows.{OriginKept, RowBack, printedOrigin, origin-cases, origin-fit, origin-back}
-use Rattle.rules.proofs.EditorRows.{EditorKept, printedEditor, editor-cases, editor-fit, editor-back}
-use Rattle.rules.proofs.TagRows.{TagKept, tagColumns, printedTag, tag-cases, tag-fit, tag-back}
-use Rattle.rules.proofs.RowsKept.{RowOwn, RowNew, RowKept}
+use Rattle.rules.proofs.RowTexts.{digits-start, RowBack}
+use Rattle.rules.proofs.OriginRows.{printedOrigin, origin-cases, origin-fit, origin-back}
+use Rattle.rules.proofs.EditorRows.{printedEditor, editor-cases, editor-fit, editor-back}
+use Rattle.rules.proofs.TagRows.{tagColumns, printedTag, tag-cases, tag-fit, tag-back}
+use Rattle.rules.proofs.RowsKept.{RowOwn, RowKept}
 
 -- ---- rows in front, without their places
 
@@ -54,11 +54,11 @@ last-id-bare (r ∷ q ∷ rs) = last-id-bare (q ∷ rs)
 
 -- ---- from a line that was granted
 
-after-lawful : (cs : List Column) → every (λ (c : Column). every legal (c .text .bytes) && every legal (c .after .bytes)) cs ≡ true → every legal (column cs 0 .after .bytes) ≡ true
+after-lawful : (cs : List Column) → every lawfulColumn cs ≡ true → every legal (column cs 0 .after .bytes) ≡ true
 after-lawful [] e = refl
 after-lawful (c ∷ cs) e =
     and-right (every legal (c .text .bytes)) (every legal (c .after .bytes))
-    (and-left (every legal (c .text .bytes) && every legal (c .after .bytes)) (every (λ (c : Column). every legal (c .text .bytes) && every legal (c .after .bytes)) cs) e)
+    (and-left (every legal (c .text .bytes) && every legal (c .after .bytes)) (every lawfulColumn cs) e)
 
 module _ (P : Answer → Type 0) (bad : (r : Rule) → 1 ≤ r .number → P (refuse r)) (a : Row → Answer) (rs : List Row) (line : Text) (l : every legal (line .bytes) ≡ true) where
   few-bare : length rs < rowLimit → length (map bareRow rs) < rowLimit

@@ -1,30 +1,28 @@
 -- The texts of a row: its id, columns of its own, and a text up to the line's end without white bytes at its ends. What
 -- they are in a line that was granted, and that they are read back from a printed line. Assumes nothing.
-use Prim.Native.Nat.{ℕ, zero, suc, _+_, _≤_, _<_}
+use Prim.Native.Nat.{ℕ, zero, suc, _≤_}
 use native.Mathlib.Omega.{arith}
 use native.Mathlib.Nat.{le-of-suc-le-suc}
-use mathlib.Core.Path.{_≡_, refl, sym, ap, _∙_}
-use mathlib.Core.Bool.{Bool, true, false, not, _&&_, _||_, false≢true}
+use mathlib.Core.Path.{_≡_, refl, ap, _∙_}
+use mathlib.Core.Bool.{true, false, not, false≢true}
 use mathlib.Core.List.{List, [], _∷_, _++_, append-nil}
-use lib.ListN.{length, getD}
-use lib.Dec.{leb, eqb}
-use borrow.Author.Tests.{leb-true, ne-eqb, not-true}
-use Rattle.rules.specs.Lists.{pick, empty, every, same}
-use Rattle.rules.specs.Bytes.{white, digit, legal, percents, ignored}
-use Rattle.rules.specs.Texts.{Text, noText, given, atMost, trim, trimFrom}
-use Rattle.rules.specs.Columns.{Column, columns, columnsFrom, column}
+use lib.ListN.{length}
+use lib.Dec.{eqb}
+use borrow.Author.Tests.{leb-true, ne-eqb}
+use Rattle.rules.specs.Lists.{empty, every}
+use Rattle.rules.specs.Bytes.{digit, legal, ignored}
+use Rattle.rules.specs.Texts.{Text, given, atMost, trim, trimFrom}
+use Rattle.rules.specs.Columns.{Column, columns, column}
 use Rattle.rules.specs.Tables.{Row}
-use Rattle.rules.specs.Tidy.{tab, digitsOf, idDigits}
-use Rattle.rules.proofs.Conjunctions.{and-left, and-right, and-both}
-use Rattle.rules.proofs.Decimal.{Written, digits-written, digit-range, id-given, id-not-white}
+use Rattle.rules.specs.Meaning.{bareRow}
+use Rattle.rules.specs.Tidy.{tab, idDigits}
+use Rattle.rules.proofs.Conjunctions.{and-left, and-right}
+use Rattle.rules.proofs.Decimal.{digits-written, digit-range}
 use Rattle.rules.proofs.TrimLaws.{Trimmed, trim-white, trim-trimmed, trim-trim, trim-every}
 use Rattle.rules.proofs.PrintedLines.{solid, tailed}
-use Rattle.rules.proofs.AnyLine.{columns-solid, columns-lawful}
+use Rattle.rules.proofs.AnyLine.{solidColumn, lawfulColumn, columns-solid, columns-lawful}
 
 -- ---- ids
-
-pub id-solid : (i : ℕ) → solid (idDigits i) ≡ true
-id-solid i = rw (id-given i) (id-not-white i)
 
 digits-seen : (d : ℕ) (ds : List ℕ) → digit d ≡ true → ignored (d ∷ ds) ≡ false
 unfolding ignored
@@ -54,12 +52,6 @@ pub record Legal (c : Column) : Type 0 where
   pub solid : solid (c .text .bytes) ≡ true
   pub lawful : every legal (c .text .bytes) ≡ true
   pub after : every legal (c .after .bytes) ≡ true
-
-abbrev solidColumn : Column → Bool
-solidColumn c = solid (c .text .bytes)
-
-abbrev lawfulColumn : Column → Bool
-lawfulColumn c = every legal (c .text .bytes) && every legal (c .after .bytes)
 
 -- where a column has a text behind it, the columns in front of it are there
 there : (cs : List Column) (j k : ℕ) → j ≤ k → every solidColumn cs ≡ true → every lawfulColumn cs ≡ true → given (trim (column cs k .after)) ≡ true → Legal (column cs j)
@@ -100,3 +92,9 @@ described limit t l g s =
 pub last-text : (at : ℕ) (xs : List ℕ) → Trimmed xs → trimFrom at (tailed tab (xs ∷ []) []) .bytes ≡ xs
 unfolding tailed
 last-text at xs t = ap (λ (x : Text). x .bytes) (trim-white at tab (xs ++ []) refl) ∙ ap (λ (l : List ℕ). trimFrom (suc at) l .bytes) (append-nil xs) ∙ trim-trimmed (suc at) xs t
+
+-- a row that is the same without places, and the answer that it is read with
+pub record RowBack (answer : Row → Type 0) (r : Row) : Type 0 where
+  pub read : Row
+  pub same : bareRow read ≡ r
+  pub granted : answer read

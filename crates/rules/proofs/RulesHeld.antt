@@ -1,6 +1,6 @@
 -- Rules that hold together hold one by one. Assumes nothing.
 use mathlib.Core.Path.{_≡_, refl}
-use mathlib.Core.Bool.{true, _&&_}
+use mathlib.Core.Bool.{true}
 use mathlib.Core.List.{List, [], _∷_}
 use Rattle.rules.specs.Lists.{every}
 use Rattle.rules.specs.Rules.{Rule}

@@ -1,34 +1,33 @@
 -- The printed sentences are read back: each one's heading, words, phrases and end, and the sentences by number. By one
 -- step along the words, the phrases and the sentences. Assumes nothing.
-use Prim.Native.Nat.{ℕ, zero, suc, _+_, _≤_, _<_}
+use Prim.Native.Nat.{ℕ, suc, _+_, _≤_, _<_}
 use native.Mathlib.Omega.{arith}
 use mathlib.Core.Path.{_≡_, refl, sym, ap, ap₂, _∙_, subst}
-use mathlib.Core.Bool.{Bool, true, false, not}
+use mathlib.Core.Bool.{Bool, true, false}
 use mathlib.Core.List.{List, [], _∷_, _++_, map, append-assoc, append-nil}
 use lib.ListN.{length, length-append, length-map}
-use lib.Dec.{eqb}
-use Rattle.rules.specs.Lists.{pick, empty, every, bytes, joined, member}
-use Rattle.rules.specs.Bytes.{newline, ignored}
+use Rattle.rules.specs.Lists.{empty, every, bytes, joined, member}
+use Rattle.rules.specs.Bytes.{ignored}
 use Rattle.rules.specs.Texts.{Text}
 use Rattle.rules.specs.Numbers.{wordLimit, edgeLimit}
 use Rattle.rules.specs.Rules.{granted}
 use Rattle.rules.specs.Sentences.{Node, Heading, Sentence, edgeCount, edgesOf, listed, gapless, parented, headingOf, endOf}
-use Rattle.rules.specs.Lines.{Preamble, Phase, top, inSentence, behindSentence, Answer, go, hand, next, beginning, behindOne, atTop, amongNodes, lineAt, step}
+use Rattle.rules.specs.Lines.{Preamble, Phase, top, inSentence, behindSentence, go, hand, next, beginning, behindOne, atTop, amongNodes, lineAt}
 use Rattle.rules.specs.Reading.{Reading, numbers, read}
 use Rattle.rules.specs.Meaning.{bareNode, bareHeading, nodeNumber, sentenceNumberOf}
 use Rattle.rules.specs.Tidy.{space, digitsOf, keywordLine, nodeLine, headingLine, sentenceText}
 use Rattle.rules.proofs.ReadLines.{read-append}
 use Rattle.rules.proofs.Elements.{All, all-last, all-weaker, map-append}
-use Rattle.rules.proofs.Sorting.{has, Distinct, Rising, below-lacks}
-use Rattle.rules.proofs.PrintedLines.{solid, printed, parted-printed, parted-plain}
+use Rattle.rules.proofs.Sorting.{has, Rising, below-lacks}
+use Rattle.rules.proofs.PrintedLines.{parted-printed, parted-plain}
 use Rattle.rules.proofs.KeywordLines.{keyed, keyed-number-fit, end-granted}
-use Rattle.rules.proofs.Headings.{headingColumns, printedHeading, HeadingKept, HeadingBack, heading-back}
+use Rattle.rules.proofs.Headings.{headingColumns, printedHeading, HeadingKept, heading-back}
 use Rattle.rules.proofs.LineFit.{LineFit}
 use Rattle.rules.proofs.NodesKept.{printedNode, WordKept, PhraseKept}
 use Rattle.rules.proofs.NodesBack.{node-printed, moreWord, morePhrase, NodeBack, word-back, phrase-back}
-use Rattle.rules.proofs.SentencesKept.{bareSentence, Counted, PartKept, SentenceKept, edges-append, edges-bare, listed-bare, gapless-bare, parents-bare}
+use Rattle.rules.proofs.SentencesKept.{bareSentence, Counted, SentenceKept, edges-append, edges-bare, listed-bare, gapless-bare, parents-bare}
 use Rattle.rules.proofs.Kept.{means}
-use Rattle.rules.proofs.KeptReading.{bares, used-same}
+use Rattle.rules.proofs.KeptReading.{used-same}
 use Rattle.rules.proofs.Stands.{Stands, lineOf, line-go, line-hand, step-printed}
 
 -- in a sentence that is this one without places

@@ -1,20 +1,20 @@
 -- A sentence that is fit to be printed: its heading, its words in their order, phrases whose numbers differ, few enough
 -- edges, and at its end no gap and no absent parent. It stays so with its phrases sorted. Assumes nothing.
-use Prim.Native.Nat.{ℕ, zero, suc, _+_, _≤_, _<_}
-use native.Mathlib.Nat.{add-suc, suc-add, zero-add, add-zero}
+use Prim.Native.Nat.{ℕ, suc, _+_, _≤_, _<_}
+use native.Mathlib.Nat.{add-zero}
 use native.Mathlib.Omega.{arith}
-use mathlib.Core.Path.{_≡_, refl, sym, ap, ap₂, _∙_, subst}
+use mathlib.Core.Path.{_≡_, refl, sym, ap, ap₂, _∙_}
 use mathlib.Core.Bool.{Bool, true, false, _&&_, _||_}
 use mathlib.Core.List.{List, [], _∷_, _++_, map}
 use lib.ListN.{length, length-append, length-map}
 use lib.Dec.{eqb}
-use Rattle.rules.specs.Lists.{every, any, counting, sorted}
+use Rattle.rules.specs.Lists.{every, counting, sorted}
 use Rattle.rules.specs.Numbers.{wordLimit, edgeLimit}
 use Rattle.rules.specs.Tables.{Tables}
 use Rattle.rules.specs.Sentences.{Edge, Node, Heading, Sentence, edgeCount, edgesOf, listed, gapless, parented}
-use Rattle.rules.specs.Meaning.{bareEdge, bareNode, bareHeading, nodeNumber, sentenceNumberOf, meantSentence}
+use Rattle.rules.specs.Meaning.{bareEdge, bareNode, bareHeading, nodeNumber, meantSentence}
 use Rattle.rules.proofs.Conjunctions.{every-append, every-front, every-back, every-map}
-use Rattle.rules.proofs.Elements.{All, all-last, map-append, any-map}
+use Rattle.rules.proofs.Elements.{All, all-last, any-map}
 use Rattle.rules.proofs.Sorting.{Distinct, total, total-sorted, any-sorted, every-sorted, length-sorted, all-sorted, distinct-last, sorted-distinct, map-sorted}
 use Rattle.rules.proofs.NodesKept.{WordKept, PhraseKept}
 use Rattle.rules.proofs.Headings.{HeadingKept}

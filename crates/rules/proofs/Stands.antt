@@ -1,13 +1,12 @@
 -- A reading between two lines, and where one more line that fits takes it. From the law of one line. Assumes nothing.
-use Prim.Native.Nat.{ℕ, suc, _+_}
+use Prim.Native.Nat.{ℕ, _+_}
 use mathlib.Core.Path.{_≡_, refl, sym, ap, _∙_, subst}
-use mathlib.Core.Bool.{Bool, true, false, false≢true}
-use mathlib.Core.Option.{Option, none}
-use mathlib.Core.List.{List, [], _∷_, _++_, map, reverse}
+use mathlib.Core.Bool.{true, false, false≢true}
+use mathlib.Core.Option.{none}
+use mathlib.Core.List.{List, [], _∷_, _++_, reverse}
 use lib.ListN.{length}
-use lib.Dec.{eqb}
 use borrow.Author.Tests.{ne-eqb}
-use Rattle.rules.specs.Lists.{every, any, bytes}
+use Rattle.rules.specs.Lists.{every, bytes}
 use Rattle.rules.specs.Bytes.{newline, white, legal}
 use Rattle.rules.specs.Texts.{Text}
 use Rattle.rules.specs.Sentences.{Sentence}

@@ -1,6 +1,6 @@
 -- What one line does: a line that fits is taken at the place where the reading stands, by its first column; a line refused
 -- is refused by a number of the table of refusals. Assumes nothing.
-use Prim.Native.Nat.{ℕ, zero, suc, _+_, _≤_}
+use Prim.Native.Nat.{ℕ, zero, suc, _≤_}
 use native.Mathlib.Omega.{arith}
 use mathlib.Core.Path.{_≡_, refl, sym, ap, _∙_}
 use mathlib.Core.Bool.{Bool, true, false, not, _&&_, false≢true}
@@ -9,22 +9,28 @@ use mathlib.Core.List.{List, [], _∷_, _++_}
 use lib.ListN.{length}
 use lib.Dec.{leb, eqb}
 use borrow.Author.Tests.{le-leb, leb-true, not-true}
-use Rattle.rules.specs.Lists.{pick, empty, every, same}
+use Rattle.rules.specs.Lists.{pick, every, same}
 use Rattle.rules.specs.Bytes.{white, legal, percents, ignored}
 use Rattle.rules.specs.Texts.{Text, noText, given}
 use Rattle.rules.specs.Numbers.{lineLimit}
 use Rattle.rules.specs.Columns.{Column, goesOn, columnsFrom, columns, written, fields}
-use Rattle.rules.specs.Rules.{Rule, rule, Verdict, broken, unless, checked}
+use Rattle.rules.specs.Rules.{Rule, rule, broken, unless, checked}
 use Rattle.rules.specs.Keywords.{leadingWhite, firstColumn}
 use Rattle.rules.specs.Lines.{Phase, Answer, refuse, go, next, lineAt, taken, step}
-use Rattle.rules.proofs.Conjunctions.{and-left, and-right, and-both}
+use Rattle.rules.proofs.Conjunctions.{and-left, and-right}
 use Rattle.rules.proofs.Same.{same-eq}
 use Rattle.rules.proofs.RuleLaws.{holdsOf, numberOf, numbered, none-broken, holds-granted, told, told-checked}
 use Rattle.rules.proofs.PrintedLines.{solid, black, tailed, remark, printed, printed-columns, fields-field}
-use Rattle.rules.proofs.AnyLine.{columns-solid, Begun}
-use Rattle.rules.proofs.LineFit.{LineFit, begun, ignored-first}
+use Rattle.rules.proofs.AnyLine.{solidColumn, columns-solid, begun}
+use Rattle.rules.proofs.LineFit.{LineFit, ignored-first}
 
 -- ---- any answer
+
+pub pick-true : (t : Bool) (x y : Answer) → t ≡ true → pick t x y ≡ x
+pick-true t x y e = rw e
+
+pub pick-false : (t : Bool) (x y : Answer) → t ≡ false → pick t x y ≡ y
+pick-false t x y e = rw e
 
 module _ (P : Answer → Type 0) where
   pub either : (t : Bool) (a b : Answer) → (t ≡ true → P a) → (t ≡ false → P b) → P (pick t a b)
@@ -107,8 +113,8 @@ opened line f g =
     let starts = first-goes (line .start) (line .bytes) g in
     let b = begun (line .start) (line .bytes) starts in
     let c = b .first .text .bytes in
-    let every-solid = sym (ap (every (λ (k : Column). solid (k .text .bytes))) (b .form)) ∙ columns-solid (line .start) (line .bytes) in
-    let s : solid c ≡ true = and-left (solid c) (every (λ (k : Column). solid (k .text .bytes)) (b .others)) every-solid in
+    let every-solid = sym (ap (every solidColumn) (b .form)) ∙ columns-solid (line .start) (line .bytes) in
+    let s : solid c ≡ true = and-left (solid c) (every solidColumn (b .others)) every-solid in
     let seen : ignored c ≡ false = sym (ignored-first c (b .first .after .bytes) s (b .ends)) ∙ sym (ap ignored (b .whole)) ∙ f .seen in
     record {
       starts = starts;

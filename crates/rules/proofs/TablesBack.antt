@@ -1,38 +1,34 @@
 -- The printed tables are read back: each table's rows, one behind the other, and the tables in their order. By one step
 -- along the rows, and along the tables. Assumes nothing.
-use Prim.Native.Nat.{ℕ, zero, suc, _+_, _≤_, _<_}
-use native.Mathlib.Nat.{add-zero, add-suc, suc-add, zero-add}
+use Prim.Native.Nat.{ℕ, zero, suc, _+_, _<_}
 use native.Mathlib.Omega.{arith}
 use mathlib.Core.Path.{_≡_, refl, sym, ap, ap₂, _∙_, subst}
-use mathlib.Core.Bool.{Bool, true, false, not}
+use mathlib.Core.Bool.{false}
 use mathlib.Core.Option.{Option, none, some}
 use mathlib.Core.List.{List, [], _∷_, _++_, map, append-assoc, append-nil}
 use lib.ListN.{length, getD, set, length-append, List·getD-map}
 use lib.Seq.{getD-at, set-at}
-use lib.Dec.{eqb}
-use Rattle.rules.specs.Lists.{pick, every, same, bytes, joined, sorted}
-use Rattle.rules.specs.Bytes.{newline, legal, ignored}
-use Rattle.rules.specs.Texts.{Text, reads}
-use Rattle.rules.specs.Rules.{Verdict, granted}
+use Rattle.rules.specs.Lists.{same, bytes, joined}
+use Rattle.rules.specs.Bytes.{ignored}
+use Rattle.rules.specs.Texts.{Text}
+use Rattle.rules.specs.Rules.{granted}
 use Rattle.rules.specs.Tables.{Tables, Row, table, there, present, closed}
 use Rattle.rules.specs.Rows.{rowOf}
 use Rattle.rules.specs.Sentences.{Sentence}
-use Rattle.rules.specs.Keywords.{startsRow, tableOpened, tableEnded}
-use Rattle.rules.specs.Lines.{Preamble, Phase, top, inTable, Answer, go, next, withTable, withRow, behindOne, atTop, amongRows, lineAt, step}
+use Rattle.rules.specs.Lines.{Preamble, top, inTable, go, next, withTable, withRow, atTop, amongRows, lineAt, step}
 use Rattle.rules.specs.Reading.{Reading, numbers, read}
 use Rattle.rules.specs.Meaning.{bareRow, rowId, meantRows, byId, meantTables}
 use Rattle.rules.specs.Tidy.{space, tab, idDigits, keywordLine, rowLine, tableName, tableText, tablesText}
 use Rattle.rules.proofs.ReadLines.{read-append}
 use Rattle.rules.proofs.Elements.{map-append, set-map}
 use Rattle.rules.proofs.Sorting.{map-sorted}
-use Rattle.rules.proofs.PrintedLines.{plain, solid, printed, parted-plain}
+use Rattle.rules.proofs.PrintedLines.{plain, parted-plain}
 use Rattle.rules.proofs.LineFit.{LineFit}
 use Rattle.rules.proofs.MeantTables.{there-meant}
-use Rattle.rules.proofs.RowTexts.{id-solid}
+use Rattle.rules.proofs.NumbersAgain.{id-solid}
 use Rattle.rules.proofs.KeywordLines.{keyed, table-opened, table-ended, table-fit}
-use Rattle.rules.proofs.OriginRows.{RowBack}
 use Rattle.rules.proofs.RowsKept.{RowsKept, RowKept, origins-sorted, editors-sorted}
-use Rattle.rules.proofs.RowLines.{printedRow, row-printed, row-fit, Begins, id-begins, row-back}
+use Rattle.rules.proofs.RowLines.{printedRow, row-printed, row-fit, id-begins, row-back}
 use Rattle.rules.proofs.Kept.{TableKept, TablesKept}
 use Rattle.rules.proofs.Stands.{Stands, lineOf, line-go, step-printed}
 

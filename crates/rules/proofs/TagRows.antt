@@ -1,18 +1,18 @@
 -- A row of a tag table that was granted is fit to be printed, and read back from the printed line, with a flag where the
 -- table is WORDTAG. From the line's rules, one by one. Assumes nothing.
-use Prim.Native.Nat.{ℕ, zero, suc, _+_, _≤_, _<_}
+use Prim.Native.Nat.{ℕ, suc, _+_, _≤_, _<_}
 use native.Mathlib.Nat.{le-refl}
 use native.Mathlib.Omega.{arith}
 use mathlib.Core.Path.{_≡_, refl, sym, ap, ap₂, _∙_, subst}
 use mathlib.Core.Bool.{Bool, true, false, not, _&&_, _||_, false≢true}
-use mathlib.Core.Option.{Option, none, some}
+use mathlib.Core.Option.{Option, some}
 use mathlib.Core.List.{List, [], _∷_, _++_}
-use lib.ListN.{length, getD}
-use lib.Dec.{leb, ltb, eqb}
+use lib.ListN.{length}
+use lib.Dec.{leb, eqb}
 use borrow.Author.Tests.{ltb-true, lt-ltb, leb-true, le-leb}
 use Rattle.rules.specs.Lists.{pick, empty, every, same, bytes}
-use Rattle.rules.specs.Bytes.{white, legal, percents}
-use Rattle.rules.specs.Texts.{Text, noText, given, bare, reads, atMost, trim, trimFrom}
+use Rattle.rules.specs.Bytes.{legal, percents}
+use Rattle.rules.specs.Texts.{Text, given, reads, atMost, trim, trimFrom}
 use Rattle.rules.specs.Columns.{Column, columns, columnsFrom, column}
 use Rattle.rules.specs.Numbers.{rowLimit, signedId, good, value}
 use Rattle.rules.specs.Rules.{Rule, rule, granted}
@@ -25,12 +25,11 @@ use Rattle.rules.proofs.Conjunctions.{and-left, and-right, and-both, no
 use Rattle.rules.proofs.RuleLaws.{holds-granted}
 use Rattle.rules.proofs.RulesHeld.{Held, held, hold}
 use Rattle.rules.proofs.Decimal.{id-legal, id-read-back}
-use Rattle.rules.proofs.PrintedLines.{plain, solid, tailed, remark, printed, printed-columns, tailed-columns}
+use Rattle.rules.proofs.PrintedLines.{plain, solid, tailed, printed, printed-columns, tailed-columns}
 use Rattle.rules.proofs.AnyLine.{room}
 use Rattle.rules.proofs.LineFit.{LineFit, printed-fit}
-use Rattle.rules.proofs.NumbersAgain.{good-some, id-range, id-five}
-use Rattle.rules.proofs.RowTexts.{id-solid, id-seen, Short, Legal, column-there, Described, described, last-text}
-use Rattle.rules.proofs.OriginRows.{RowBack}
+use Rattle.rules.proofs.NumbersAgain.{good-some, id-range, id-five, id-solid}
+use Rattle.rules.proofs.RowTexts.{id-seen, Short, Legal, column-there, Described, described, last-text, RowBack}
 use Rattle.rules.proofs.Steps.{next-checked}
 
 pub record TagKept (n : ℕ) (r : Row) : Type 0 where

@@ -1,14 +1,14 @@
 -- Laws of texts that lose white bytes at both ends: what is left has none there, is no longer, and loses nothing again. By
 -- one step along the bytes. Assumes nothing.
-use Prim.Native.Nat.{ℕ, suc, _+_, _≤_}
+use Prim.Native.Nat.{ℕ, suc, _≤_}
 use native.Mathlib.Omega.{arith}
-use mathlib.Core.Path.{_≡_, refl, sym, ap, _∙_}
-use mathlib.Core.Bool.{Bool, true, false, not, _&&_}
+use mathlib.Core.Path.{_≡_, refl, ap, _∙_}
+use mathlib.Core.Bool.{Bool, true, false}
 use mathlib.Core.List.{List, [], _∷_, _++_}
 use lib.ListN.{length}
 use Rattle.rules.specs.Lists.{pick, every}
 use Rattle.rules.specs.Bytes.{white}
-use Rattle.rules.specs.Texts.{Text, noText, unlessWhite, rightTrim, trimFrom}
+use Rattle.rules.specs.Texts.{unlessWhite, rightTrim, trimFrom}
 use Rattle.rules.specs.Keywords.{leadingWhite}
 use Rattle.rules.proofs.Conjunctions.{and-left, and-right}
 
