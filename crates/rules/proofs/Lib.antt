@@ -9,3 +9,7 @@ pub mod RuleLaws
 pub mod ReadLines
 pub mod Cut
 pub mod CutRule
+pub mod Largest
+pub mod DifferentNumbers
+pub mod NoGap
+pub mod NoAbsent
