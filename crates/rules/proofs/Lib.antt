@@ -42,3 +42,7 @@ pub mod TablesBack
 pub mod NodesBack
 pub mod SentencesBack
 pub mod RoundTrip
+pub mod Largest
+pub mod DifferentNumbers
+pub mod NoGap
+pub mod NoAbsent
