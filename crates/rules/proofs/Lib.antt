@@ -46,3 +46,8 @@ pub mod Largest
 pub mod DifferentNumbers
 pub mod NoGap
 pub mod NoAbsent
+pub mod EachElement
+pub mod HandedKept
+pub mod References
+pub mod Chains
+pub mod ParentsClimb
