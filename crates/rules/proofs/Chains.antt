@@ -11,6 +11,7 @@ pub record Above (count n parent : ℕ) : Type 0 where
   pub larger : n < parent
   pub phrase : 500 ≤ parent
   pub last : parent ≤ 499 + count
+  pub highest : parent ≤ 999
 
 abbrev pub ZeroOrAbove : ℕ → ℕ → ℕ → Type 0
 ZeroOrAbove count n parent = (parent ≡ 0) ⊎ Above count n parent

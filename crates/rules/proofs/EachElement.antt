@@ -7,6 +7,10 @@ use Rattle.rules.specs.Climbing.{Each}
 use Rattle.rules.proofs.Conjunctions.{every-first, every-rest}
 use Rattle.rules.proofs.Elements.{All}
 
+pub each-then : {A : Type 0} (P Q : A → Type 0) → ((x : A) → P x → Q x) → (xs : List A) → Each P xs → Each Q xs
+each-then P Q f [] a = tt
+each-then P Q f (x ∷ xs) a = (f x (a .0), each-then P Q f xs (a .1))
+
 -- what holds of any
 pub each-of : {A : Type 0} (P : A → Type 0) → ((x : A) → P x) → (xs : List A) → Each P xs
 each-of P f [] = tt

@@ -1,7 +1,7 @@
 -- Every sentence handed out, of any file, refused or not, is kept: its bare form is fit for what the survey's tables mean.
 -- From what the reading keeps, by where it ends. Assumes nothing.
 use Prim.Native.Nat.{ℕ}
-use mathlib.Core.Path.{_≡_, refl, sym, subst}
+use mathlib.Core.Path.{_≡_, sym, subst}
 use mathlib.Core.Bool.{Bool, true, false}
 use mathlib.Core.List.{List, []}
 use lib.ListN.{length}
@@ -30,7 +30,7 @@ phase-kept (inTable p n rs) ss k = none-kept _ ss (k .nothing)
 phase-kept (inSentence p s) ss k = k .sentences .each
 phase-kept (behindSentence p) ss k = k .sentences .each
 
--- what follows, for each table list, from a bare sentence that is fit, holds of every sentence handed out
+-- what follows from a bare sentence that is fit for what the tables mean holds of every sentence handed out
 module _ (P : Survey → Sentence → Type 0) (kept : (v : Survey) (s : Sentence) → SentenceKept (meantTables (v .tables)) (bareSentence s) → P v s) where
   abbrev EachHanded : Survey → Type 0
   EachHanded v = Each (λ (h : Handed). P v (h .sentence)) (v .handed)

@@ -49,5 +49,7 @@ pub mod NoAbsent
 pub mod EachElement
 pub mod HandedKept
 pub mod References
+pub mod NodeNumbers
 pub mod Chains
 pub mod ParentsClimb
+pub mod ParentsOnSheet

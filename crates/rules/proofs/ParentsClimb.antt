@@ -1,55 +1,34 @@
 -- Demand 2, chains: in every sentence handed out, of any file, every chain of parents climbs to 0. Each node's parent is 0
 -- or a larger phrase number by its own line's rule, and no larger than the last by the sentence's end. Assumes nothing.
-use Prim.Native.Nat.{ℕ, suc, _+_, _≤_, _<_}
-use native.Mathlib.Omega.{arith}
-use mathlib.Core.Path.{_≡_, refl, sym, ap, ap₂, _∙_}
+use Prim.Native.Nat.{ℕ, suc, _+_, _<_}
+use mathlib.Core.Path.{_≡_, refl, sym, ap, _∙_}
 use mathlib.Core.Logic.{_⊎_, inl, inr}
-use mathlib.Core.Bool.{Bool, true, false, not, _&&_}
-use mathlib.Core.List.{List, [], _∷_, _++_, map}
+use mathlib.Core.Bool.{Bool, true, false, _&&_}
+use mathlib.Core.List.{List, [], _∷_, map}
 use lib.ListN.{length}
 use lib.Dec.{leb, ltb, eqb}
-use borrow.Author.Tests.{eqb-true, le-leb, leb-true, ltb-true}
-use Rattle.rules.specs.Lists.{pick, every, member}
+use borrow.Author.Tests.{eqb-true, leb-true, ltb-true}
+use Rattle.rules.specs.Lists.{pick, every}
 use Rattle.rules.specs.Texts.{Text, reads}
-use Rattle.rules.specs.Numbers.{phraseNumber}
 use Rattle.rules.specs.Tables.{Tables, wordTags, nodeTags, dashes}
-use Rattle.rules.specs.Sentences.{Node, Sentence, listed, gapless, parented}
+use Rattle.rules.specs.Sentences.{Node, Sentence, listed, parented}
 use Rattle.rules.specs.Nodes.{parentsRise}
 use Rattle.rules.specs.Reading.{Handed}
 use Rattle.rules.specs.Sheets.{nodes}
 use Rattle.rules.specs.Survey.{Survey, surveyOf}
-use Rattle.rules.specs.Meaning.{bareNode, nodeNumber, meantTables}
-use Rattle.rules.specs.Climbing.{Each, parentAmong, parentIn, Climbs}
-use Rattle.rules.proofs.Conjunctions.{and-left, and-right, and-both, every-front, every-back}
+use Rattle.rules.specs.Meaning.{bareNode, meantTables}
+use Rattle.rules.specs.Climbing.{Each, parentAmong, parentIn, Climbs, EveryChainClimbs}
+use Rattle.rules.proofs.Conjunctions.{and-left, and-right, every-front, every-back}
 use Rattle.rules.proofs.RulesHeld.{held}
-use Rattle.rules.proofs.Elements.{All}
 use Rattle.rules.proofs.EachElement.{each-joined, each-of, each-tested}
-use Rattle.rules.proofs.Sorting.{Distinct, has}
-use Rattle.rules.proofs.DifferentNumbers.{distinct}
-use Rattle.rules.proofs.NoGap.{numbersOf, Numbered, listed-member, listed-is}
-use Rattle.rules.proofs.NumbersAgain.{number-range}
+use Rattle.rules.proofs.NoGap.{listed-is}
 use Rattle.rules.proofs.PrintedLines.{plain}
 use Rattle.rules.proofs.NodesKept.{nodeColumns, NodeKept, WordKept, PhraseKept}
-use Rattle.rules.proofs.SentencesKept.{bareSentence, SentenceKept, listed-bare, gapless-bare}
+use Rattle.rules.proofs.SentencesKept.{bareSentence, SentenceKept, gapless-bare}
 use Rattle.rules.proofs.HandedKept.{handed-kept}
 use Rattle.rules.proofs.References.{parent-listed, parents-placed}
-use Rattle.rules.proofs.Chains.{Above, ZeroOrAbove, climbs-any}
-
--- ---- phrases that are kept are numbered from 500 on, each once
-
-phrase-from : (ts : Tables) (n : Node) → PhraseKept ts n → 500 ≤ n .number
-phrase-from ts n k = number-range phraseNumber _ (n .number) (k .number) .0
-
-phrases-low : (ts : Tables) (ps : List Node) → All (PhraseKept ts) (map bareNode ps) → every (leb 500) (numbersOf ps) ≡ true
-phrases-low ts [] a = refl
-phrases-low ts (p ∷ ps) a =
-    and-both (leb 500 (p .number)) (every (leb 500) (numbersOf ps)) (le-leb 500 (p .number) (phrase-from ts (bareNode p) (a .0))) (phrases-low ts ps (a .1))
-
-phrases-apart : (ps : List Node) → Distinct nodeNumber (map bareNode ps) → distinct (numbersOf ps) ≡ true
-phrases-apart [] d = refl
-phrases-apart (p ∷ ps) d =
-    and-both (not (member (p .number) (numbersOf ps))) (distinct (numbersOf ps))
-    (ap not (sym (listed-bare ps (p .number) ∙ listed-member ps (p .number)) ∙ d .0)) (phrases-apart ps (d .1))
+use Rattle.rules.proofs.NodeNumbers.{listed-highest, each-numbered, numbered}
+use Rattle.rules.proofs.Chains.{ZeroOrAbove, climbs-any}
 
 -- ---- a node's parent
 
@@ -69,9 +48,9 @@ larger-parent n parent b e = by (eqb parent 0) refl e
     by false q e = inr (ltb-true n parent e)
 
 -- what a number's node has, each node's own parent being so
-parent-found : (count : ℕ) (ns : List Node) → Each (λ (n : Node). ZeroOrAbove count (n .number) (n .parent)) ns → (k : ℕ) → ZeroOrAbove count k (parentAmong ns k)
-parent-found count [] a k = inl refl
-parent-found count (n ∷ ns) a k = by (eqb (n .number) k) refl (parent-found count ns (a .1) k)
+among-above : (count : ℕ) (ns : List Node) → Each (λ (n : Node). ZeroOrAbove count (n .number) (n .parent)) ns → (k : ℕ) → ZeroOrAbove count k (parentAmong ns k)
+among-above count [] a k = inl refl
+among-above count (n ∷ ns) a k = by (eqb (n .number) k) refl (among-above count ns (a .1) k)
   where
     by : (t : Bool) → eqb (n .number) k ≡ t → ZeroOrAbove count k (parentAmong ns k) → ZeroOrAbove count k (pick t (n .parent) (parentAmong ns k))
     by true q more = rw (← eqb-true (n .number) k q) (a .0)
@@ -86,13 +65,11 @@ module _ (ts : Tables) (s : Sentence) (k : SentenceKept (meantTables ts) (bareSe
   abbrev count : ℕ
   count = length ps
 
-  numbered : Numbered ps
-  numbered = record { low = phrases-low (meantTables ts) ps (k .part .phrases); apart = phrases-apart ps (k .part .distinct) }
-
   listed-between : (n : ℕ) → listed ps n ≡ true → (leb 500 n && leb n (499 + count)) ≡ true
-  listed-between n e = sym (listed-is ps numbered (sym (gapless-bare ps) ∙ k .whole) n) ∙ e
+  listed-between n e = sym (listed-is ps (numbered ts s k) (sym (gapless-bare ps) ∙ k .whole) n) ∙ e
 
-  node-above : (tags : ℕ) (word : Text) (n : Node) → NodeKept (meantTables ts) tags word (bareNode n) → parented ps n ≡ true → ZeroOrAbove count (n .number) (n .parent)
+  node-above : (tags : ℕ) (word : Text) (n : Node) → NodeKept (meantTables ts) tags word (bareNode n) → parented ps n ≡ true
+      → ZeroOrAbove count (n .number) (n .parent)
   node-above tags word n kept e = by (larger-parent (n .number) (n .parent) _ (parent-rises (meantTables ts) tags word (bareNode n) kept)) (parent-listed ps n e)
     where
       by : (n .parent ≡ 0) ⊎ (n .number < n .parent) → (n .parent ≡ 0) ⊎ (listed ps (n .parent) ≡ true) → ZeroOrAbove count (n .number) (n .parent)
@@ -104,6 +81,7 @@ module _ (ts : Tables) (s : Sentence) (k : SentenceKept (meantTables ts) (bareSe
             larger = h;
             phrase = leb-true 500 (n .parent) (and-left (leb 500 (n .parent)) (leb (n .parent) (499 + count)) b);
             last = leb-true (n .parent) (499 + count) (and-right (leb 500 (n .parent)) (leb (n .parent) (499 + count)) b);
+            highest = listed-highest ps (each-numbered ts s k) (n .parent) l;
           })
 
   abbrev NodeAbove : Node → Type 0
@@ -120,13 +98,13 @@ module _ (ts : Tables) (s : Sentence) (k : SentenceKept (meantTables ts) (bareSe
 
   -- the parent of any number
   pub parent-above : (n : ℕ) → ZeroOrAbove count n (parentIn s n)
-  parent-above n = parent-found count (nodes s) each-above n
+  parent-above n = among-above count (nodes s) each-above n
 
   pub sentence-climbs : (n : ℕ) → Climbs (parentIn s) (suc count) n
   sentence-climbs n = climbs-any (parentIn s) count parent-above n
 
--- every chain of parents climbs, from each word and each phrase
-pub climbs : (f : List ℕ) → Each (λ (h : Handed). Each (λ (n : Node). Climbs (parentIn (h .sentence)) (suc (length (h .sentence .phrases))) (n .number)) (nodes (h .sentence))) (surveyOf f .handed)
+-- in every sentence handed out every chain of parents climbs
+pub climbs : (f : List ℕ) → Each (λ (h : Handed). EveryChainClimbs (h .sentence) (parentIn (h .sentence))) (surveyOf f .handed)
 climbs f =
-    handed-kept (λ (v : Survey) (s : Sentence). Each (λ (n : Node). Climbs (parentIn s) (suc (length (s .phrases))) (n .number)) (nodes s))
+    handed-kept (λ (v : Survey) (s : Sentence). EveryChainClimbs s (parentIn s))
     (λ v s k. each-of (λ (n : Node). Climbs (parentIn s) (suc (length (s .phrases))) (n .number)) (λ n. sentence-climbs (v .tables) s k (n .number)) (nodes s)) f

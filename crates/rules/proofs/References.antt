@@ -3,25 +3,24 @@
 use Prim.Native.Nat.{ℕ}
 use mathlib.Core.Path.{_≡_, refl, sym, ap, _∙_}
 use mathlib.Core.Logic.{_⊎_, inl, inr}
-use mathlib.Core.Bool.{Bool, true, false, _&&_, _||_}
-use mathlib.Core.List.{List, [], _∷_, _++_, map}
-use lib.Dec.{eqb, ltb}
+use mathlib.Core.Bool.{Bool, true, false, _||_}
+use mathlib.Core.List.{List, map}
+use lib.Dec.{eqb}
 use borrow.Author.Tests.{eqb-true}
-use Rattle.rules.specs.Lists.{pick, every}
-use Rattle.rules.specs.Texts.{Text, reads}
-use Rattle.rules.specs.Numbers.{value}
+use Rattle.rules.specs.Lists.{every}
+use Rattle.rules.specs.Texts.{Text}
 use Rattle.rules.specs.Rules.{Rule, rule}
-use Rattle.rules.specs.Tables.{Tables, wordTags, morphTags, nodeTags, edgeTags, secEdgeTags, dashes, known}
+use Rattle.rules.specs.Tables.{Tables, wordTags, morphTags, nodeTags, edgeTags, secEdgeTags, known}
 use Rattle.rules.specs.Sentences.{Edge, Node, Sentence, listed, parented}
-use Rattle.rules.specs.Nodes.{Pair, secondaryParent, asEdge, itsTag, itsMorphology, itsEdge, itsParent, itsPairs, tagsKnown, parentsRise}
+use Rattle.rules.specs.Nodes.{Pair, asEdge, itsPairs, tagsKnown}
 use Rattle.rules.specs.Reading.{Handed}
 use Rattle.rules.specs.Survey.{Survey, surveyOf}
 use Rattle.rules.specs.Meaning.{bareEdge, bareNode, meantTables}
 use Rattle.rules.specs.Sheets.{nodes}
 use Rattle.rules.specs.Climbing.{Each, NodeResolves, Resolves}
-use Rattle.rules.proofs.Conjunctions.{and-left, and-right, every-first, every-rest, every-front, every-back, every-map}
+use Rattle.rules.proofs.Conjunctions.{and-left, and-right, every-front, every-back, every-map}
 use Rattle.rules.proofs.RuleLaws.{holdsOf}
-use Rattle.rules.proofs.RulesHeld.{held}
+use Rattle.rules.proofs.RulesHeld.{held, hold}
 use Rattle.rules.proofs.Elements.{map-append}
 use Rattle.rules.proofs.EachElement.{each-tested}
 use Rattle.rules.proofs.MeantTables.{known-meant, known-editor-meant, known-origin-meant}
@@ -36,23 +35,19 @@ module _ (ts : Tables) (tags : ℕ) (word : Text) (n : Node) (k : NodeKept ts ta
   abbrev fs : List Text
   fs = map plain (nodeColumns n)
 
-  -- rules of its pairs are tests of its secondary edges
-  pairs-edges : (test : Edge → Bool) (about : Pair → Text) (number : ℕ) → every holdsOf (map (λ (p : Pair). rule number (about p) (test (asEdge p))) (itsPairs fs)) ≡ true
-      → every test (n .secondary) ≡ true
-  pairs-edges test about number h =
-      ap (λ (m : Node). every test (m .secondary)) (sym (k .again)) ∙ every-map test asEdge (itsPairs fs)
-      ∙ sym (every-map holdsOf (λ (p : Pair). rule number (about p) (test (asEdge p))) (itsPairs fs)) ∙ h
+  abbrev labelKnown : Edge → Bool
+  labelKnown e = known ts secEdgeTags (e .label)
 
-  abbrev labelRules : List Rule
-  labelRules = map (λ (p : Pair). rule 18 (p .label) (known ts secEdgeTags (p .label))) (itsPairs fs)
+  abbrev labelRule : Pair → Rule
+  labelRule p = rule 18 (p .label) (known ts secEdgeTags (p .label))
 
-  pub record TagsKnown : Type 0 where
+  record TagsKnown : Type 0 where
     pub tag : known ts tags (n .tag) ≡ true
     pub morphology : known ts morphTags (n .morphology) ≡ true
     pub edge : known ts edgeTags (n .edge) ≡ true
-    pub labels : every (λ (e : Edge). known ts secEdgeTags (e .label)) (n .secondary) ≡ true
+    pub labels : every labelKnown (n .secondary) ≡ true
 
-  pub tags-known : TagsKnown
+  tags-known : TagsKnown
   unfolding tagsKnown
   tags-known =
       let h = held (tagsKnown fs ts tags) (k .holds .tabled) in
@@ -61,9 +56,8 @@ module _ (ts : Tables) (tags : ℕ) (word : Text) (n : Node) (k : NodeKept ts ta
         morphology = ap (λ (m : Node). known ts morphTags (m .morphology)) (sym (k .again)) ∙ h .1 .0;
         edge = ap (λ (m : Node). known ts edgeTags (m .edge)) (sym (k .again)) ∙ h .1 .1 .0;
         labels =
-            pairs-edges (λ (e : Edge). known ts secEdgeTags (e .label)) (λ (p : Pair). p .label) 18
-            (and-right (known ts edgeTags (itsEdge fs)) (every holdsOf labelRules)
-            (and-right (known ts morphTags (itsMorphology fs)) _ (and-right (known ts tags (itsTag fs)) _ (k .holds .tabled))));
+            ap (λ (m : Node). every labelKnown (m .secondary)) (sym (k .again)) ∙ every-map labelKnown asEdge (itsPairs fs)
+            ∙ sym (every-map holdsOf labelRule (itsPairs fs)) ∙ hold (map labelRule (itsPairs fs)) (h .1 .1 .1);
       }
 
 -- ---- a node of a sentence
@@ -83,7 +77,8 @@ module _ (ps : List Node) (n : Node) (e : parented ps n ≡ true) where
   secondary-listed = and-right (eqb (n .parent) 0 || listed ps (n .parent)) _ e
 
 -- places left out and put back
-node-resolves : (ts : Tables) (tags : ℕ) (ps : List Node) (word : Text) (n : Node) → NodeKept (meantTables ts) tags word (bareNode n) → parented ps n ≡ true → NodeResolves ts tags ps n
+node-resolves : (ts : Tables) (tags : ℕ) (ps : List Node) (word : Text) (n : Node)
+    → NodeKept (meantTables ts) tags word (bareNode n) → parented ps n ≡ true → NodeResolves ts tags ps n
 node-resolves ts tags ps word n k e =
     let h = tags-known (meantTables ts) tags word (bareNode n) k in
     record {

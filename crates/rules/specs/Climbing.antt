@@ -5,7 +5,7 @@ use mathlib.Core.Path.{_≡_}
 use mathlib.Core.Logic.{_⊎_}
 use mathlib.Core.Bool.{true}
 use mathlib.Core.List.{List, [], _∷_}
-use lib.ListN.{getD}
+use lib.ListN.{length, getD}
 use lib.Dec.{eqb}
 use Rattle.rules.specs.Lists.{pick, every}
 use Rattle.rules.specs.Tables.{Tables, wordTags, morphTags, nodeTags, edgeTags, secEdgeTags, known}
@@ -70,3 +70,7 @@ pub record Climbs (parent : ℕ → ℕ) (most n : ℕ) : Type 0 where
   pub few : steps ≤ most
   pub rising : (k : ℕ) → suc k < steps → climbed parent k n < climbed parent (suc k) n
   pub top : climbed parent steps n ≡ 0
+
+-- from each node of a sentence, in at most one step more than there are phrases
+abbrev pub EveryChainClimbs : Sentence → (ℕ → ℕ) → Type 0
+EveryChainClimbs s parent = Each (λ (n : Node). Climbs parent (suc (length (s .phrases))) (n .number)) (nodes s)
