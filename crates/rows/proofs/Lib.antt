@@ -1,0 +1,5 @@
+pub mod Firsts
+pub mod Spans
+pub mod Flags
+pub mod OwnTags
+pub mod RowParts
