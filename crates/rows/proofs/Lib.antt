@@ -3,3 +3,4 @@ pub mod Spans
 pub mod Flags
 pub mod OwnTags
 pub mod RowParts
+pub mod Judging

@@ -1,13 +1,15 @@
 -- Where the parts of a row lie. Document 01, "The file from top to bottom": an origin's id, name and comment; the id, the
 -- login or tag, for WORDTAG the flag, and the rest of the line of the other rows. Assumes nothing.
-use Prim.Native.Nat.{ℕ}
+use Prim.Native.Nat.{ℕ, _+_, _≤_}
 use mathlib.Core.Bool.{Bool, true, false, not, _&&_, _||_}
 use mathlib.Core.List.{List, [], _∷_}
 use Rattle.rules.specs.Lists.{pick}
 use Rattle.rules.specs.Texts.{Text, reads, trim, inFront, behind}
 use Rattle.rules.specs.Columns as lines
+use Rattle.rules.specs.Numbers.{fileLimit}
 use Rattle.rules.specs.Rows.{yes, isFlag}
 use Rattle.texts.specs.Spans.{spanOf}
+use Rattle.texts.specs.declared.Span.{Span}
 use Rattle.rows.specs.declared.First.{First}
 use Rattle.rows.specs.declared.Flag.{Flag}
 use Rattle.rows.specs.declared.Parts.{Parts}
@@ -43,3 +45,11 @@ tagParts flagged line =
     let flag = lines.column (lines.columns line) 2 in
     parts (c .text) (tag .text) (trim (pick flagged flag tag .after)) (pick (flagged && reads yes (flag .text)) 1 0)
     (not flagged || isFlag (flag .text))
+
+-- the texts lie in no longer file than may be
+pub record SpanFits (p : Span) : Type 0 where
+  pub inside : p .start + p .len ≤ fileLimit
+
+pub record PartsFit (p : Parts) : Type 0 where
+  pub first : SpanFits (p .first)
+  pub second : SpanFits (p .second)

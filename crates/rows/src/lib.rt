@@ -7,7 +7,8 @@ ghost use Rattle.rules.specs.Bytes.{classTable};
 ghost use Rattle.rules.specs.Columns.{columnsFrom};
 ghost use Rattle.rules.specs.Numbers.{fileLimit};
 ghost use Rattle.rules.specs.Rows.{ownTag};
-ghost use Rattle.rows.specs.Parts.{firstOf, flagOf, originParts, tagParts};
+ghost use Rattle.rows.specs.Answers.{rowAnswer, rowWith};
+ghost use Rattle.rows.specs.Parts.{firstOf, flagOf, originParts, tagParts, PartsFit};
 use columns::Column;
 use columns::Cursor;
 use texts::Span;
@@ -164,4 +165,20 @@ fn own_tag(id1: u32, tag: &[u8]) -> bool
         return false;
     }
     !is_unknown
+}
+
+fn as_row(id1: u32, parts: Parts) -> RowAnswer
+    requires { ⌜ PartsFit parts ⌝ }
+    ensures { λ r. ⌜ r ≡ rowWith id1 parts ⌝ }
+{
+    let first = parts.first;
+    let second = parts.second;
+    RowAnswer::Row {
+        id1,
+        first_start: first.start as u32,
+        first_len: first.len as u32,
+        second_start: second.start as u32,
+        second_len: second.len as u32,
+        flag: parts.flag,
+    }
 }
