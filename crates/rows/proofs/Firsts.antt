@@ -15,7 +15,8 @@ use Rattle.columns.specs.declared.Column.{Column}
 use Rattle.columns.specs.declared.Column.the-variants.{Found, Missing}
 use Rattle.columns.proofs.Steps.{columnBetween, Step, found, missing}
 use Rattle.texts.specs.Spans.{spanOf}
-use Rattle.texts.proofs.Trims.{Lies}
+use Rattle.sheets.specs.Standing.{Stands}
+use Rattle.sheets.proofs.Standing.{no-text-stands, text-stands}
 use Rattle.rows.specs.Parts.{placeBehind, firstOf}
 
 -- no column is left, or the first lies between two places
@@ -65,14 +66,12 @@ module _ (s : List ℕ) (at : ℕ) where
 
   -- ---- the column, and what stands behind it
 
-  pub first-lies : Lies s (lines.written left 0)
-  first-lies = go either
+  pub first-stands : Stands s (lines.written left 0)
+  first-stands = go either
     where
-      go : Either s at → Lies s (lines.written left 0)
-      go (none-left q) = rw q (record { bytes-there = refl; inside = omega arith })
-      go (one-found a e h k q) =
-          let m : length (take (e - a) (drop a s)) ≡ e - a = length-take-le (e - a) (drop a s) (omega (arith, length-drop a s)) in
-          rw q (record { bytes-there = ap (λ (l : ℕ). take l (drop a s)) m; inside = rw m (omega arith) })
+      go : Either s at → Stands s (lines.written left 0)
+      go (none-left q) = rw q (no-text-stands s)
+      go (one-found a e h k q) = rw q (text-stands s a (e - a) (omega arith))
 
   pub others : (k : ℕ) → lines.column left (suc k) ≡ lines.column (lines.columnsFrom next (drop next s)) k
   unfolding lines.columnsFrom

@@ -1,17 +1,48 @@
 // The rows of the seven tables, line by line. A line is lent as the file up to the line's end, with its start.
 ghost use mathlib.Core.Path.{_≡_};
 ghost use mathlib.Core.Bool.{true};
-ghost use Prim.Native.Nat.{ℕ, _+_, _≤_};
+ghost use mathlib.Core.List.{List};
+ghost use Prim.Native.Nat.{ℕ, _+_, _*_, _≤_};
 ghost use lib.ListN.{length, take, drop};
 ghost use Rattle.rules.specs.Bytes.{classTable};
 ghost use Rattle.rules.specs.Columns.{columnsFrom};
 ghost use Rattle.rules.specs.Numbers.{fileLimit};
-ghost use Rattle.rules.specs.Rows.{ownTag};
+ghost use Rattle.rules.specs.Tables.{tagLimit};
+ghost use Rattle.rules.specs.Rows.{originRow, editorRow, tagRow, rowOf, lastId, follows, ownTag};
+ghost use Rattle.sheets.specs.SheetRows.{rowsFrom};
 ghost use Rattle.rows.specs.Answers.{rowAnswer, rowWith};
+ghost use Rattle.rows.specs.Tags.{goodTag, tagInPlace};
+ghost use Rattle.rows.specs.Ready.{RowsReady};
 ghost use Rattle.rows.specs.Parts.{firstOf, flagOf, originParts, tagParts, PartsFit};
 use columns::Column;
 use columns::Cursor;
+use numbers::EditorId;
+use numbers::Number;
+use numbers::OriginId;
+use numbers::RowId;
 use texts::Span;
+
+// The numbers of refusal.
+const MISSING_COLUMN: u32 = 7;
+
+const BAD_NUMBER: u32 = 8;
+
+const BAD_TEXT: u32 = 10;
+
+const ROW_OUT_OF_PLACE: u32 = 11;
+
+const TABLE_FULL: u32 = 12;
+
+// The tables that have rules of their own.
+const ORIGINS: usize = 0;
+
+const EDITORS: usize = 1;
+
+const WORD_TAGS: usize = 2;
+
+const MORPH_TAGS: usize = 3;
+
+const ROW_LIMIT: usize = 256;
 
 // What a row's line is read as, in the order of the table sheet, or the number of refusal.
 pub enum RowAnswer {
@@ -181,4 +212,191 @@ fn as_row(id1: u32, parts: Parts) -> RowAnswer
         second_len: second.len as u32,
         flag: parts.flag,
     }
+}
+
+pub fn origin_row(
+    head: &[u8],
+    at: usize,
+    sheet: &[u32],
+    place: usize,
+    rows: usize,
+    classes: &[u8; 256],
+) -> RowAnswer
+    requires { ⌜ (now classes ≡ classTable) × RowsReady (now head) (now sheet) place rows ⌝ }
+    ensures { λ r. ⌜ r ≡ rowAnswer (originRow (rowsFrom (now (head .entry)) (now (sheet .entry)) place rows) (record { start = at; bytes = drop at (now (head .entry)) })) ⌝ }
+{
+    let parts = origin_parts(head, at, classes);
+    let name = parts.first;
+    let note = parts.second;
+    if name.len == 0 {
+        return RowAnswer::Refused(MISSING_COLUMN);
+    }
+    let id = text_of(head, parts.id);
+    let read = OriginId::read(id, classes);
+    let Number::Good(n) = read else {
+        return RowAnswer::Refused(BAD_NUMBER);
+    };
+    if 128 < name.len {
+        return RowAnswer::Refused(BAD_TEXT);
+    }
+    if 160 < note.len {
+        return RowAnswer::Refused(BAD_TEXT);
+    }
+    let id1 = n + 1;
+    if sheets::has_id(sheet, place, rows, id1) {
+        return RowAnswer::Refused(ROW_OUT_OF_PLACE);
+    }
+    if ROW_LIMIT <= rows {
+        return RowAnswer::Refused(TABLE_FULL);
+    }
+    as_row(id1, parts)
+}
+
+pub fn editor_row(
+    head: &[u8],
+    at: usize,
+    sheet: &[u32],
+    place: usize,
+    rows: usize,
+    classes: &[u8; 256],
+) -> RowAnswer
+    requires { ⌜ (now classes ≡ classTable) × RowsReady (now head) (now sheet) place rows ⌝ }
+    ensures { λ r. ⌜ r ≡ rowAnswer (editorRow (rowsFrom (now (head .entry)) (now (sheet .entry)) place rows) (record { start = at; bytes = drop at (now (head .entry)) })) ⌝ }
+{
+    let parts = tag_parts(head, at, false, classes);
+    let login = parts.first;
+    let name = parts.second;
+    if name.len == 0 {
+        return RowAnswer::Refused(MISSING_COLUMN);
+    }
+    let id = text_of(head, parts.id);
+    let read = EditorId::read(id, classes);
+    let Number::Good(id1) = read else {
+        return RowAnswer::Refused(BAD_NUMBER);
+    };
+    if 16 < login.len {
+        return RowAnswer::Refused(BAD_TEXT);
+    }
+    if 40 < name.len {
+        return RowAnswer::Refused(BAD_TEXT);
+    }
+    if sheets::has_id(sheet, place, rows, id1) {
+        return RowAnswer::Refused(ROW_OUT_OF_PLACE);
+    }
+    if ROW_LIMIT <= rows {
+        return RowAnswer::Refused(TABLE_FULL);
+    }
+    as_row(id1, parts)
+}
+
+// The ids of tags stand in order: -1 if given, 0 if given, then 1, 2, 3 without a gap, each here with one added.
+fn id_follows(sheet: &[u32], place: usize, rows: usize, id1: u32) -> bool
+    requires { ⌜ place + 6 * rows ≤ length (now sheet) ⌝ }
+    ensures { λ r. ⌜ ((file : List ℕ) → r ≡ follows (lastId (rowsFrom file (now (sheet .entry)) place rows)) id1) ⌝ }
+{
+    if rows == 0 {
+        return id1 <= 2;
+    }
+    let last = sheet[place + 6 * (rows - 1)] as u64;
+    if id1 as u64 == last + 1 {
+        return true;
+    }
+    if last == 0 {
+        return id1 == 2;
+    }
+    false
+}
+
+fn tag_in_place(head: &[u8], sheet: &[u32], place: usize, rows: usize, id1: u32, tag: &[u8]) -> bool
+    requires { ⌜ RowsReady (now head) (now sheet) place rows ⌝ }
+    ensures { λ r. ⌜ r ≡ tagInPlace (rowsFrom (now (head .entry)) (now (sheet .entry)) place rows) id1 (now (tag .entry)) ⌝ }
+{
+    if !id_follows(sheet, place, rows, id1) {
+        return false;
+    }
+    if !own_tag(id1, tag) {
+        return false;
+    }
+    !sheets::has_tag(head, sheet, place, rows, tag)
+}
+
+fn tag_limit(table: usize) -> usize
+    ensures { λ r. ⌜ r ≡ tagLimit table ⌝ }
+{
+    if table == MORPH_TAGS {
+        return 32;
+    }
+    10
+}
+
+fn good_tag(table: usize, tag: &[u8]) -> bool
+    ensures { λ r. ⌜ r ≡ goodTag table (now (tag .entry)) ⌝ }
+{
+    if tag_limit(table) < tag.len() {
+        return false;
+    }
+    !texts::same_text(tag, b"%%")
+}
+
+pub fn tag_row(
+    head: &[u8],
+    at: usize,
+    table: usize,
+    sheet: &[u32],
+    place: usize,
+    rows: usize,
+    classes: &[u8; 256],
+) -> RowAnswer
+    requires { ⌜ (now classes ≡ classTable) × RowsReady (now head) (now sheet) place rows ⌝ }
+    ensures { λ r. ⌜ r ≡ rowAnswer (tagRow table (rowsFrom (now (head .entry)) (now (sheet .entry)) place rows) (record { start = at; bytes = drop at (now (head .entry)) })) ⌝ }
+{
+    let parts = tag_parts(head, at, table == WORD_TAGS, classes);
+    let described = parts.second;
+    if described.len == 0 {
+        return RowAnswer::Refused(MISSING_COLUMN);
+    }
+    let id = text_of(head, parts.id);
+    let read = RowId::read(id, classes);
+    let Number::Good(id1) = read else {
+        return RowAnswer::Refused(BAD_NUMBER);
+    };
+    let tag = text_of(head, parts.first);
+    if !good_tag(table, tag) {
+        return RowAnswer::Refused(BAD_TEXT);
+    }
+    if !parts.right {
+        return RowAnswer::Refused(BAD_TEXT);
+    }
+    if 80 < described.len {
+        return RowAnswer::Refused(BAD_TEXT);
+    }
+    if !tag_in_place(head, sheet, place, rows, id1, tag) {
+        return RowAnswer::Refused(ROW_OUT_OF_PLACE);
+    }
+    if ROW_LIMIT <= rows {
+        return RowAnswer::Refused(TABLE_FULL);
+    }
+    as_row(id1, parts)
+}
+
+// The line is the file's bytes from `at` on; its table's rows so far stand in the sheet from `place` on.
+pub fn row_line(
+    head: &[u8],
+    at: usize,
+    table: usize,
+    sheet: &[u32],
+    place: usize,
+    rows: usize,
+    classes: &[u8; 256],
+) -> RowAnswer
+    requires { ⌜ (now classes ≡ classTable) × RowsReady (now head) (now sheet) place rows ⌝ }
+    ensures { λ r. ⌜ r ≡ rowAnswer (rowOf table (rowsFrom (now (head .entry)) (now (sheet .entry)) place rows) (record { start = at; bytes = drop at (now (head .entry)) })) ⌝ }
+{
+    if table == ORIGINS {
+        return origin_row(head, at, sheet, place, rows, classes);
+    }
+    if table == EDITORS {
+        return editor_row(head, at, sheet, place, rows, classes);
+    }
+    tag_row(head, at, table, sheet, place, rows, classes)
 }

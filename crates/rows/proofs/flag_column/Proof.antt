@@ -4,7 +4,7 @@ use borrow.Author.Needs.{needs}
 use borrow.Author.Tests.{not-true, not-false}
 use Rattle.rules.specs.Texts.{Text}
 use Rattle.rules.specs.Columns as lines
-use Rattle.rows.proofs.Firsts.{left, next, first-lies}
+use Rattle.rows.proofs.Firsts.{left, next, first-stands}
 use Rattle.rows.proofs.Spans.{span-bytes, span-inside}
 use Rattle.rows.proofs.Flags.{flag-none, flag-yes, flag-other}
 use Rattle.rows.proofs.RowParts.{cut-behind, cut-text}
@@ -39,7 +39,7 @@ column-bytes : (t : tie.After-text-of) → t .text-of .result .now ≡ column (t
 column-bytes t =
     let f = t .before in
     t .text-of .ensures
-    ∙ span-bytes (head f) (column f) _ (first-lies (head f) (at f)) (cut-text (head f) (at f) _ (f .first-column .ensures))
+    ∙ span-bytes (head f) (column f) _ (first-stands (head f) (at f)) (cut-text (head f) (at f) _ (f .first-column .ensures))
 
 -- src/lib.rt:79:9
 returns : tie.Need-returns
@@ -53,7 +53,7 @@ first-column-requires c κs = search needs
 
 -- src/lib.rt:87:9
 text-of-requires : tie.Need-text-of-requires
-text-of-requires c κs = span-inside (head c) (column c) _ (first-lies (head c) (at c)) (cut-text (head c) (at c) _ (c .first-column .ensures))
+text-of-requires c κs = span-inside (head c) (column c) _ (first-stands (head c) (at c)) (cut-text (head c) (at c) _ (c .first-column .ensures))
 
 -- src/lib.rt:88:31
 slice-aggregate-same-text : tie.Need-slice-aggregate-same-text
