@@ -1,20 +1,19 @@
 -- Laws of the first column from a place on: where it lies, what stands behind it, and that the other columns are those
 -- from there on. By the cursor's two answers. Assumes nothing.
-use Prim.Native.Nat.{ℕ, suc, _+_, _-_, _≤_}
+use Prim.Native.Nat.{ℕ, suc, _-_, _≤_}
 use native.Mathlib.Nat.{le-refl}
 use native.Mathlib.Omega.{arith}
-use mathlib.Core.Path.{_≡_, refl, sym, ap, _∙_}
+use mathlib.Core.Path.{_≡_, refl, ap, _∙_}
 use mathlib.Core.List.{List, [], _∷_}
 use lib.ListN.{length, take, drop, length-drop, drop-of-length-le}
 use lib.Seq.{length-take-le}
-use Rattle.rules.specs.Texts.{Text, trim, trimFrom, inFront, frontBytes, behind, behindFrom}
+use Rattle.rules.specs.Texts.{trim, trimFrom, inFront, frontBytes, behind, behindFrom}
 use Rattle.rules.specs.Columns as lines
 use Rattle.columns.specs.Cursors.{columnAt}
 use Rattle.columns.specs.declared.Cursor.{Cursor}
 use Rattle.columns.specs.declared.Column.{Column}
 use Rattle.columns.specs.declared.Column.the-variants.{Found, Missing}
-use Rattle.columns.proofs.Steps.{columnBetween, Step, found, missing}
-use Rattle.texts.specs.Spans.{spanOf}
+use Rattle.columns.proofs.Steps.{columnBetween, found, missing}
 use Rattle.sheets.specs.Standing.{Stands}
 use Rattle.sheets.proofs.Standing.{no-text-stands, text-stands}
 use Rattle.rows.specs.Parts.{placeBehind, firstOf}

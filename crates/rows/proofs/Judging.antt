@@ -1,13 +1,12 @@
 -- Laws of how a line is judged, rule by rule in rising order: each rule that holds is passed, the first that doesn't
 -- refuses. And what the length of a text tells of the rules about it. Assumes nothing.
-use Prim.Native.Nat.{ℕ, _+_, _≤_, _<_}
+use Prim.Native.Nat.{ℕ, _≤_, _<_}
 use native.Mathlib.Omega.{arith}
 use mathlib.Core.Path.{_≡_, refl, sym, ap, _∙_}
-use mathlib.Core.Bool.{Bool, true, false}
+use mathlib.Core.Bool.{true, false}
 use mathlib.Core.List.{List, [], _∷_}
 use borrow.Author.Tests.{le-leb, lt-leb}
 use lib.ListN.{length}
-use Rattle.rules.specs.Lists.{pick}
 use Rattle.rules.specs.Texts.{Text, given, atMost}
 use Rattle.rules.specs.Rules.{Rule, Verdict, refused, granted, checked}
 use Rattle.rules.specs.Tables as tables

@@ -2,7 +2,9 @@ pub mod Firsts
 pub mod Spans
 pub mod Flags
 pub mod OwnTags
+pub mod TagLaws
 pub mod RowParts
 pub mod RowTexts
 pub mod LastIds
 pub mod Judging
+pub mod Granted

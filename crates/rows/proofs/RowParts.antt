@@ -1,11 +1,11 @@
 -- Laws of a row's parts: what the code cuts off, column by column, and trims are they. Assumes nothing.
 use Prim.Native.Nat.{ℕ, _+_, _≤_}
 use mathlib.Core.Path.{_≡_, refl, sym, ap, _∙_}
-use mathlib.Core.Bool.{Bool, true, false, not, _&&_, _||_}
+use mathlib.Core.Bool.{Bool, true, false}
 use mathlib.Core.List.{List}
 use lib.ListN.{length, take, drop}
 use Rattle.rules.specs.Lists.{pick}
-use Rattle.rules.specs.Texts.{Text, reads, trim, trimFrom, inFront, frontBytes, behind}
+use Rattle.rules.specs.Texts.{Text, reads, trim, trimFrom, frontBytes, behind}
 use Rattle.rules.specs.Columns as lines
 use Rattle.rules.specs.Rows.{yes, isFlag}
 use Rattle.texts.specs.Spans.{spanOf}

@@ -1,11 +1,11 @@
 -- `rows::editor_row` meets its contract: the rules are judged one after the other, each by one test.
 -- Assumes nothing.
 use borrow.Author.Needs.{needs}
-use mathlib.Core.Bool.{not}
+use mathlib.Core.Bool.{not, true, false}
 use mathlib.Core.Option.{Option}
 use Rattle.rules.specs.Texts.{Text, given, atMost}
 use Rattle.rules.specs.Numbers.{signedId, good, value}
-use Rattle.rules.specs.Rules.{Rule, Verdict}
+use Rattle.rules.specs.Rules.{Verdict}
 use Rattle.rules.specs.Tables.{Row, hasId}
 use Rattle.rules.specs.Rows.{editorRow}
 use Rattle.texts.specs.Spans.{spanOf}
@@ -19,23 +19,12 @@ use Rattle.rows.proofs.Spans.{span-bytes, span-inside}
 use Rattle.rows.proofs.RowParts.{lineAt}
 use Rattle.rows.proofs.RowTexts.{idText, tagText, restText, tag-id, tag-first, tag-second, tag-flag, tag-fits}
 use Rattle.rows.proofs.LastIds.{has-room, no-room}
-use Rattle.rows.proofs.Judging.{Judged, pass, stop, all-passed, judged, answer-refused, answer-granted, absent, here, short-enough, too-long}
-use native.Mathlib.Omega.{arith}
-use Prim.Native.Nat.{ℕ, suc, _+_, _-_, _*_, _≤_, _<_}
+use Rattle.rows.proofs.Judging.{pass, stop, all-passed, judged, answer-refused, answer-granted, absent, here, short-enough, too-long}
+use Prim.Native.Nat.{ℕ}
 use mathlib.Core.Path.{_≡_, refl, sym, ap, _∙_}
-use mathlib.Core.Bool.{Bool, true, false}
-use mathlib.Core.List.{List, [], _∷_, _++_}
-use mathlib.Core.Logic.{⊎-elim}
-use lib.ListN.{length, getD, take, drop, set}
+use mathlib.Core.List.{List}
 use Rattle.rows.proofs.editor_row.Statement.{statement}
 use Rattle.rows.proofs.editor_row.Tie as tie
-use Rattle.rows.proofs.editor_row.Reads as reads
-use Rattle.rows.proofs.editor_row.Lts as lts
-use Rattle.numbers.proofs.OriginId.read.Reads as read-reads
-use Rattle.rows.proofs.as_row.Reads as as-row-reads
-use Rattle.rows.proofs.tag_parts.Reads as tag-parts-reads
-use Rattle.rows.proofs.text_of.Reads as text-of-reads
-use Rattle.sheets.proofs.has_id.Reads as has-id-reads
 
 abbrev start : tie.After-tag-parts → tie.Start
 start o = o .before .before .before
@@ -137,35 +126,27 @@ name-short h = short-enough (name (cut-at h)) _ (name-span (cut-at h)) 40 (texts
 looked-up : (h : tie.After-has-id) → h .has-id .result ≡ hasId (value (idRead (cut-at h))) (rows (cut-at h))
 looked-up h = h .has-id .ensures (head (cut-at h)) ∙ ap (λ (i : ℕ). hasId i (rows (cut-at h))) (id-is (known-at h))
 
-
--- src/lib.rt:227:9
 tag-parts-requires : tie.Need-tag-parts-requires
 tag-parts-requires c κs = search needs
 
--- src/lib.rt:231:9
 returns : tie.Need-returns
 unfolding editorRow
 returns c =
     let o = c .before .before .before .before in
     answer-refused (verdict o) (judged _ _ refl (stop (absent (name o) _ (name-span o) (c .if1 .taken))))
 
--- src/lib.rt:233:9
 text-of-requires : tie.Need-text-of-requires
 text-of-requires c κs = let o = parts-of c in span-inside (head o) _ _ (first-stands (head o) (at o)) (id-span o)
 
--- src/lib.rt:234:9
 read-requires : tie.Need-read-requires
 read-requires c κs = search needs
 
--- src/lib.rt:235:22
 enum-known-read : tie.Need-enum-known-read
 enum-known-read c = search needs
 
--- src/lib.rt:236:9
 enum-told : tie.Need-enum-told
 enum-told c = search needs
 
--- src/lib.rt:236:9
 returns-2 : tie.Need-returns-2
 unfolding editorRow
 returns-2 c =
@@ -173,7 +154,6 @@ returns-2 c =
     let o = read-parts r in
     answer-refused (verdict o) (judged _ _ refl (pass (named (r .before .before)) (stop (bad-is-not-good (idRead o) (sym (read-is r) ∙ c .enum-told .given .1)))))
 
--- src/lib.rt:239:9
 returns-3 : tie.Need-returns-3
 unfolding editorRow
 returns-3 c =
@@ -181,7 +161,6 @@ returns-3 c =
     let o = cut k in
     answer-refused (verdict o) (judged _ _ refl (pass (named (else1 k)) (pass (is-good k) (stop (too-long (login o) _ (login-span o) 16 (c .if2 .taken))))))
 
--- src/lib.rt:242:9
 returns-4 : tie.Need-returns-4
 unfolding editorRow
 returns-4 c =
@@ -190,29 +169,24 @@ returns-4 c =
     let o = cut k in
     answer-refused (verdict o) (judged _ _ refl (pass (named (else1 k)) (pass (is-good k) (pass (login-short e) (stop (too-long (name o) _ (name-span o) 40 (c .if3 .taken)))))))
 
--- src/lib.rt:245:8
 has-id-requires : tie.Need-has-id-requires
 has-id-requires c κs = search needs
 
--- src/lib.rt:246:9
 returns-5 : tie.Need-returns-5
 unfolding editorRow
 returns-5 c =
     let h = c .before in
     answer-refused (verdict (cut-at h)) (judged _ _ refl (pass (named (else1 (known-at h))) (pass (is-good (known-at h)) (pass (login-short (texts-good h .before .before)) (pass (name-short h) (stop (ap not (sym (looked-up h) ∙ c .if4 .taken))))))))
 
--- src/lib.rt:249:9
 returns-6 : tie.Need-returns-6
 unfolding editorRow
 returns-6 c =
     let h = c .before .before in
     answer-refused (verdict (cut-at h)) (judged _ _ refl (pass (named (else1 (known-at h))) (pass (is-good (known-at h)) (pass (login-short (texts-good h .before .before)) (pass (name-short h) (pass (ap not (sym (looked-up h) ∙ c .before .if4 .left)) (stop (no-room _ _ _ _ (c .if5 .taken)))))))))
 
--- src/lib.rt:251:5
 as-row-requires : tie.Need-as-row-requires
 as-row-requires c κs = let o = cut-at (c .before .before) in tag-fits (head o) (at o) false _ (o .tag-parts .ensures) (start o .pre .1 .fits)
 
--- src/lib.rt:216:1
 returns-7 : tie.Need-returns-7
 unfolding editorRow
 returns-7 c =

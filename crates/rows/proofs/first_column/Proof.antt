@@ -3,18 +3,11 @@ use Rattle.columns.specs.Cursors.{columnAt}
 use Rattle.columns.specs.declared.Column.{Column}
 use Rattle.rows.proofs.Firsts.{found-order, answer-found, answer-missing}
 use native.Mathlib.Omega.{arith}
-use Prim.Native.Nat.{ℕ, suc, _+_, _-_, _*_, _≤_, _<_}
-use mathlib.Core.Path.{_≡_, refl, sym, ap, _∙_}
-use mathlib.Core.Bool.{Bool, true, false}
-use mathlib.Core.List.{List, [], _∷_, _++_}
-use mathlib.Core.Logic.{⊎-elim}
-use lib.ListN.{length, getD, take, drop, set}
+use Prim.Native.Nat.{ℕ}
+use mathlib.Core.Path.{_≡_, sym, ap, _∙_}
+use mathlib.Core.List.{List}
 use Rattle.rows.proofs.first_column.Statement.{statement}
 use Rattle.rows.proofs.first_column.Tie as tie
-use Rattle.rows.proofs.first_column.Reads as reads
-use Rattle.rows.proofs.first_column.Lts as lts
-use Rattle.columns.proofs.Cursor.new.Reads as new-reads
-use Rattle.columns.proofs.Cursor.next.Reads as next-reads
 
 abbrev start : tie.After-next → tie.Start
 start r = r .before .before .before
@@ -25,31 +18,24 @@ head r = start r .args .head .now
 asked : (r : tie.After-next) {d : Column} → r .next .result ≡ d → columnAt (head r) (start r .args .at) ≡ d
 asked r e = sym (r .next .ensures ∙ ap (columnAt (head r)) (r .before .new .ensures)) ∙ e
 
--- src/lib.rt:38:18
 new-requires : tie.Need-new-requires
 new-requires c κs = search needs
 
--- src/lib.rt:38:9
 next-requires : tie.Need-next-requires
 next-requires c κs = search needs
 
--- src/lib.rt:41:13
 enum-known-column : tie.Need-enum-known-column
 enum-known-column c = search needs
 
--- src/lib.rt:47:22
 sub-t9 : tie.Need-sub-t9
 sub-t9 c = omega (arith, found-order _ _ _ _ _ (asked (c .before .before .before) (c .before .column .given .1)))
 
--- src/lib.rt:52:19
 enum-told : tie.Need-enum-told
 enum-told c = search needs
 
--- src/lib.rt:34:1
 returns : tie.Need-returns
 returns c = sym (answer-found _ _ _ _ _ (asked (c .before .before .before) (c .before .column .given .1)))
 
--- src/lib.rt:34:1
 returns-2 : tie.Need-returns-2
 returns-2 c = sym (answer-missing _ _ (asked (c .before .before) (c .enum-told .given .1)))
 

@@ -4,24 +4,17 @@ use borrow.Author.Needs.{needs}
 use borrow.Author.Tests.{not-true, not-false}
 use Rattle.rules.specs.Texts.{Text}
 use Rattle.rules.specs.Columns as lines
-use Rattle.rows.proofs.Firsts.{left, next, first-stands}
+use Rattle.rows.proofs.Firsts.{left, first-stands}
 use Rattle.rows.proofs.Spans.{span-bytes, span-inside}
 use Rattle.rows.proofs.Flags.{flag-none, flag-yes, flag-other}
 use Rattle.rows.proofs.RowParts.{cut-behind, cut-text}
-use native.Mathlib.Omega.{arith}
-use Prim.Native.Nat.{ℕ, suc, _+_, _-_, _*_, _≤_, _<_}
-use mathlib.Core.Path.{_≡_, refl, sym, ap, _∙_}
-use mathlib.Core.Bool.{Bool, true, false}
-use mathlib.Core.List.{List, [], _∷_, _++_}
-use mathlib.Core.Logic.{⊎-elim}
-use lib.ListN.{length, getD, take, drop, set}
+use Prim.Native.Nat.{ℕ}
+use mathlib.Core.Path.{_≡_, sym, _∙_}
+use mathlib.Core.Bool.{true}
+use mathlib.Core.List.{List}
+use lib.ListN.{length}
 use Rattle.rows.proofs.flag_column.Statement.{statement}
 use Rattle.rows.proofs.flag_column.Tie as tie
-use Rattle.rows.proofs.flag_column.Reads as reads
-use Rattle.rows.proofs.flag_column.Lts as lts
-use Rattle.rows.proofs.first_column.Reads as first-column-reads
-use Rattle.rows.proofs.text_of.Reads as text-of-reads
-use Rattle.texts.proofs.same_text.Reads as same-text-reads
 
 abbrev head : tie.After-first-column → List ℕ
 head f = f .before .before .before .args .head .now
@@ -41,44 +34,35 @@ column-bytes t =
     t .text-of .ensures
     ∙ span-bytes (head f) (column f) _ (first-stands (head f) (at f)) (cut-text (head f) (at f) _ (f .first-column .ensures))
 
--- src/lib.rt:79:9
 returns : tie.Need-returns
 returns c =
     let a = c .before .before .args in
     sym (flag-none (a .flagged) (length (a .head .now)) (a .at) (left (a .head .now) (a .at)) (not-true _ (c .if1 .taken)))
 
--- src/lib.rt:85:9
 first-column-requires : tie.Need-first-column-requires
 first-column-requires c κs = search needs
 
--- src/lib.rt:87:9
 text-of-requires : tie.Need-text-of-requires
 text-of-requires c κs = span-inside (head c) (column c) _ (first-stands (head c) (at c)) (cut-text (head c) (at c) _ (c .first-column .ensures))
 
--- src/lib.rt:88:31
 slice-aggregate-same-text : tie.Need-slice-aggregate-same-text
 slice-aggregate-same-text c = search needs
 
--- src/lib.rt:88:8
 same-text-requires : tie.Need-same-text-requires
 same-text-requires c κs = search needs
 
--- src/lib.rt:89:9
 returns-2 : tie.Need-returns-2
 returns-2 c =
     let t = c .before .before .before in
     rw (cut-behind (head (t .before)) (at (t .before)) _ (t .before .first-column .ensures))
     (sym (flag-yes _ _ _ _ (flagged (t .before)) _ (column-bytes t) (sym (c .before .same-text .ensures) ∙ c .if2 .taken)))
 
--- src/lib.rt:95:40
 slice-aggregate-same-text-2 : tie.Need-slice-aggregate-same-text-2
 slice-aggregate-same-text-2 c = search needs
 
--- src/lib.rt:95:9
 same-text-requires-2 : tie.Need-same-text-requires-2
 same-text-requires-2 c κs = search needs
 
--- src/lib.rt:74:1
 returns-3 : tie.Need-returns-3
 returns-3 c =
     let t = c .before .before .before .before .before in

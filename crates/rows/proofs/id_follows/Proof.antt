@@ -3,16 +3,10 @@
 use borrow.Author.Needs.{needs}
 use Rattle.rows.proofs.LastIds.{follows-none, follows-next, follows-unknown, follows-not}
 use native.Mathlib.Omega.{arith}
-use Prim.Native.Nat.{ℕ, suc, _+_, _-_, _*_, _≤_, _<_}
-use mathlib.Core.Path.{_≡_, refl, sym, ap, _∙_}
-use mathlib.Core.Bool.{Bool, true, false}
-use mathlib.Core.List.{List, [], _∷_, _++_}
-use mathlib.Core.Logic.{⊎-elim}
-use lib.ListN.{length, getD, take, drop, set}
+use Prim.Native.Nat.{ℕ, _+_, _-_, _*_}
+use mathlib.Core.List.{List}
 use Rattle.rows.proofs.id_follows.Statement.{statement}
 use Rattle.rows.proofs.id_follows.Tie as tie
-use Rattle.rows.proofs.id_follows.Reads as reads
-use Rattle.rows.proofs.id_follows.Lts as lts
 
 abbrev start : tie.After-shared-slice-known → tie.Start
 start c = c .before .before
@@ -24,47 +18,36 @@ sheet s = s .args .sheet .now
 abbrev place : tie.Start → ℕ
 place s = s .args .place + 6 * (s .args .rows - 1)
 
--- src/lib.rt:297:9
 returns : tie.Need-returns
 returns c file = follows-none file (sheet (c .before)) (c .before .args .place) (c .before .args .rows) (c .if1 .taken) (c .before .args .id1)
 
--- src/lib.rt:299:35
 sub-last : tie.Need-sub-last
 sub-last c = search needs
 
--- src/lib.rt:299:30
 mul-last : tie.Need-mul-last
 mul-last c = search needs
 
--- src/lib.rt:299:22
 add-last : tie.Need-add-last
 add-last c = search needs
 
--- src/lib.rt:299:16
 mul-last-2 : tie.Need-mul-last-2
 mul-last-2 c = search needs
 
--- src/lib.rt:299:16
 shared-slice-read-last : tie.Need-shared-slice-read-last
 shared-slice-read-last c = search needs
 
--- src/lib.rt:299:16
 cast-last : tie.Need-cast-last
 cast-last c = omega (arith, c .shared-slice-known .given (place (start c)))
 
--- src/lib.rt:300:22
 add-if2 : tie.Need-add-if2
 add-if2 c = omega (arith, c .shared-slice-known .given (place (start c)))
 
--- src/lib.rt:301:9
 returns-2 : tie.Need-returns-2
 returns-2 c file = let s = start (c .before) in follows-next file (sheet s) (s .args .place) (s .args .rows) (c .before .before .if1 .left) (s .args .id1) (c .if2 .taken)
 
--- src/lib.rt:304:9
 returns-3 : tie.Need-returns-3
 returns-3 c file = let s = start (c .before .before) in follows-unknown file (sheet s) (s .args .place) (s .args .rows) (c .before .before .before .if1 .left) (s .args .id1) (c .before .if2 .left) (c .if3 .taken)
 
--- src/lib.rt:292:1
 returns-4 : tie.Need-returns-4
 returns-4 c file = let s = start (c .before .before) in follows-not file (sheet s) (s .args .place) (s .args .rows) (c .before .before .before .if1 .left) (s .args .id1) (c .before .if2 .left) (c .if3 .left)
 

@@ -4,20 +4,12 @@ use borrow.Author.Needs.{needs}
 use lib.Seq.{length-take-le}
 use Rattle.texts.proofs.Percents.{percents-inside}
 use Rattle.rows.proofs.RowParts.{cut-within, origin-parts}
-use native.Mathlib.Omega.{arith}
-use Prim.Native.Nat.{ℕ, suc, _+_, _-_, _*_, _≤_, _<_}
-use mathlib.Core.Path.{_≡_, refl, sym, ap, _∙_}
-use mathlib.Core.Bool.{Bool, true, false}
-use mathlib.Core.List.{List, [], _∷_, _++_}
-use mathlib.Core.Logic.{⊎-elim}
-use lib.ListN.{length, getD, take, drop, set}
+use Prim.Native.Nat.{ℕ, _≤_}
+use mathlib.Core.Path.{sym}
+use mathlib.Core.List.{List}
+use lib.ListN.{length}
 use Rattle.rows.proofs.origin_parts.Statement.{statement}
 use Rattle.rows.proofs.origin_parts.Tie as tie
-use Rattle.rows.proofs.origin_parts.Reads as reads
-use Rattle.rows.proofs.origin_parts.Lts as lts
-use Rattle.rows.proofs.first_column.Reads as first-column-reads
-use Rattle.texts.proofs.percents_from.Reads as percents-from-reads
-use Rattle.texts.proofs.trim.Reads as trim-reads
 
 abbrev head : tie.After-first-column → List ℕ
 head f = f .before .before .args .head .now
@@ -30,31 +22,24 @@ inside p =
     let f = p .before .before in
     percents-inside (head f) _ _ (cut-within (head f) (at f) _ (f .first-column .ensures)) (p .percents-from .ensures)
 
--- src/lib.rt:116:9
 first-column-requires : tie.Need-first-column-requires
 first-column-requires c κs = search needs
 
--- src/lib.rt:119:9
 percents-from-requires : tie.Need-percents-from-requires
 percents-from-requires c κs = cut-within (head (c .before)) (at (c .before)) _ (c .before .first-column .ensures)
 
--- src/lib.rt:120:28
 slice-aggregate-trim : tie.Need-slice-aggregate-trim
 slice-aggregate-trim c = sym (length-take-le _ _ (inside (c .before)))
 
--- src/lib.rt:120:9
 trim-requires : tie.Need-trim-requires
 trim-requires c κs = search needs
 
--- src/lib.rt:121:34
 add-trim : tie.Need-add-trim
 add-trim c = let h = inside (c .before .before) in search needs
 
--- src/lib.rt:121:9
 trim-requires-2 : tie.Need-trim-requires-2
 trim-requires-2 c κs = search needs
 
--- src/lib.rt:112:1
 returns : tie.Need-returns
 returns c =
     let p = c .before .before .before in

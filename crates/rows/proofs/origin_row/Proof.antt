@@ -2,11 +2,11 @@
 -- Assumes nothing.
 use borrow.Author.Needs.{needs}
 use native.Mathlib.Numerals.{add-one}
-use mathlib.Core.Bool.{not}
+use mathlib.Core.Bool.{not, true}
 use mathlib.Core.Option.{Option}
 use Rattle.rules.specs.Texts.{Text, given, atMost}
 use Rattle.rules.specs.Numbers.{originId, number, good, value}
-use Rattle.rules.specs.Rules.{Rule, Verdict}
+use Rattle.rules.specs.Rules.{Verdict}
 use Rattle.rules.specs.Tables.{Row, hasId}
 use Rattle.rules.specs.Rows.{originRow}
 use Rattle.texts.specs.Spans.{spanOf}
@@ -20,23 +20,13 @@ use Rattle.rows.proofs.Spans.{span-bytes, span-inside}
 use Rattle.rows.proofs.RowParts.{lineAt}
 use Rattle.rows.proofs.RowTexts.{idText, nameText, noteText, origin-id, origin-name, origin-note, origin-unflagged, origin-fits}
 use Rattle.rows.proofs.LastIds.{has-room, no-room}
-use Rattle.rows.proofs.Judging.{Judged, pass, stop, all-passed, judged, answer-refused, answer-granted, absent, here, short-enough, too-long}
+use Rattle.rows.proofs.Judging.{pass, stop, all-passed, judged, answer-refused, answer-granted, absent, here, short-enough, too-long}
 use native.Mathlib.Omega.{arith}
-use Prim.Native.Nat.{ℕ, suc, _+_, _-_, _*_, _≤_, _<_}
+use Prim.Native.Nat.{ℕ, suc, _+_, _≤_}
 use mathlib.Core.Path.{_≡_, refl, sym, ap, _∙_}
-use mathlib.Core.Bool.{Bool, true, false}
-use mathlib.Core.List.{List, [], _∷_, _++_}
-use mathlib.Core.Logic.{⊎-elim}
-use lib.ListN.{length, getD, take, drop, set}
+use mathlib.Core.List.{List}
 use Rattle.rows.proofs.origin_row.Statement.{statement}
 use Rattle.rows.proofs.origin_row.Tie as tie
-use Rattle.rows.proofs.origin_row.Reads as reads
-use Rattle.rows.proofs.origin_row.Lts as lts
-use Rattle.numbers.proofs.OriginId.read.Reads as read-reads
-use Rattle.rows.proofs.as_row.Reads as as-row-reads
-use Rattle.rows.proofs.origin_parts.Reads as origin-parts-reads
-use Rattle.rows.proofs.text_of.Reads as text-of-reads
-use Rattle.sheets.proofs.has_id.Reads as has-id-reads
 
 abbrev start : tie.After-origin-parts → tie.Start
 start o = o .before .before .before
@@ -141,35 +131,27 @@ note-short h = short-enough (note (cut-at h)) _ (note-span (cut-at h)) 160 (text
 looked-up : (h : tie.After-has-id) → h .has-id .result ≡ hasId (suc (value (idRead (cut-at h)))) (rows (cut-at h))
 looked-up h = h .has-id .ensures (head (cut-at h)) ∙ ap (λ (i : ℕ). hasId i (rows (cut-at h))) (id-is (known-at h))
 
-
--- src/lib.rt:227:9
 origin-parts-requires : tie.Need-origin-parts-requires
 origin-parts-requires c κs = search needs
 
--- src/lib.rt:231:9
 returns : tie.Need-returns
 unfolding originRow
 returns c =
     let o = c .before .before .before .before in
     answer-refused (verdict o) (judged _ _ refl (stop (absent (name o) _ (name-span o) (c .if1 .taken))))
 
--- src/lib.rt:233:9
 text-of-requires : tie.Need-text-of-requires
 text-of-requires c κs = let o = parts-of c in span-inside (head o) _ _ (first-stands (head o) (at o)) (id-span o)
 
--- src/lib.rt:234:9
 read-requires : tie.Need-read-requires
 read-requires c κs = search needs
 
--- src/lib.rt:235:22
 enum-known-read : tie.Need-enum-known-read
 enum-known-read c = search needs
 
--- src/lib.rt:236:9
 enum-told : tie.Need-enum-told
 enum-told c = search needs
 
--- src/lib.rt:236:9
 returns-2 : tie.Need-returns-2
 unfolding originRow
 returns-2 c =
@@ -177,7 +159,6 @@ returns-2 c =
     let o = read-parts r in
     answer-refused (verdict o) (judged _ _ refl (pass (named (r .before .before)) (stop (bad-is-not-good (idRead o) (sym (read-is r) ∙ c .enum-told .given .1)))))
 
--- src/lib.rt:239:9
 returns-3 : tie.Need-returns-3
 unfolding originRow
 returns-3 c =
@@ -185,7 +166,6 @@ returns-3 c =
     let o = cut k in
     answer-refused (verdict o) (judged _ _ refl (pass (named (else1 k)) (pass (is-good k) (stop (too-long (name o) _ (name-span o) 128 (c .if2 .taken))))))
 
--- src/lib.rt:242:9
 returns-4 : tie.Need-returns-4
 unfolding originRow
 returns-4 c =
@@ -194,33 +174,27 @@ returns-4 c =
     let o = cut k in
     answer-refused (verdict o) (judged _ _ refl (pass (named (else1 k)) (pass (is-good k) (pass (name-short e) (stop (too-long (note o) _ (note-span o) 160 (c .if3 .taken)))))))
 
--- src/lib.rt:244:15
 add-id1 : tie.Need-add-id1
 add-id1 c = omega (arith, within (known (c .before .before)))
 
--- src/lib.rt:245:8
 has-id-requires : tie.Need-has-id-requires
 has-id-requires c κs = search needs
 
--- src/lib.rt:246:9
 returns-5 : tie.Need-returns-5
 unfolding originRow
 returns-5 c =
     let h = c .before in
     answer-refused (verdict (cut-at h)) (judged _ _ refl (pass (named (else1 (known-at h))) (pass (is-good (known-at h)) (pass (name-short (texts-good h .before .before)) (pass (note-short h) (stop (ap not (sym (looked-up h) ∙ c .if4 .taken))))))))
 
--- src/lib.rt:249:9
 returns-6 : tie.Need-returns-6
 unfolding originRow
 returns-6 c =
     let h = c .before .before in
     answer-refused (verdict (cut-at h)) (judged _ _ refl (pass (named (else1 (known-at h))) (pass (is-good (known-at h)) (pass (name-short (texts-good h .before .before)) (pass (note-short h) (pass (ap not (sym (looked-up h) ∙ c .before .if4 .left)) (stop (no-room _ _ _ _ (c .if5 .taken)))))))))
 
--- src/lib.rt:251:5
 as-row-requires : tie.Need-as-row-requires
 as-row-requires c κs = let o = cut-at (c .before .before) in origin-fits (head o) (at o) _ (o .origin-parts .ensures) (start o .pre .1 .fits)
 
--- src/lib.rt:216:1
 returns-7 : tie.Need-returns-7
 unfolding originRow
 returns-7 c =

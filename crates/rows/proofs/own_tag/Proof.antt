@@ -4,18 +4,10 @@ use borrow.Author.Needs.{needs}
 use mathlib.Core.Bool.{not}
 use Rattle.rules.specs.Texts.{Text}
 use Rattle.rows.proofs.OwnTags.{own-unknown, own-dashes, dashes-not-own, others-own}
-use native.Mathlib.Omega.{arith}
-use Prim.Native.Nat.{ℕ, suc, _+_, _-_, _*_, _≤_, _<_}
-use mathlib.Core.Path.{_≡_, refl, sym, ap, _∙_}
-use mathlib.Core.Bool.{Bool, true, false}
-use mathlib.Core.List.{List, [], _∷_, _++_}
-use mathlib.Core.Logic.{⊎-elim}
-use lib.ListN.{length, getD, take, drop, set}
+use Prim.Native.Nat.{ℕ}
+use mathlib.Core.Path.{_≡_, sym, ap, _∙_}
 use Rattle.rows.proofs.own_tag.Statement.{statement}
 use Rattle.rows.proofs.own_tag.Tie as tie
-use Rattle.rows.proofs.own_tag.Reads as reads
-use Rattle.rows.proofs.own_tag.Lts as lts
-use Rattle.texts.proofs.same_text.Reads as same-text-reads
 
 abbrev text : tie.After-same-text → ℕ → Text
 text d start = record { start = start; bytes = d .before .before .before .args .tag .now }
@@ -26,37 +18,29 @@ unlike d = d .before .before .before
 not-unknown : (d : tie.After-same-text2) → unlike d .before .before .before .args .id1 ≡ 0 → ⊥
 not-unknown d = d .before .before .if1 .left
 
--- src/lib.rt:152:44
 slice-aggregate-same-text : tie.Need-slice-aggregate-same-text
 slice-aggregate-same-text c = search needs
 
--- src/lib.rt:152:9
 same-text-requires : tie.Need-same-text-requires
 same-text-requires c κs = search needs
 
--- src/lib.rt:154:9
 returns : tie.Need-returns
 returns c start = c .before .same-text .ensures ∙ own-unknown _ (text (c .before) start) (c .if1 .taken)
 
--- src/lib.rt:156:43
 slice-aggregate-same-text-2 : tie.Need-slice-aggregate-same-text-2
 slice-aggregate-same-text-2 c = search needs
 
--- src/lib.rt:156:9
 same-text-requires-2 : tie.Need-same-text-requires-2
 same-text-requires-2 c κs = search needs
 
--- src/lib.rt:158:9
 returns-2 : tie.Need-returns-2
 returns-2 c start = c .before .same-text2 .ensures ∙ own-dashes _ (text (unlike (c .before)) start) (not-unknown (c .before)) (c .if2 .taken)
 
--- src/lib.rt:161:9
 returns-3 : tie.Need-returns-3
 returns-3 c start =
     let d = c .before .before in
     dashes-not-own _ (text (unlike d) start) (not-unknown d) (c .before .if2 .left) (sym (d .same-text2 .ensures) ∙ c .if3 .taken)
 
--- src/lib.rt:149:1
 returns-4 : tie.Need-returns-4
 returns-4 c start =
     let d = c .before .before in

@@ -1,11 +1,11 @@
 -- `rows::tag_row` meets its contract: the rules are judged one after the other, each by one test.
 -- Assumes nothing.
 use borrow.Author.Needs.{needs}
-use mathlib.Core.Bool.{not, _&&_, _||_}
+use mathlib.Core.Bool.{not, _&&_, _||_, Bool, true}
 use mathlib.Core.Option.{Option}
 use Rattle.rules.specs.Texts.{Text, given, reads, atMost}
 use Rattle.rules.specs.Numbers.{signedId, good, value}
-use Rattle.rules.specs.Rules.{Rule, Verdict}
+use Rattle.rules.specs.Rules.{Verdict}
 use Rattle.rules.specs.Tables.{Row, hasTag, tagLimit}
 use Rattle.rules.specs.Rows.{tagRow, lastId, follows, ownTag, isFlag}
 use Rattle.texts.specs.Spans.{spanOf}
@@ -19,29 +19,16 @@ use Rattle.rows.proofs.Spans.{span-bytes, span-inside}
 use Rattle.rows.proofs.RowParts.{lineAt}
 use Rattle.rows.proofs.RowTexts.{idText, tagText, flagText, restText, tag-stands, tag-id, tag-first, tag-second, tag-flag, tag-right, tag-fits}
 use Rattle.rows.proofs.LastIds.{has-room, no-room}
-use Rattle.rows.proofs.Judging.{Judged, pass, stop, all-passed, judged, answer-refused, answer-granted, absent, here, short-enough, too-long}
-use native.Mathlib.Omega.{arith}
-use Prim.Native.Nat.{ℕ, suc, _+_, _-_, _*_, _≤_, _<_}
+use Rattle.rows.proofs.Judging.{pass, stop, all-passed, judged, answer-refused, answer-granted, absent, here, short-enough, too-long}
+use Prim.Native.Nat.{ℕ}
 use mathlib.Core.Path.{_≡_, refl, sym, ap, _∙_}
-use mathlib.Core.Bool.{Bool, true, false}
-use mathlib.Core.List.{List, [], _∷_, _++_}
-use mathlib.Core.Logic.{⊎-elim}
-use lib.ListN.{length, getD, take, drop, set}
+use mathlib.Core.List.{List}
 use borrow.Author.Tests.{not-true, not-false}
 use lib.Dec.{eqb}
 use Rattle.rules.specs.Bytes.{percents}
-use Rattle.sheets.proofs.LookUps.{tag-by-bytes}
-use Rattle.rows.specs.Tags.{goodTag, tagInPlace}
+use Rattle.rows.proofs.TagLaws.{good-tag-is, in-place-is}
 use Rattle.rows.proofs.tag_row.Statement.{statement}
 use Rattle.rows.proofs.tag_row.Tie as tie
-use Rattle.rows.proofs.tag_row.Reads as reads
-use Rattle.rows.proofs.tag_row.Lts as lts
-use Rattle.numbers.proofs.EditorId.read.Reads as read-reads
-use Rattle.rows.proofs.as_row.Reads as as-row-reads
-use Rattle.rows.proofs.good_tag.Reads as good-tag-reads
-use Rattle.rows.proofs.tag_in_place.Reads as tag-in-place-reads
-use Rattle.rows.proofs.tag_parts.Reads as tag-parts-reads
-use Rattle.rows.proofs.text_of.Reads as text-of-reads
 
 abbrev start : tie.After-tag-parts → tie.Start
 start o = o .before .before .before
@@ -146,7 +133,7 @@ abbrev known : Tested → Known
 known g = g .before .before
 
 tag-tested : (g : Tested) → let o = cut (known g) in g .good-tag .result ≡ (atMost (tagLimit (table o)) (tag o) && not (reads percents (tag o)))
-tag-tested g = g .good-tag .ensures ∙ ap (goodTag (table (cut (known g)))) (tag-bytes (g .before))
+tag-tested g = good-tag-is (tag (cut (known g))) _ (tag-bytes (g .before)) (table (cut (known g))) (g .good-tag .result) (g .good-tag .ensures)
 
 -- up to the tag's test; up to the flag's; up to the description's
 tag-good : (e : tie.Else2) → let o = cut (known (e .before)) in (atMost (tagLimit (table o)) (tag o) && not (reads percents (tag o))) ≡ true
@@ -180,40 +167,29 @@ inPlace e =
 place-tested : (p : tie.After-tag-in-place) → p .tag-in-place .result ≡ inPlace (p .before)
 place-tested p =
     let e = p .before in
-    let o = cut-at e in
-    p .tag-in-place .ensures
-    ∙ ap (λ (i : ℕ). tagInPlace (rows o) i (tag-at (flag-at e) .before .before .text-of2 .result .now)) (id-is (known-at e))
-    ∙ ap (tagInPlace (rows o) (value (idRead o))) (tag-bytes (tag-at (flag-at e) .before .before))
-    ∙ ap (λ (b : Bool). follows (lastId (rows o)) (value (idRead o)) && ownTag (value (idRead o)) (tag o) && not b) (sym (tag-by-bytes (tag o) (rows o)))
+    in-place-is (tag (cut-at e)) _ (tag-bytes (tag-at (flag-at e) .before .before)) (rows (cut-at e)) _ _ (id-is (known-at e)) (p .tag-in-place .result) (p .tag-in-place .ensures)
 
--- src/lib.rt:353:9
 tag-parts-requires : tie.Need-tag-parts-requires
 tag-parts-requires c κs = search needs
 
--- src/lib.rt:356:9
 returns : tie.Need-returns
 unfolding tagRow
 returns c =
     let o = c .before .before .before in
     answer-refused (verdict o) (judged _ _ refl (stop (absent (described o) _ (described-span o) (c .if1 .taken))))
 
--- src/lib.rt:358:9
 text-of-requires : tie.Need-text-of-requires
 text-of-requires c κs = let o = parts-of c in span-inside (head o) (id o) _ (first-stands (head o) (at o)) (id-span o)
 
--- src/lib.rt:359:9
 read-requires : tie.Need-read-requires
 read-requires c κs = search needs
 
--- src/lib.rt:360:22
 enum-known-read : tie.Need-enum-known-read
 enum-known-read c = search needs
 
--- src/lib.rt:361:9
 enum-told : tie.Need-enum-told
 enum-told c = search needs
 
--- src/lib.rt:361:9
 returns-2 : tie.Need-returns-2
 unfolding tagRow
 returns-2 c =
@@ -221,22 +197,18 @@ returns-2 c =
     let o = read-parts r in
     answer-refused (verdict o) (judged _ _ refl (pass (is-described (r .before .before)) (stop (bad-is-not-good (idRead o) (sym (read-is r) ∙ c .enum-told .given .1)))))
 
--- src/lib.rt:363:9
 text-of-requires-2 : tie.Need-text-of-requires-2
 text-of-requires-2 c κs = let o = cut c in span-inside (head o) (tag o) _ (tag-stands (head o) (at o)) (tag-span o)
 
--- src/lib.rt:364:9
 good-tag-requires : tie.Need-good-tag-requires
 good-tag-requires c κs = search needs
 
--- src/lib.rt:365:9
 returns-3 : tie.Need-returns-3
 unfolding tagRow
 returns-3 c =
     let k = known (c .before) in
     answer-refused (verdict (cut k)) (judged _ _ refl (pass (is-described (else1 k)) (pass (is-good k) (stop (sym (tag-tested (c .before)) ∙ not-true (c .before .good-tag .result) (c .if2 .taken))))))
 
--- src/lib.rt:368:9
 returns-4 : tie.Need-returns-4
 unfolding tagRow
 returns-4 c =
@@ -244,7 +216,6 @@ returns-4 c =
     let k = known (e .before) in
     answer-refused (verdict (cut k)) (judged _ _ refl (pass (is-described (else1 k)) (pass (is-good k) (pass (tag-good e) (stop (sym (flag-right (cut k)) ∙ not-true (parts (cut k) .right) (c .if3 .taken)))))))
 
--- src/lib.rt:371:9
 returns-5 : tie.Need-returns-5
 unfolding tagRow
 returns-5 c =
@@ -252,11 +223,9 @@ returns-5 c =
     let k = known (tag-at f .before) in
     answer-refused (verdict (cut k)) (judged _ _ refl (pass (is-described (else1 k)) (pass (is-good k) (pass (tag-good (tag-at f)) (pass (flag-good f) (stop (too-long (described (cut k)) _ (described-span (cut k)) 80 (c .if4 .taken))))))))
 
--- src/lib.rt:373:9
 tag-in-place-requires : tie.Need-tag-in-place-requires
 tag-in-place-requires c κs = search needs
 
--- src/lib.rt:374:9
 returns-6 : tie.Need-returns-6
 unfolding tagRow
 returns-6 c =
@@ -265,7 +234,6 @@ returns-6 c =
     let k = known-at e in
     answer-refused (verdict (cut k)) (judged _ _ refl (pass (is-described (else1 k)) (pass (is-good k) (pass (tag-good (tag-at (flag-at e))) (pass (flag-good (flag-at e)) (pass (described-short e) (stop (sym (place-tested p) ∙ not-true (p .tag-in-place .result) (c .if5 .taken)))))))))
 
--- src/lib.rt:377:9
 returns-7 : tie.Need-returns-7
 unfolding tagRow
 returns-7 c =
@@ -274,11 +242,9 @@ returns-7 c =
     let k = known-at e in
     answer-refused (verdict (cut k)) (judged _ _ refl (pass (is-described (else1 k)) (pass (is-good k) (pass (tag-good (tag-at (flag-at e))) (pass (flag-good (flag-at e)) (pass (described-short e) (pass (sym (place-tested p) ∙ not-false (p .tag-in-place .result) (c .before .if5 .left)) (stop (no-room _ _ _ _ (c .if6 .taken))))))))))
 
--- src/lib.rt:379:5
 as-row-requires : tie.Need-as-row-requires
 as-row-requires c κs = let o = cut-at (c .before .before .before) in tag-fits (head o) (at o) (flagged o) _ (o .tag-parts .ensures) (start o .pre .1 .fits)
 
--- src/lib.rt:341:1
 returns-8 : tie.Need-returns-8
 unfolding tagRow
 returns-8 c =
