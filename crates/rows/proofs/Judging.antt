@@ -1,77 +1,49 @@
--- Laws of how a line is judged, rule by rule in rising order: each rule that holds is passed, the first that doesn't
--- refuses. And what the length of a text tells of the rules about it. Assumes nothing.
-use Prim.Native.Nat.{ℕ, _≤_, _<_}
+-- Laws of how a row's line is judged: rules in rising order are asked one after the other, those of one number are asked
+-- at once, and a text is there if it has a length. Assumes nothing.
+use Prim.Native.Nat.{ℕ, suc, _<_}
 use native.Mathlib.Omega.{arith}
-use mathlib.Core.Path.{_≡_, refl, sym, ap, _∙_}
-use mathlib.Core.Bool.{true, false}
+use mathlib.Core.Path.{_≡_, refl, ap, _∙_}
+use mathlib.Core.Bool.{Bool, true, false, _&&_}
 use mathlib.Core.List.{List, [], _∷_}
-use borrow.Author.Tests.{le-leb, lt-leb}
+use borrow.Author.Tests.{lt-ltb}
+use lib.Dec.{ltb}
 use lib.ListN.{length}
-use Rattle.rules.specs.Texts.{Text, given, atMost}
+use Rattle.rules.specs.Lists.{pick}
+use Rattle.rules.specs.Texts.{Text, given}
 use Rattle.rules.specs.Rules.{Rule, Verdict, refused, granted, checked}
-use Rattle.rules.specs.Tables as tables
+use Rattle.rules.specs.Tables.{Row}
 use Rattle.rules.proofs.RuleLaws.{rising, inOrder, in-order}
-use Rattle.texts.specs.Spans.{spanOf}
-use Rattle.texts.specs.declared.Span.{Span}
-use Rattle.rows.specs.Answers.{rowAnswer, rowWith}
-use Rattle.rows.specs.declared.Parts.{Parts}
+use Rattle.rows.specs.Answers.{rowAnswer}
+use Rattle.rows.specs.declared.RowAnswer.{RowAnswer}
 use Rattle.rows.specs.declared.RowAnswer.the-variants as answers
 
--- ---- the verdict
+-- the answer of rules asked one after the other
+abbrev pub asked : List Rule → RowAnswer → RowAnswer
+asked [] row = row
+asked (r ∷ rs) row = pick (r .holds) (asked rs row) (answers.Refused (r .number))
 
--- how a verdict comes about
-pub data Judged {A : Type 0} (a : A) : List Rule → Verdict A → Type 0 where
-  pass : {r : Rule} {rs : List Rule} {v : Verdict A} → r .holds ≡ true → Judged a rs v → Judged a (r ∷ rs) v
-  stop : {r : Rule} {rs : List Rule} → r .holds ≡ false → Judged a (r ∷ rs) (refused r)
-  all-passed : Judged a [] (granted a)
+one-asked : (t : Bool) (v : Verdict Row) (r : Rule) → rowAnswer (pick t v (refused r)) ≡ pick t (rowAnswer v) (answers.Refused (r .number))
+one-asked true v r = refl
+one-asked false v r = refl
 
-comes-to : {A : Type 0} {a : A} {rs : List Rule} {v : Verdict A} → Judged a rs v → inOrder rs a ≡ v
+all-asked : (rs : List Rule) (row : Row) → rowAnswer (inOrder rs row) ≡ asked rs (rowAnswer (granted row))
 unfolding inOrder
-comes-to (pass h j) = rw h (comes-to j)
-comes-to (stop h) = rw h
-comes-to all-passed = refl
+all-asked [] row = refl
+all-asked (r ∷ rs) row =
+    one-asked (r .holds) (inOrder rs row) r
+    ∙ ap (λ (x : RowAnswer). pick (r .holds) x (answers.Refused (r .number))) (all-asked rs row)
 
-pub judged : {A : Type 0} (rs : List Rule) (a : A) {v : Verdict A} → rising rs ≡ true → Judged a rs v → checked rs a ≡ v
-judged rs a h j = in-order rs a h ∙ comes-to j
+pub answer-asked : (rs : List Rule) (row : Row) → rising rs ≡ true → rowAnswer (checked rs row) ≡ asked rs (rowAnswer (granted row))
+answer-asked rs row h = ap rowAnswer (in-order rs row h) ∙ all-asked rs row
 
--- ---- the answer
+-- two rules of one number
+pub at-once : (a b : Bool) (x y : RowAnswer) → pick a (pick b x y) y ≡ pick (a && b) x y
+at-once true b x y = refl
+at-once false b x y = refl
 
-pub answer-refused : (v : Verdict tables.Row) {r : Rule} → v ≡ refused r → answers.Refused (r .number) ≡ rowAnswer v
-answer-refused v e = rw e
-
-pub answer-granted : (v : Verdict tables.Row) {r : tables.Row} → v ≡ granted r → (p : Parts)
-    → p .first ≡ spanOf (r .first) → p .second ≡ spanOf (r .second) → p .flag ≡ r .flag
-    → (i : ℕ) → i ≡ r .id1 → rowWith i p ≡ rowAnswer v
-answer-granted v e p first second flag i id = rw (e, first, second, flag, id)
-
--- ---- the length of a text
-
-given-length : (t : Text) → length (t .bytes) ≡ 0 → given t ≡ false
-given-length t e = go (t .bytes) e
+pub given-if-long : (t : Text) → ltb 0 (length (t .bytes)) ≡ given t
+given-if-long t = go (t .bytes)
   where
-    go : (xs : List ℕ) → length xs ≡ 0 → given (record { start = t .start; bytes = xs }) ≡ false
-    go [] e = refl
-    go (x ∷ xs) e = absurd (omega arith)
-
-given-longer : (t : Text) → (length (t .bytes) ≡ 0 → ⊥) → given t ≡ true
-given-longer t d = go (t .bytes) d
-  where
-    go : (xs : List ℕ) → (length xs ≡ 0 → ⊥) → given (record { start = t .start; bytes = xs }) ≡ true
-    go [] d = absurd (d refl)
-    go (x ∷ xs) d = refl
-
-module _ (t : Text) (p : Span) (span : p ≡ spanOf t) where
-  pub span-length : p .len ≡ length (t .bytes)
-  span-length = ap (λ (x : Span). x .len) span
-
-  pub absent : p .len ≡ 0 → given t ≡ false
-  absent e = given-length t (sym span-length ∙ e)
-
-  pub here : (p .len ≡ 0 → ⊥) → given t ≡ true
-  here d = given-longer t (λ e. d (span-length ∙ e))
-
-  pub short-enough : (n : ℕ) → p .len ≤ n → atMost n t ≡ true
-  short-enough n h = le-leb (length (t .bytes)) n (rw span-length at h)
-
-  pub too-long : (n : ℕ) → n < p .len → atMost n t ≡ false
-  too-long n h = lt-leb (length (t .bytes)) n (rw span-length at h)
+    go : (xs : List ℕ) → ltb 0 (length xs) ≡ given (record { start = t .start; bytes = xs })
+    go [] = refl
+    go (x ∷ xs) = let h : 0 < suc (length xs) = omega arith in lt-ltb 0 (suc (length xs)) h

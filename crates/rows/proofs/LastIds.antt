@@ -1,6 +1,6 @@
 -- Laws of a table's rows so far: how many there are, the id of the last, and what may follow it. By one step along the
 -- rows. Assumes nothing.
-use Prim.Native.Nat.{ℕ, zero, suc, _+_, _-_, _*_, _≤_, _<_}
+use Prim.Native.Nat.{ℕ, zero, suc, _+_, _-_, _*_}
 use native.Mathlib.Nat.{add-zero, mul-zero, mul-suc}
 use native.Mathlib.Numerals.{add-one}
 use native.Mathlib.Omega.{arith}
@@ -8,9 +8,10 @@ use mathlib.Core.Path.{_≡_, refl, sym, ap, _∙_}
 use mathlib.Core.Bool.{true, false}
 use mathlib.Core.Option.{some}
 use mathlib.Core.List.{List}
-use borrow.Author.Tests.{eq-eqb, ne-eqb, lt-ltb, le-ltb}
-use lib.Dec.{leb, eqb}
+use borrow.Author.Tests.{eq-eqb, ne-eqb}
+use lib.Dec.{leb, ltb, eqb}
 use lib.ListN.{length, getD}
+use Rattle.rules.specs.Numbers.{rowLimit}
 use Rattle.rules.specs.Rows.{roomFor, lastId, follows}
 use Rattle.sheets.specs.SheetRows.{rowsFrom}
 
@@ -28,11 +29,8 @@ module _ (file sheet : List ℕ) where
       last-some (at + 6) n ∙ ap (λ (k : ℕ). some (getD sheet k 0)) e
 
   module _ (at rows : ℕ) where
-    pub has-room : rows < 256 → roomFor (rowsFrom file sheet at rows) ≡ true
-    has-room h = lt-ltb (length (rowsFrom file sheet at rows)) 256 (rw rows-counted h)
-
-    pub no-room : 256 ≤ rows → roomFor (rowsFrom file sheet at rows) ≡ false
-    no-room h = le-ltb (length (rowsFrom file sheet at rows)) 256 (rw rows-counted h)
+    pub room-is : ltb rows rowLimit ≡ roomFor (rowsFrom file sheet at rows)
+    room-is = rw rows-counted
 
     pub follows-none : rows ≡ 0 → (i : ℕ) → leb i 2 ≡ follows (lastId (rowsFrom file sheet at rows)) i
     unfolding rowsFrom

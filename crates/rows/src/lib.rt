@@ -1,17 +1,18 @@
 // The rows of the seven tables, line by line. A line is lent as the file up to the line's end, with its start.
 ghost use mathlib.Core.Path.{_≡_};
-ghost use mathlib.Core.Bool.{true};
+ghost use mathlib.Core.Bool.{true, _&&_};
 ghost use mathlib.Core.List.{List};
 ghost use Prim.Native.Nat.{ℕ, _+_, _*_, _≤_};
 ghost use lib.ListN.{length, take, drop};
+ghost use lib.Dec.{leb};
 ghost use Rattle.rules.specs.Bytes.{classTable};
 ghost use Rattle.rules.specs.Columns.{columnsFrom};
 ghost use Rattle.rules.specs.Numbers.{fileLimit};
 ghost use Rattle.rules.specs.Tables.{tagLimit};
 ghost use Rattle.rules.specs.Rows.{originRow, editorRow, tagRow, rowOf, lastId, follows, ownTag};
 ghost use Rattle.sheets.specs.SheetRows.{rowsFrom};
-ghost use Rattle.rows.specs.Answers.{rowAnswer, rowWith};
-ghost use Rattle.rows.specs.Tags.{goodTag, tagInPlace};
+ghost use Rattle.rows.specs.Answers.{rowAnswer, rowWith, idOf, judgedRow};
+ghost use Rattle.rows.specs.Tags.{tagTexts, tagInPlace};
 ghost use Rattle.rows.specs.Ready.{RowsReady};
 ghost use Rattle.rows.specs.Parts.{firstOf, flagOf, originParts, tagParts, PartsFit};
 use columns::Column;
@@ -214,6 +215,68 @@ fn as_row(id1: u32, parts: Parts) -> RowAnswer
     }
 }
 
+// An id as it is read; a bad one has the value 0.
+pub struct Id {
+    pub good: bool,
+    pub value: u32,
+}
+
+fn as_id(read: Number) -> Id
+    ensures { λ r. ⌜ r ≡ idOf read ⌝ }
+{
+    match read {
+        Number::Good(n) => Id {
+            good: true,
+            value: n,
+        },
+        Number::Bad => Id {
+            good: false,
+            value: 0,
+        },
+    }
+}
+
+// Which rules a row's line keeps, in the order of their numbers.
+pub struct Kept {
+    pub columns: bool,
+    pub number: bool,
+    pub texts: bool,
+    pub place: bool,
+    pub room: bool,
+}
+
+// The first rule that is not kept refuses.
+fn judge(kept: Kept, id1: u32, parts: Parts) -> RowAnswer
+    requires { ⌜ PartsFit parts ⌝ }
+    ensures { λ r. ⌜ r ≡ judgedRow kept id1 parts ⌝ }
+{
+    if !kept.columns {
+        return RowAnswer::Refused(MISSING_COLUMN);
+    }
+    if !kept.number {
+        return RowAnswer::Refused(BAD_NUMBER);
+    }
+    if !kept.texts {
+        return RowAnswer::Refused(BAD_TEXT);
+    }
+    if !kept.place {
+        return RowAnswer::Refused(ROW_OUT_OF_PLACE);
+    }
+    if !kept.room {
+        return RowAnswer::Refused(TABLE_FULL);
+    }
+    as_row(id1, parts)
+}
+
+fn both_short(first: usize, first_limit: usize, second: usize, second_limit: usize) -> bool
+    ensures { λ r. ⌜ r ≡ (leb first «first_limit» && leb second «second_limit») ⌝ }
+{
+    if first_limit < first {
+        return false;
+    }
+    second <= second_limit
+}
+
 pub fn origin_row(
     head: &[u8],
     at: usize,
@@ -228,28 +291,18 @@ pub fn origin_row(
     let parts = origin_parts(head, at, classes);
     let name = parts.first;
     let note = parts.second;
-    if name.len == 0 {
-        return RowAnswer::Refused(MISSING_COLUMN);
-    }
-    let id = text_of(head, parts.id);
-    let read = OriginId::read(id, classes);
-    let Number::Good(n) = read else {
-        return RowAnswer::Refused(BAD_NUMBER);
+    let id = as_id(OriginId::read(text_of(head, parts.id), classes));
+    let id1 = id.value + 1;
+    let short = both_short(name.len, 128, note.len, 160);
+    let taken = sheets::has_id(sheet, place, rows, id1);
+    let kept = Kept {
+        columns: 0 < name.len,
+        number: id.good,
+        texts: short,
+        place: !taken,
+        room: rows < ROW_LIMIT,
     };
-    if 128 < name.len {
-        return RowAnswer::Refused(BAD_TEXT);
-    }
-    if 160 < note.len {
-        return RowAnswer::Refused(BAD_TEXT);
-    }
-    let id1 = n + 1;
-    if sheets::has_id(sheet, place, rows, id1) {
-        return RowAnswer::Refused(ROW_OUT_OF_PLACE);
-    }
-    if ROW_LIMIT <= rows {
-        return RowAnswer::Refused(TABLE_FULL);
-    }
-    as_row(id1, parts)
+    judge(kept, id1, parts)
 }
 
 pub fn editor_row(
@@ -266,27 +319,18 @@ pub fn editor_row(
     let parts = tag_parts(head, at, false, classes);
     let login = parts.first;
     let name = parts.second;
-    if name.len == 0 {
-        return RowAnswer::Refused(MISSING_COLUMN);
-    }
-    let id = text_of(head, parts.id);
-    let read = EditorId::read(id, classes);
-    let Number::Good(id1) = read else {
-        return RowAnswer::Refused(BAD_NUMBER);
+    let id = as_id(EditorId::read(text_of(head, parts.id), classes));
+    let id1 = id.value;
+    let short = both_short(login.len, 16, name.len, 40);
+    let taken = sheets::has_id(sheet, place, rows, id1);
+    let kept = Kept {
+        columns: 0 < name.len,
+        number: id.good,
+        texts: short,
+        place: !taken,
+        room: rows < ROW_LIMIT,
     };
-    if 16 < login.len {
-        return RowAnswer::Refused(BAD_TEXT);
-    }
-    if 40 < name.len {
-        return RowAnswer::Refused(BAD_TEXT);
-    }
-    if sheets::has_id(sheet, place, rows, id1) {
-        return RowAnswer::Refused(ROW_OUT_OF_PLACE);
-    }
-    if ROW_LIMIT <= rows {
-        return RowAnswer::Refused(TABLE_FULL);
-    }
-    as_row(id1, parts)
+    judge(kept, id1, parts)
 }
 
 // The ids of tags stand in order: -1 if given, 0 if given, then 1, 2, 3 without a gap, each here with one added.
@@ -329,13 +373,19 @@ fn tag_limit(table: usize) -> usize
     10
 }
 
-fn good_tag(table: usize, tag: &[u8]) -> bool
-    ensures { λ r. ⌜ r ≡ goodTag table (now (tag .entry)) ⌝ }
+fn tag_texts_good(table: usize, tag: &[u8], flag_right: bool, described: usize) -> bool
+    ensures { λ r. ⌜ r ≡ tagTexts table (now (tag .entry)) «flag_right» described ⌝ }
 {
     if tag_limit(table) < tag.len() {
         return false;
     }
-    !texts::same_text(tag, b"%%")
+    if texts::same_text(tag, b"%%") {
+        return false;
+    }
+    if !flag_right {
+        return false;
+    }
+    described <= 80
 }
 
 pub fn tag_row(
@@ -352,31 +402,19 @@ pub fn tag_row(
 {
     let parts = tag_parts(head, at, table == WORD_TAGS, classes);
     let described = parts.second;
-    if described.len == 0 {
-        return RowAnswer::Refused(MISSING_COLUMN);
-    }
-    let id = text_of(head, parts.id);
-    let read = RowId::read(id, classes);
-    let Number::Good(id1) = read else {
-        return RowAnswer::Refused(BAD_NUMBER);
-    };
+    let id = as_id(RowId::read(text_of(head, parts.id), classes));
+    let id1 = id.value;
     let tag = text_of(head, parts.first);
-    if !good_tag(table, tag) {
-        return RowAnswer::Refused(BAD_TEXT);
-    }
-    if !parts.right {
-        return RowAnswer::Refused(BAD_TEXT);
-    }
-    if 80 < described.len {
-        return RowAnswer::Refused(BAD_TEXT);
-    }
-    if !tag_in_place(head, sheet, place, rows, id1, tag) {
-        return RowAnswer::Refused(ROW_OUT_OF_PLACE);
-    }
-    if ROW_LIMIT <= rows {
-        return RowAnswer::Refused(TABLE_FULL);
-    }
-    as_row(id1, parts)
+    let good = tag_texts_good(table, tag, parts.right, described.len);
+    let in_place = tag_in_place(head, sheet, place, rows, id1, tag);
+    let kept = Kept {
+        columns: 0 < described.len,
+        number: id.good,
+        texts: good,
+        place: in_place,
+        room: rows < ROW_LIMIT,
+    };
+    judge(kept, id1, parts)
 }
 
 // The line is the file's bytes from `at` on; its table's rows so far stand in the sheet from `place` on.
