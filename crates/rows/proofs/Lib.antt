@@ -1,0 +1,11 @@
+pub mod Firsts
+pub mod Spans
+pub mod Flags
+pub mod OwnTags
+pub mod RowParts
+pub mod RowTexts
+pub mod LastIds
+pub mod Ids
+pub mod Judging
+pub mod RowAnswers
+pub mod Granted
