@@ -1,0 +1,49 @@
+-- The fields of a node line. Document 01, "Lines and bytes": a column is a run of bytes that aren't white; "The file from
+-- top to bottom": the first column that is exactly %% begins the comment. Assumes nothing.
+use Prim.Native.Nat.{ℕ, _+_, _-_}
+use mathlib.Core.List.{List, [], _∷_}
+use lib.ListN.{length, take, drop}
+use Rattle.rules.specs.Texts.{Text}
+use Rattle.rules.specs.Columns.{columnsFrom, fields}
+use Rattle.nodes.specs.declared.Field.{Field}
+use Rattle.nodes.specs.declared.Field.the-variants.{Found, End}
+use Rattle.nodes.specs.declared.Five.{Five}
+use Rattle.nodes.specs.declared.Five.the-variants.{Whole, Short}
+
+-- the fields of a line from a place on, in the file up to the line's end
+unfoldable pub fieldsFrom : List ℕ → ℕ → List Text
+fieldsFrom head at = fields (columnsFrom at (drop at head))
+
+-- where a text ends
+abbrev pub endOf : Text → ℕ
+endOf t = t .start + length (t .bytes)
+
+-- the text of a file between two places
+abbrev pub textBetween : List ℕ → ℕ → ℕ → Text
+textBetween head start end = record { start = start; bytes = take (end - start) (drop start head) }
+
+abbrev pub firstField : List Text → Field
+firstField [] = End
+firstField (t ∷ ts) = Found (t .start) (endOf t)
+
+-- the word, or # and a phrase's number; tag, morphology, edge and parent
+abbrev pub firstFive : List Text → Five
+firstFive [] = Short
+firstFive (t ∷ []) = Short
+firstFive (t ∷ u ∷ []) = Short
+firstFive (t ∷ u ∷ v ∷ []) = Short
+firstFive (t ∷ u ∷ v ∷ w ∷ []) = Short
+firstFive (t ∷ u ∷ v ∷ w ∷ x ∷ ts) =
+    Whole
+    (record {
+      first = t .start;
+      «first_end» = endOf t;
+      tag = u .start;
+      «tag_end» = endOf u;
+      morphology = v .start;
+      «morphology_end» = endOf v;
+      edge = w .start;
+      «edge_end» = endOf w;
+      parent = x .start;
+      «parent_end» = endOf x;
+    })
