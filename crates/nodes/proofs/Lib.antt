@@ -1,2 +1,3 @@
 pub mod FieldSteps
 pub mod FiveFields
+pub mod FaultLaws

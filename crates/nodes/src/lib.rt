@@ -1,9 +1,34 @@
 // A word line and a phrase line: their columns, and the rules they must keep.
 ghost use mathlib.Core.Path.{_≡_};
+ghost use mathlib.Core.Bool.{_&&_};
+ghost use Prim.Native.Nat.{_+_, _≤_, _<_};
+ghost use lib.ListN.{length, drop};
+ghost use lib.Dec.{leb, ltb};
 ghost use Rattle.rules.specs.Bytes.{classTable};
-ghost use Rattle.nodes.specs.Fields.{fieldsFrom, firstField, firstFive};
+ghost use Rattle.rules.specs.Numbers.{fileLimit, wordLimit, edgeLimit};
+ghost use Rattle.rules.specs.Nodes.{wordOf, phraseOf};
+ghost use Rattle.rules.proofs.RuleLaws.{lesser};
+ghost use Rattle.rules.proofs.LesserLaws.{wrong};
+ghost use Rattle.sheets.specs.SheetRows.{tablesIn};
+ghost use Rattle.tags.specs.Tabled.{Tabled};
+ghost use Rattle.nodes.specs.Fields.{fieldsFrom, textBetween, firstField, firstFive};
+ghost use Rattle.nodes.specs.Faults.{tagFault, parentAt, secondaryAt, larger, pairsOf, ownOf, tallyOf};
+ghost use Rattle.nodes.specs.Answers.{nodeAnswer, answered, marked};
 use columns::Column;
 use columns::Cursor;
+use numbers::Number;
+use numbers::PhraseNumber;
+
+// The tables of tags, by their places in the sheet.
+const WORD_TAGS: usize = 2;
+
+const MORPH_TAGS: usize = 3;
+
+const NODE_TAGS: usize = 4;
+
+const EDGE_TAGS: usize = 5;
+
+const SEC_EDGE_TAGS: usize = 6;
 
 // The next field, from its first byte to behind its last; none stands behind the line's end or a column %%.
 pub enum Field {
@@ -105,4 +130,134 @@ pub fn five_fields(head: &[u8], at: usize, classes: &[u8; 256]) -> Five
         parent,
         parent_end,
     })
+}
+
+// Of two numbers of refusal the smaller; 0 is none.
+fn lesser_fault(m: u32, n: u32) -> u32
+    ensures { λ r. ⌜ r ≡ lesser m n ⌝ }
+{
+    if m == 0 {
+        return n;
+    }
+    if n == 0 {
+        return m;
+    }
+    if m <= n { m } else { n }
+}
+
+fn larger_number(m: u32, n: u32) -> u32
+    ensures { λ r. ⌜ r ≡ larger m n ⌝ }
+{
+    if m < n { n } else { m }
+}
+
+fn tag_fault(head: &[u8], sheet: &[u32], table: usize, start: usize, end: usize) -> u32
+    requires { ⌜ Tabled (now head) (now sheet) × (table < 7) × (start ≤ end) × (end ≤ length (now head)) ⌝ }
+    ensures { λ r. ⌜ r ≡ tagFault (tablesIn (now (head .entry)) (now (sheet .entry))) table (textBetween (now (head .entry)) start end) ⌝ }
+{
+    if tags::tag_limit(table) < end - start {
+        return 10;
+    }
+    if tags::is_known(head, sheet, table, &head[start..end]) {
+        0
+    } else {
+        18
+    }
+}
+
+// A parent's number, 0 where it is badly written, and the number of refusal.
+pub struct Parent {
+    pub number: u32,
+    pub fault: u32,
+}
+
+// The parent of the node with this number and the edge between these places. Only --, the root's edge, has parent 0.
+fn parent_at(
+    head: &[u8],
+    number: u32,
+    edge: usize,
+    edge_end: usize,
+    start: usize,
+    end: usize,
+    classes: &[u8; 256],
+) -> Parent
+    requires { ⌜ (now classes ≡ classTable) × (edge ≤ «edge_end») × («edge_end» ≤ length (now head)) × (start ≤ end) × (end ≤ length (now head)) ⌝ }
+    ensures { λ r. ⌜ r ≡ parentAt number (textBetween (now (head .entry)) edge «edge_end») (textBetween (now (head .entry)) start end) ⌝ }
+{
+    let read = numbers::read_parent(&head[start..end], classes);
+    let Number::Good(parent) = read else {
+        return Parent {
+            number: 0,
+            fault: 8,
+        };
+    };
+    if parent == 0 {
+        if tags::is_twice(&head[edge..edge_end], b'-') {
+            return Parent {
+                number: 0,
+                fault: 0,
+            };
+        }
+        return Parent {
+            number: 0,
+            fault: 19,
+        };
+    }
+    if number < parent {
+        return Parent {
+            number: parent,
+            fault: 0,
+        };
+    }
+    Parent {
+        number: parent,
+        fault: 19,
+    }
+}
+
+fn secondary_at(head: &[u8], number: u32, start: usize, end: usize, classes: &[u8; 256]) -> Parent
+    requires { ⌜ (now classes ≡ classTable) × (start ≤ end) × (end ≤ length (now head)) ⌝ }
+    ensures { λ r. ⌜ r ≡ secondaryAt number (textBetween (now (head .entry)) start end) ⌝ }
+{
+    let read = PhraseNumber::read(&head[start..end], classes);
+    let Number::Good(parent) = read else {
+        return Parent {
+            number: 0,
+            fault: 8,
+        };
+    };
+    if number < parent {
+        return Parent {
+            number: parent,
+            fault: 0,
+        };
+    }
+    Parent {
+        number: parent,
+        fault: 19,
+    }
+}
+
+// The pairs of secondary label and secondary parent behind a line's fifth field.
+pub struct Pairs {
+    pub count: u32,
+    pub highest: u32,
+    pub fault: u32,
+    pub whole: bool,
+}
+
+// What all fields of a line tell: its secondary edges, its highest parent, and the number of refusal.
+pub struct Tally {
+    pub edges: u32,
+    pub highest: u32,
+    pub fault: u32,
+}
+
+pub enum NodeAnswer {
+    Taken {
+        number: u32,
+        edges: u32,
+        highest: u32,
+    },
+    Refused(u32),
 }

@@ -17,6 +17,11 @@ pub lesser-none : (m : ℕ) → lesser m 0 ≡ m
 lesser-none zero = refl
 lesser-none (suc m) = refl
 
+pub lesser-some : (m n : ℕ) → (m ≡ 0 → ⊥) → (n ≡ 0 → ⊥) → lesser m n ≡ pick (leb m n) m n
+lesser-some zero n h k = absurd (h refl)
+lesser-some (suc m) zero h k = absurd (k refl)
+lesser-some (suc m) (suc n) h k = refl
+
 pub lesser-comm : (m n : ℕ) → lesser m n ≡ lesser n m
 lesser-comm zero zero = refl
 lesser-comm zero (suc n) = refl
@@ -50,12 +55,12 @@ lesser-assoc (suc a) (suc b) (suc c) = by (leb (suc a) (suc b)) refl (leb (suc b
         let h : suc c < suc a = omega (arith, leb-false (suc a) (suc b) e, leb-false (suc b) (suc c) f) in
         rw (f, lt-leb (suc a) (suc c) h)
 
+pub lesser-left-comm : (a b c : ℕ) → lesser a (lesser b c) ≡ lesser b (lesser a c)
+lesser-left-comm a b c = sym (lesser-assoc a b c) ∙ ap (λ (n : ℕ). lesser n c) (lesser-comm a b) ∙ lesser-assoc b a c
+
 -- two groups of two
 pub lesser-exchange : (a b c d : ℕ) → lesser (lesser a b) (lesser c d) ≡ lesser (lesser a c) (lesser b d)
-lesser-exchange a b c d =
-    lesser-assoc a b (lesser c d)
-    ∙ ap (lesser a) (sym (lesser-assoc b c d) ∙ ap (λ (n : ℕ). lesser n d) (lesser-comm b c) ∙ lesser-assoc c b d)
-    ∙ sym (lesser-assoc a c (lesser b d))
+lesser-exchange a b c d = simp (lesser-assoc, lesser-left-comm)
 
 -- the number of a rule that is broken, else 0
 abbrev pub wrong : ℕ → Bool → ℕ

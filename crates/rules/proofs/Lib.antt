@@ -10,5 +10,3 @@ pub mod LesserLaws
 pub mod ReadLines
 pub mod Cut
 pub mod CutRule
-pub mod ColumnLaws
-pub mod Same
