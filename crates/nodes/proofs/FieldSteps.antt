@@ -5,7 +5,7 @@ use native.Mathlib.Omega.{arith}
 use mathlib.Core.Path.{_≡_, refl, sym, ap, _∙_}
 use mathlib.Core.Bool.{Bool, true, false}
 use mathlib.Core.List.{List, [], _∷_}
-use lib.ListN.{length, take, drop, length-drop}
+use lib.ListN.{length, take, drop, length-drop, drop-of-length-le}
 use lib.Seq.{length-take-le}
 use Rattle.rules.specs.Lists.{pick, same}
 use Rattle.rules.specs.Bytes.{percents}
@@ -32,6 +32,11 @@ end-between head a e h k =
     omega arith
 
 module _ (head : List ℕ) (at : ℕ) where
+  -- behind the line's end
+  pub none-behind : length head ≤ at → fieldsFrom head at ≡ []
+  unfolding fieldsFrom fields columnsFrom
+  none-behind h = rw (drop-of-length-le head h)
+
   pub none-missing : columnAt head at ≡ cursor-variants.Missing → fieldsFrom head at ≡ []
   unfolding fieldsFrom fields
   none-missing q = rw (missing head at q)

@@ -8,7 +8,7 @@ use mathlib.Core.List.{List, [], _∷_}
 use lib.Dec.{leb}
 use lib.ListN.{length}
 use Rattle.rules.specs.Texts.{Text}
-use Rattle.nodes.specs.Fields.{fieldsFrom, endOf, textBetween, firstFive}
+use Rattle.nodes.specs.Fields.{fieldsFrom, endOf, textBetween, firstFive, Placed, fiveTexts}
 use Rattle.nodes.specs.declared.Fields.{Fields}
 use Rattle.nodes.specs.declared.Five.the-variants.{Whole, Short}
 use Rattle.nodes.proofs.FieldSteps.{FieldStep, end-between, head-step}
@@ -20,23 +20,23 @@ pub record FiveSteps (head : List ℕ) (at : ℕ) (f : Fields) : Type 0 where
   pub edge : FieldStep head (f .«morphology_end») (f .edge) (f .«edge_end»)
   pub parent : FieldStep head (f .«edge_end») (f .parent) (f .«parent_end»)
 
--- the five texts, and the fields behind them
-abbrev pub fiveTexts : List ℕ → Fields → List Text → List Text
-fiveTexts head f ts =
-    textBetween head (f .first) (f .«first_end»)
-    ∷ textBetween head (f .tag) (f .«tag_end»)
-    ∷ textBetween head (f .morphology) (f .«morphology_end»)
-    ∷ textBetween head (f .edge) (f .«edge_end»)
-    ∷ textBetween head (f .parent) (f .«parent_end»)
-    ∷ ts
-
 -- a step in front of other fields
 abbrev pub then : {head : List ℕ} {at a e : ℕ} {ts : List Text} → FieldStep head at a e → fieldsFrom head e ≡ ts → fieldsFrom head at ≡ textBetween head a e ∷ ts
 then {head} {at} {a} {e} s q = s .fields ∙ ap (λ (us : List Text). textBetween head a e ∷ us) q
 
 module _ (head : List ℕ) (at : ℕ) where
-  pub five-texts : (f : Fields) → FiveSteps head at f → fieldsFrom head at ≡ fiveTexts head f (fieldsFrom head (f .«parent_end»))
+  pub five-texts : (f : Fields) → FiveSteps head at f → fieldsFrom head at ≡ fiveTexts head f
   five-texts f s = then (s .first) (then (s .tag) (then (s .morphology) (then (s .edge) (s .parent .fields))))
+
+  pub five-placed : (f : Fields) → FiveSteps head at f → Placed head f
+  five-placed f s =
+      record {
+        first = record { some = s .first .some; inside = s .first .inside };
+        tag = record { some = s .tag .some; inside = s .tag .inside };
+        morphology = record { some = s .morphology .some; inside = s .morphology .inside };
+        edge = record { some = s .edge .some; inside = s .edge .inside };
+        parent = record { some = s .parent .some; inside = s .parent .inside };
+      }
 
   pub five-whole : (f : Fields) → FiveSteps head at f → firstFive (fieldsFrom head at) ≡ Whole f
   five-whole f s =

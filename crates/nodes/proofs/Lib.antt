@@ -1,3 +1,5 @@
 pub mod FieldSteps
 pub mod FiveFields
 pub mod FaultLaws
+pub mod Tallies
+pub mod PairWalk

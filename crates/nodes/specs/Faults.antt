@@ -54,6 +54,11 @@ pairFault ts its-number p = lesser (tagFault ts secEdgeTags (p .label)) (seconda
 abbrev pub pairNumber : Pair → ℕ
 pairNumber p = value (secondaryParent p)
 
+abbrev pub pairAt : Tables → ℕ → Text → Text → Parent
+pairAt ts its-number label parent =
+    let p : Pair = record { label = label; parent = parent } in
+    record { number = pairNumber p; fault = pairFault ts its-number p }
+
 -- the fields behind the fifth, in pairs
 unfoldable pub pairsOf : Tables → ℕ → List Text → Pairs
 unfolding pairs tagFault

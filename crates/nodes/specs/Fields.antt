@@ -1,12 +1,13 @@
 -- The fields of a node line. Document 01, "Lines and bytes": a column is a run of bytes that aren't white; "The file from
 -- top to bottom": the first column that is exactly %% begins the comment. Assumes nothing.
-use Prim.Native.Nat.{ℕ, _+_, _-_}
+use Prim.Native.Nat.{ℕ, _+_, _-_, _≤_, _<_}
 use mathlib.Core.List.{List, [], _∷_}
 use lib.ListN.{length, take, drop}
 use Rattle.rules.specs.Texts.{Text}
 use Rattle.rules.specs.Columns.{columnsFrom, fields}
 use Rattle.nodes.specs.declared.Field.{Field}
 use Rattle.nodes.specs.declared.Field.the-variants.{Found, End}
+use Rattle.nodes.specs.declared.Fields.{Fields}
 use Rattle.nodes.specs.declared.Five.{Five}
 use Rattle.nodes.specs.declared.Five.the-variants.{Whole, Short}
 
@@ -47,3 +48,27 @@ firstFive (t ∷ u ∷ v ∷ w ∷ x ∷ ts) =
       parent = x .start;
       «parent_end» = endOf x;
     })
+
+-- ---- the five as texts
+
+pub record Lies (head : List ℕ) (start end : ℕ) : Type 0 where
+  pub some : start < end
+  pub inside : end ≤ length head
+
+-- each of the five lies in the line
+pub record Placed (head : List ℕ) (f : Fields) : Type 0 where
+  pub first : Lies head (f .first) (f .«first_end»)
+  pub tag : Lies head (f .tag) (f .«tag_end»)
+  pub morphology : Lies head (f .morphology) (f .«morphology_end»)
+  pub edge : Lies head (f .edge) (f .«edge_end»)
+  pub parent : Lies head (f .parent) (f .«parent_end»)
+
+-- their texts, and the fields behind them
+abbrev pub fiveTexts : List ℕ → Fields → List Text
+fiveTexts head f =
+    textBetween head (f .first) (f .«first_end»)
+    ∷ textBetween head (f .tag) (f .«tag_end»)
+    ∷ textBetween head (f .morphology) (f .«morphology_end»)
+    ∷ textBetween head (f .edge) (f .«edge_end»)
+    ∷ textBetween head (f .parent) (f .«parent_end»)
+    ∷ fieldsFrom head (f .«parent_end»)

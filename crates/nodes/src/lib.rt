@@ -11,8 +11,8 @@ ghost use Rattle.rules.proofs.RuleLaws.{lesser};
 ghost use Rattle.rules.proofs.LesserLaws.{wrong};
 ghost use Rattle.sheets.specs.SheetRows.{tablesIn};
 ghost use Rattle.tags.specs.Tabled.{Tabled};
-ghost use Rattle.nodes.specs.Fields.{fieldsFrom, textBetween, firstField, firstFive};
-ghost use Rattle.nodes.specs.Faults.{tagFault, parentAt, secondaryAt, larger, pairsOf, ownOf, tallyOf};
+ghost use Rattle.nodes.specs.Fields.{fieldsFrom, textBetween, firstField, firstFive, Lies, Placed, fiveTexts};
+ghost use Rattle.nodes.specs.Faults.{tagFault, parentAt, secondaryAt, pairAt, larger, pairsOf, ownOf, tallyOf};
 ghost use Rattle.nodes.specs.Answers.{nodeAnswer, answered, marked};
 use columns::Column;
 use columns::Cursor;
@@ -238,12 +238,111 @@ fn secondary_at(head: &[u8], number: u32, start: usize, end: usize, classes: &[u
     }
 }
 
+// The label between the first two places and the secondary parent between the others.
+fn pair_at(
+    head: &[u8],
+    sheet: &[u32],
+    number: u32,
+    label: usize,
+    label_end: usize,
+    parent: usize,
+    parent_end: usize,
+    classes: &[u8; 256],
+) -> Parent
+    requires { ⌜ Tabled (now head) (now sheet) × (now classes ≡ classTable) × Lies (now head) label «label_end» × Lies (now head) parent «parent_end» ⌝ }
+    ensures { λ r. ⌜ r ≡ pairAt (tablesIn (now (head .entry)) (now (sheet .entry))) number (textBetween (now (head .entry)) label «label_end») (textBetween (now (head .entry)) parent «parent_end») ⌝ }
+{
+    let tag = tag_fault(head, sheet, SEC_EDGE_TAGS, label, label_end);
+    let read = secondary_at(head, number, parent, parent_end, classes);
+    Parent {
+        number: read.number,
+        fault: lesser_fault(tag, read.fault),
+    }
+}
+
 // The pairs of secondary label and secondary parent behind a line's fifth field.
 pub struct Pairs {
     pub count: u32,
     pub highest: u32,
     pub fault: u32,
     pub whole: bool,
+}
+
+fn pairs_from(head: &[u8], from: usize, sheet: &[u32], number: u32, classes: &[u8; 256]) -> Pairs
+    requires { ⌜ Tabled (now head) (now sheet) × (now classes ≡ classTable) × (from ≤ length (now head)) × (length (now head) ≤ fileLimit) ⌝ }
+    ensures { λ r. ⌜ r ≡ pairsOf (tablesIn (now (head .entry)) (now (sheet .entry))) number (fieldsFrom (now (head .entry)) from) ⌝ }
+{
+    let mut at = from;
+    let mut count: u32 = 0;
+    let mut highest: u32 = 0;
+    let mut fault: u32 = 0;
+    while at < head.len() {
+        let found = next_field(head, at, classes);
+        let Field::Found {
+            start: label,
+            end: label_end,
+        } = found
+        else {
+            return Pairs {
+                count,
+                highest,
+                fault,
+                whole: true,
+            };
+        };
+        let found = next_field(head, label_end, classes);
+        let Field::Found {
+            start: parent,
+            end: parent_end,
+        } = found
+        else {
+            return Pairs {
+                count,
+                highest,
+                fault,
+                whole: false,
+            };
+        };
+        let pair = pair_at(head, sheet, number, label, label_end, parent, parent_end, classes);
+        highest = larger_number(highest, pair.number);
+        fault = lesser_fault(fault, pair.fault);
+        count += 1;
+        at = parent_end;
+    }
+    Pairs {
+        count,
+        highest,
+        fault,
+        whole: true,
+    }
+}
+
+// The number where a rule is broken, else 0.
+fn fault_unless(holds: bool, number: u32) -> u32
+    ensures { λ r. ⌜ r ≡ wrong number holds ⌝ }
+{
+    if holds { 0 } else { number }
+}
+
+fn own_of(
+    head: &[u8],
+    sheet: &[u32],
+    tags: usize,
+    number: u32,
+    f: Fields,
+    classes: &[u8; 256],
+) -> Parent
+    requires { ⌜ Tabled (now head) (now sheet) × (now classes ≡ classTable) × (tags < 7) × Placed (now head) f ⌝ }
+    ensures { λ r. ⌜ r ≡ ownOf (tablesIn (now (head .entry)) (now (sheet .entry))) tags number (fiveTexts (now (head .entry)) f) ⌝ }
+{
+    let tag = tag_fault(head, sheet, tags, f.tag, f.tag_end);
+    let morphology = tag_fault(head, sheet, MORPH_TAGS, f.morphology, f.morphology_end);
+    let edge = tag_fault(head, sheet, EDGE_TAGS, f.edge, f.edge_end);
+    let parent = parent_at(head, number, f.edge, f.edge_end, f.parent, f.parent_end, classes);
+    Parent {
+        number: parent.number,
+        fault: lesser_fault(tag, lesser_fault(morphology, lesser_fault(edge, parent.fault))),
+    }
 }
 
 // What all fields of a line tell: its secondary edges, its highest parent, and the number of refusal.
@@ -253,6 +352,39 @@ pub struct Tally {
     pub fault: u32,
 }
 
+fn tally_of(
+    head: &[u8],
+    sheet: &[u32],
+    tags: usize,
+    number: u32,
+    f: Fields,
+    classes: &[u8; 256],
+) -> Tally
+    requires { ⌜ Tabled (now head) (now sheet) × (now classes ≡ classTable) × (tags < 7) × Placed (now head) f × (length (now head) ≤ fileLimit) ⌝ }
+    ensures { λ r. ⌜ r ≡ tallyOf (tablesIn (now (head .entry)) (now (sheet .entry))) tags number (fiveTexts (now (head .entry)) f) ⌝ }
+{
+    let from = f.parent_end;
+    let own = own_of(head, sheet, tags, number, f, classes);
+    let pairs = pairs_from(head, from, sheet, number, classes);
+    let shape = fault_unless(pairs.whole, 7);
+    Tally {
+        edges: pairs.count,
+        highest: larger_number(own.number, pairs.highest),
+        fault: lesser_fault(shape, lesser_fault(own.fault, pairs.fault)),
+    }
+}
+
+// At most 500 words and 512 secondary edges in a sentence.
+fn room_fault(words: u32, edges: u32, more: u32) -> u32
+    requires { ⌜ (edges ≤ edgeLimit) × (more ≤ fileLimit) ⌝ }
+    ensures { λ r. ⌜ r ≡ wrong 16 (ltb words wordLimit && leb (edges + more) edgeLimit) ⌝ }
+{
+    if 500 <= words {
+        return 16;
+    }
+    if edges + more <= 512 { 0 } else { 16 }
+}
+
 pub enum NodeAnswer {
     Taken {
         number: u32,
@@ -260,4 +392,18 @@ pub enum NodeAnswer {
         highest: u32,
     },
     Refused(u32),
+}
+
+fn answer(fault: u32, number: u32, edges: u32, highest: u32) -> NodeAnswer
+    ensures { λ r. ⌜ r ≡ answered fault number edges highest ⌝ }
+{
+    if fault == 0 {
+        NodeAnswer::Taken {
+            number,
+            edges,
+            highest,
+        }
+    } else {
+        NodeAnswer::Refused(fault)
+    }
 }
