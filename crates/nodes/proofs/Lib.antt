@@ -3,3 +3,5 @@ pub mod FiveFields
 pub mod FaultLaws
 pub mod Tallies
 pub mod PairWalk
+pub mod NodeRules
+pub mod NodeAnswers
