@@ -98,3 +98,12 @@ module _ (head : List ℕ) (at : ℕ) where
   head-step t ts q =
       let s : FieldStep head at (t .start) (endOf t) = field-found (t .start) (endOf t) (ap firstField q) in
       (s, cc (s .fields))
+
+-- there are no more fields than bytes
+pub fields-fit : (head : List ℕ) (ts : List Text) (at : ℕ) → fieldsFrom head at ≡ ts → at ≤ length head → at + length ts ≤ length head
+fields-fit head [] at q h = omega arith
+fields-fit head (t ∷ ts) at q h =
+    let s = head-step head at t ts q in
+    let k : endOf t + length ts ≤ length head = fields-fit head ts (endOf t) (s .1) (s .0 .inside) in
+    let f = s .0 in
+    omega arith

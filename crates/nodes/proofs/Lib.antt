@@ -5,3 +5,4 @@ pub mod Tallies
 pub mod PairWalk
 pub mod NodeRules
 pub mod NodeAnswers
+pub mod LineAnswers

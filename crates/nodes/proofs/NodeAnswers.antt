@@ -93,14 +93,14 @@ module _ (ts : Tables) (words edges : ℕ) (line : Text) where
       word-by-number true 7
       (ap numberOf (passes (rule 6 line true) (rule 7 line (shaped itsFields) ∷ judged ts wordTags words itsFields (fullWord ∷ [])) refl)
       ∙ decides (rule 7 line (shaped itsFields)) (judged ts wordTags words itsFields (fullWord ∷ []))
-        (ap (λ (b : Bool). b && paired (drop pairsField itsFields)) e)
-        (judged-reaches ts wordTags words itsFields 7 (omega arith) (fullWord ∷ []) refl))
+      (ap (λ (b : Bool). b && paired (drop pairsField itsFields)) e)
+      (judged-reaches ts wordTags words itsFields 7 (omega arith) (fullWord ∷ []) refl))
 
   pub word-tallied : leb pairsField (length itsFields) ≡ true
       → nodeAnswer (wordOf ts words true edges line)
       ≡ answered
-        (lesser (tallyOf ts wordTags words itsFields .fault) (wrong 16 (ltb words wordLimit && leb (edges + tallyOf ts wordTags words itsFields .edges) edgeLimit)))
-        words (tallyOf ts wordTags words itsFields .edges) (tallyOf ts wordTags words itsFields .highest)
+      (lesser (tallyOf ts wordTags words itsFields .fault) (wrong 16 (ltb words wordLimit && leb (edges + tallyOf ts wordTags words itsFields .edges) edgeLimit)))
+      words (tallyOf ts wordTags words itsFields .edges) (tallyOf ts wordTags words itsFields .highest)
   unfolding tallyOf pairsOf
   word-tallied e =
       word-by-number true _
@@ -174,7 +174,7 @@ module _ (ts : Tables) (given-before : ℕ → Bool) (edges : ℕ) (line : Text)
     pub phrase-tallied : (n : ℕ) → itsRead ≡ some n
         → nodeAnswer (phraseOf ts given-before edges line)
         ≡ answered (lesser (tally n .fault) (lesser (wrong 16 (leb (edges + tally n .edges) edgeLimit)) (wrong 17 (not (given-before n)))))
-          n (tally n .edges) (tally n .highest)
+        n (tally n .edges) (tally n .highest)
     unfolding tallyOf pairsOf
     phrase-tallied n q =
         phrase-by-number (some n) q _

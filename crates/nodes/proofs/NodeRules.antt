@@ -23,9 +23,9 @@ use Rattle.nodes.specs.Faults.{tagFault, pairFault, ownOf}
 -- field by field, or rule by rule
 regroup : (a8 a19 b10 b18 c10 c18 d10 d18 p8 p10 p18 p19 : ℕ)
     → lesser (lesser a8 p8)
-      (lesser (lesser b10 (lesser c10 (lesser d10 p10))) (lesser (lesser b18 (lesser c18 (lesser d18 p18))) (lesser a19 p19)))
+    (lesser (lesser b10 (lesser c10 (lesser d10 p10))) (lesser (lesser b18 (lesser c18 (lesser d18 p18))) (lesser a19 p19)))
     ≡ lesser (lesser (lesser b10 b18) (lesser (lesser c10 c18) (lesser (lesser d10 d18) (lesser a8 a19))))
-      (lesser (lesser p10 p18) (lesser p8 p19))
+    (lesser (lesser p10 p18) (lesser p8 p19))
 regroup a8 a19 b10 b18 c10 c18 d10 d18 p8 p10 p18 p19 = simp (lesser-assoc, lesser-comm, lesser-left-comm)
 
 last-but : (a b limit c d : ℕ) → lesser (lesser (lesser a b) (lesser limit c)) d ≡ lesser (lesser a (lesser b (lesser c d))) limit

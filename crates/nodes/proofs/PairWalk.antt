@@ -70,7 +70,8 @@ module _ (ts : Tables) (its-number : ℕ) where
     unfolding pairsOf pairs paired
     pairs-more l p fs =
         let k : count + suc (length (pairs fs)) ≡ count + 1 + length (pairs fs) = omega arith in
-        rw
-        (k,
-        larger-assoc highest (pairAt ts its-number l p .number) (largest pairNumber (pairs fs)),
-        lesser-assoc fault (pairAt ts its-number l p .fault) (least (pairFault ts its-number) (pairs fs)))
+        rw (
+          k,
+          larger-assoc highest (pairAt ts its-number l p .number) (largest pairNumber (pairs fs)),
+          lesser-assoc fault (pairAt ts its-number l p .fault) (least (pairFault ts its-number) (pairs fs)),
+        )

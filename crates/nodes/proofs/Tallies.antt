@@ -1,19 +1,23 @@
 -- What the parts of a node line tell, put together: the node's own fields, one pair, and all fields. Assumes nothing.
-use Prim.Native.Nat.{ℕ}
+use Prim.Native.Nat.{ℕ, _≤_}
+use native.Mathlib.Omega.{arith}
 use mathlib.Core.Path.{_≡_, refl, ap, _∙_}
 use mathlib.Core.Bool.{Bool}
-use mathlib.Core.List.{List}
-use lib.ListN.{drop}
+use mathlib.Core.List.{List, [], _∷_}
+use lib.ListN.{length, drop, length-drop}
 use Rattle.rules.specs.Texts.{Text}
+use Rattle.rules.specs.Numbers.{fileLimit}
 use Rattle.rules.specs.Columns.{text}
 use Rattle.rules.specs.Tables.{Tables, morphTags, edgeTags, secEdgeTags}
-use Rattle.rules.specs.Nodes.{parentField, pairsField, itsTag, itsMorphology, itsEdge}
+use Rattle.rules.specs.Nodes.{pairs, parentField, pairsField, itsTag, itsMorphology, itsEdge}
 use Rattle.rules.proofs.RuleLaws.{lesser}
 use Rattle.rules.proofs.LesserLaws.{wrong}
+use Rattle.nodes.specs.Fields.{fieldsFrom}
 use Rattle.nodes.specs.Faults.{tagFault, parentAt, secondaryAt, pairAt, larger, pairsOf, ownOf, tallyOf}
 use Rattle.nodes.specs.declared.Parent.{Parent}
 use Rattle.nodes.specs.declared.Pairs.{Pairs}
 use Rattle.nodes.specs.declared.Tally.{Tally}
+use Rattle.nodes.proofs.FieldSteps.{fields-fit}
 
 module _ (ts : Tables) (its-number : ℕ) where
   pub pair-is : (label parent : Text) (tag fault : ℕ) (p : Parent)
@@ -37,3 +41,22 @@ module _ (ts : Tables) (its-number : ℕ) where
         → _≡_ {A = Tally} (record { edges = others .count; highest = highest; fault = fault }) (tallyOf ts tags its-number fs)
     unfolding tallyOf
     tally-is own others shape highest both fault o p s h b f = rw (f, b, h, s, o, p)
+
+-- there are no more pairs than fields
+pub pairs-fit : (ts : List Text) → length (pairs ts) ≤ length ts
+unfolding pairs
+pairs-fit [] = omega arith
+pairs-fit (l ∷ []) = omega arith
+pairs-fit (l ∷ p ∷ ts) = omega (arith, pairs-fit ts)
+
+-- and so no more than a file has bytes
+pub edges-fit : (ts : Tables) (tags its-number : ℕ) (head : List ℕ) (at : ℕ) → at ≤ length head → length head ≤ fileLimit
+    → tallyOf ts tags its-number (fieldsFrom head at) .edges ≤ fileLimit
+unfolding tallyOf pairsOf
+edges-fit ts tags its-number head at h k =
+    omega (
+      arith,
+      pairs-fit (drop pairsField (fieldsFrom head at)),
+      length-drop pairsField (fieldsFrom head at),
+      fields-fit head (fieldsFrom head at) at refl h,
+    )

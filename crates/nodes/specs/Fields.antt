@@ -11,6 +11,10 @@ use Rattle.nodes.specs.declared.Fields.{Fields}
 use Rattle.nodes.specs.declared.Five.{Five}
 use Rattle.nodes.specs.declared.Five.the-variants.{Whole, Short}
 
+-- the line that starts at a place, in the file up to the line's end
+abbrev pub lineAt : List ℕ → ℕ → Text
+lineAt head at = record { start = at; bytes = drop at head }
+
 -- the fields of a line from a place on, in the file up to the line's end
 unfoldable pub fieldsFrom : List ℕ → ℕ → List Text
 fieldsFrom head at = fields (columnsFrom at (drop at head))

@@ -11,7 +11,7 @@ ghost use Rattle.rules.proofs.RuleLaws.{lesser};
 ghost use Rattle.rules.proofs.LesserLaws.{wrong};
 ghost use Rattle.sheets.specs.SheetRows.{tablesIn};
 ghost use Rattle.tags.specs.Tabled.{Tabled};
-ghost use Rattle.nodes.specs.Fields.{fieldsFrom, textBetween, firstField, firstFive, Lies, Placed, fiveTexts};
+ghost use Rattle.nodes.specs.Fields.{lineAt, fieldsFrom, textBetween, firstField, firstFive, Lies, Placed, fiveTexts};
 ghost use Rattle.nodes.specs.Faults.{tagFault, parentAt, secondaryAt, pairAt, larger, pairsOf, ownOf, tallyOf};
 ghost use Rattle.nodes.specs.Answers.{nodeAnswer, answered, marked};
 use columns::Column;
@@ -303,7 +303,16 @@ fn pairs_from(head: &[u8], from: usize, sheet: &[u32], number: u32, classes: &[u
                 whole: false,
             };
         };
-        let pair = pair_at(head, sheet, number, label, label_end, parent, parent_end, classes);
+        let pair = pair_at(
+            head,
+            sheet,
+            number,
+            label,
+            label_end,
+            parent,
+            parent_end,
+            classes,
+        );
         highest = larger_number(highest, pair.number);
         fault = lesser_fault(fault, pair.fault);
         count += 1;
@@ -338,10 +347,21 @@ fn own_of(
     let tag = tag_fault(head, sheet, tags, f.tag, f.tag_end);
     let morphology = tag_fault(head, sheet, MORPH_TAGS, f.morphology, f.morphology_end);
     let edge = tag_fault(head, sheet, EDGE_TAGS, f.edge, f.edge_end);
-    let parent = parent_at(head, number, f.edge, f.edge_end, f.parent, f.parent_end, classes);
+    let parent = parent_at(
+        head,
+        number,
+        f.edge,
+        f.edge_end,
+        f.parent,
+        f.parent_end,
+        classes,
+    );
     Parent {
         number: parent.number,
-        fault: lesser_fault(tag, lesser_fault(morphology, lesser_fault(edge, parent.fault))),
+        fault: lesser_fault(
+            tag,
+            lesser_fault(morphology, lesser_fault(edge, parent.fault)),
+        ),
     }
 }
 
@@ -406,4 +426,63 @@ fn answer(fault: u32, number: u32, edges: u32, highest: u32) -> NodeAnswer
     } else {
         NodeAnswer::Refused(fault)
     }
+}
+
+// `words` words and `edges` secondary edges stand in front of this one, and no phrase may.
+pub fn word_line(
+    head: &[u8],
+    at: usize,
+    sheet: &[u32],
+    words: u32,
+    no_phrase: bool,
+    edges: u32,
+    classes: &[u8; 256],
+) -> NodeAnswer
+    requires { ⌜ Tabled (now head) (now sheet) × (now classes ≡ classTable) × (at ≤ length (now head)) × (length (now head) ≤ fileLimit) × (edges ≤ edgeLimit) ⌝ }
+    ensures { λ r. ⌜ r ≡ nodeAnswer (wordOf (tablesIn (now (head .entry)) (now (sheet .entry))) words «no_phrase» edges (lineAt (now (head .entry)) at)) ⌝ }
+{
+    if !no_phrase {
+        return NodeAnswer::Refused(6);
+    }
+    let five = five_fields(head, at, classes);
+    let Five::Whole(f) = five else {
+        return NodeAnswer::Refused(7);
+    };
+    let tally = tally_of(head, sheet, WORD_TAGS, words, f, classes);
+    let room = room_fault(words, edges, tally.edges);
+    let fault = lesser_fault(tally.fault, room);
+    answer(fault, words, tally.edges, tally.highest)
+}
+
+// `marks` holds, for each phrase's number from 500 on, the stamp of the sentence that last had a phrase of it.
+pub fn phrase_line(
+    head: &[u8],
+    at: usize,
+    sheet: &[u32],
+    marks: &[u32],
+    stamp: u32,
+    edges: u32,
+    classes: &[u8; 256],
+) -> NodeAnswer
+    requires { ⌜ Tabled (now head) (now sheet) × (now classes ≡ classTable) × (at ≤ length (now head)) × (length (now head) ≤ fileLimit) × (edges ≤ edgeLimit) × (length (now marks) ≡ 500) ⌝ }
+    ensures { λ r. ⌜ r ≡ nodeAnswer (phraseOf (tablesIn (now (head .entry)) (now (sheet .entry))) (marked (now (marks .entry)) stamp) edges (lineAt (now (head .entry)) at)) ⌝ }
+{
+    let five = five_fields(head, at, classes);
+    let Five::Whole(f) = five else {
+        return NodeAnswer::Refused(7);
+    };
+    let start = f.first + 1;
+    let end = f.first_end;
+    let read = PhraseNumber::read(&head[start..end], classes);
+    let Number::Good(number) = read else {
+        let tally = tally_of(head, sheet, NODE_TAGS, 0, f, classes);
+        return NodeAnswer::Refused(lesser_fault(8, tally.fault));
+    };
+    let tally = tally_of(head, sheet, NODE_TAGS, number, f, classes);
+    let fresh = marks[(number - PhraseNumber::LOWEST) as usize] != stamp;
+    let again = fault_unless(fresh, 17);
+    let room = room_fault(0, edges, tally.edges);
+    let limits = lesser_fault(room, again);
+    let fault = lesser_fault(tally.fault, limits);
+    answer(fault, number, tally.edges, tally.highest)
 }

@@ -30,7 +30,7 @@ lesser-fault-requires-3 : tie.Need-lesser-fault-requires-3
 lesser-fault-requires-3 c κs = search needs
 
 returns : tie.Need-returns
-returns c = 
+returns c =
     let p = c .before .before .before in
     let k = p .before in
     let s = k .before .before .before .before .before in

@@ -17,7 +17,7 @@ lesser-fault-requires : tie.Need-lesser-fault-requires
 lesser-fault-requires c κs = search needs
 
 returns : tie.Need-returns
-returns c = 
+returns c =
     let r = c .before in
     let s = r .before .before .before .before in
     pair-is (tablesIn (s .args .head .now) (s .args .sheet .now)) (s .args .number)

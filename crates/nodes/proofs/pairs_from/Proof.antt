@@ -86,7 +86,7 @@ pair k =
 -- one pair more
 more : (k : tie.After-found2 Inv-loop μ-loop)
     → soFar (place (label k) .loop .count + 1) (larger (place (label k) .loop .highest) (pair k .number)) (lesser (place (label k) .loop .fault) (pair k .fault))
-      (pairsOf (tables (place (label k))) (entry (place (label k)) .args .number) (fieldsFrom (head (place (label k))) (parent-end k)))
+    (pairsOf (tables (place (label k))) (entry (place (label k)) .args .number) (fieldsFrom (head (place (label k))) (parent-end k)))
     ≡ all (place (label k))
 more k =
     let l = place (label k) in
@@ -163,10 +163,11 @@ loop-again c =
     let k = p .before .before in
     let a = label-step (label k) in
     let b = parent-step k in
-    let l = place (label k) in
-    (omega (arith, l .loop .inv),
-    b .inside,
-    rw (c .lesser-fault .ensures, c .before .larger-number .ensures, p .pair-at .ensures) (more k))
+    let l = place (label k) in (
+      omega (arith, l .loop .inv),
+      b .inside,
+      rw (c .lesser-fault .ensures, c .before .larger-number .ensures, p .pair-at .ensures) (more k),
+    )
 
 returns-3 : tie.Need-returns-3 Inv-loop μ-loop
 returns-3 c =
