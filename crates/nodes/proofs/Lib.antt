@@ -6,3 +6,4 @@ pub mod PairWalk
 pub mod NodeRules
 pub mod NodeAnswers
 pub mod LineAnswers
+pub mod TakenNodes

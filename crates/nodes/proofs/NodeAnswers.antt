@@ -33,7 +33,7 @@ same-told : (v : Verdict Node) → nodeAnswer v ≡ told Refused taken v
 same-told (refused r) = refl
 same-told (granted m) = refl
 
-largest-edges : (ps : List Pair) → largest edgeParent (map asEdge ps) ≡ largest pairNumber ps
+pub largest-edges : (ps : List Pair) → largest edgeParent (map asEdge ps) ≡ largest pairNumber ps
 largest-edges [] = refl
 largest-edges (p ∷ ps) = ap (larger (pairNumber p)) (largest-edges ps)
 

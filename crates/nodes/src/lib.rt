@@ -226,15 +226,15 @@ fn secondary_at(head: &[u8], number: u32, start: usize, end: usize, classes: &[u
             fault: 8,
         };
     };
-    if number < parent {
+    if parent <= number {
         return Parent {
             number: parent,
-            fault: 0,
+            fault: 19,
         };
     }
     Parent {
         number: parent,
-        fault: 19,
+        fault: 0,
     }
 }
 
@@ -471,9 +471,9 @@ pub fn phrase_line(
     let Five::Whole(f) = five else {
         return NodeAnswer::Refused(7);
     };
-    let start = f.first + 1;
+    let digits = f.first + 1;
     let end = f.first_end;
-    let read = PhraseNumber::read(&head[start..end], classes);
+    let read = PhraseNumber::read(&head[digits..end], classes);
     let Number::Good(number) = read else {
         let tally = tally_of(head, sheet, NODE_TAGS, 0, f, classes);
         return NodeAnswer::Refused(lesser_fault(8, tally.fault));

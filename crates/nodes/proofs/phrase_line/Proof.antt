@@ -76,8 +76,8 @@ returns c =
     let s = v .before .before .before .before in
     sym (phrase-line-short (tables s) (s .args .edges) (head s) (s .args .at) (marks s) (sym (v .five-fields .ensures) ∙ c .enum-told .given .1))
 
-add-start : tie.Need-add-start
-add-start c = let p = placed (c .before .before) in omega arith
+add-digits : tie.Need-add-digits
+add-digits c = let p = placed (c .before .before) in omega arith
 
 sub-read : tie.Need-sub-read
 sub-read c = let p = placed (c .before .before) in omega arith
@@ -168,4 +168,4 @@ returns-3 c =
     (t .tally-of2 .ensures) (u .fault-unless .ensures) (m .room-fault .ensures) (c .before .before .lesser-fault2 .ensures) (c .before .lesser-fault3 .ensures)
 
 pub phrase-line-spec : {M : Type 1} → statement M
-phrase-line-spec = tie.close (tie.spec five-fields-requires enum-known-five enum-told returns add-start sub-read part-read-start part-read-end read-requires enum-known-read enum-told-2 tally-of-requires lesser-fault-requires returns-2 tally-of-requires-2 sub-fresh cast-fresh mul-fresh shared-slice-read-fresh fault-unless-requires room-fault-requires lesser-fault-requires-2 lesser-fault-requires-3 answer-requires returns-3)
+phrase-line-spec = tie.close (tie.spec five-fields-requires enum-known-five enum-told returns add-digits sub-read part-read-start part-read-end read-requires enum-known-read enum-told-2 tally-of-requires lesser-fault-requires returns-2 tally-of-requires-2 sub-fresh cast-fresh mul-fresh shared-slice-read-fresh fault-unless-requires room-fault-requires lesser-fault-requires-2 lesser-fault-requires-3 answer-requires returns-3)

@@ -61,12 +61,12 @@ returns c =
 returns-2 : tie.Need-returns-2
 returns-2 c =
     let k = c .before in
-    sym (phrase k ∙ ap (λ (b : Bool). parentIs (parent k) (wrong 19 b)) (lt-ltb (start k .args .number) (parent k) (c .if1 .taken)))
+    sym (phrase k ∙ ap (λ (b : Bool). parentIs (parent k) (wrong 19 b)) (le-ltb (start k .args .number) (parent k) (c .if1 .taken)))
 
 returns-3 : tie.Need-returns-3
 returns-3 c =
     let k = c .before in
-    sym (phrase k ∙ ap (λ (b : Bool). parentIs (parent k) (wrong 19 b)) (le-ltb (start k .args .number) (parent k) (c .if1 .left)))
+    sym (phrase k ∙ ap (λ (b : Bool). parentIs (parent k) (wrong 19 b)) (lt-ltb (start k .args .number) (parent k) (c .if1 .left)))
 
 pub secondary-at-spec : {M : Type 1} → statement M
 secondary-at-spec = tie.close (tie.spec sub-read part-read-start part-read-end read-requires enum-known-read enum-told returns returns-2 returns-3)
