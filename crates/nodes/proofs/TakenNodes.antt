@@ -93,8 +93,8 @@ module _ (ts : Tables) (tags its-number : ℕ) (fs : List Text) (limits : List R
       let secondary = map (λ (p : Pair). rule 8 (p .parent) (good (secondaryParent p))) (itsPairs fs) in
       let g : good (itsParent fs) ≡ true = and-left (good (itsParent fs)) (every holdsOf secondary) written-hold in
       let gs : every (λ (p : Pair). good (secondaryParent p)) (itsPairs fs) ≡ true =
-          sym (every-map holdsOf (λ (p : Pair). rule 8 (p .parent) (good (secondaryParent p))) (itsPairs fs))
-          ∙ and-right (good (itsParent fs)) (every holdsOf secondary) written-hold
+      sym (every-map holdsOf (λ (p : Pair). rule 8 (p .parent) (good (secondaryParent p))) (itsPairs fs))
+      ∙ and-right (good (itsParent fs)) (every holdsOf secondary) written-hold
       in
       rw (largest-edges (itsPairs fs))
       (larger-of (value (itsParent fs)) (largest pairNumber (itsPairs fs)) (parent-tells (text fs parentField .bytes) (value (itsParent fs)) (good-some (itsParent fs) g))
@@ -158,7 +158,7 @@ phrase-taken ts given-before edges line n e h q =
     let k : length (itsPairs fs) ≡ e = sym (length-map (itsPairs fs) asEdge) ∙ ap (λ (x : Node). length (x .secondary)) (g .1) ∙ t .edges in
     let r : edges + length (itsPairs fs) ≤ 512 = leb-true (edges + length (itsPairs fs)) 512 (and-left (roomy edges fs) (not (given-before (value read)) && true) l) in
     let f : given-before (value read) ≡ false =
-        not-true (given-before (value read)) (and-left (not (given-before (value read))) true (and-right (roomy edges fs) (not (given-before (value read)) && true) l))
+    not-true (given-before (value read)) (and-left (not (given-before (value read))) true (and-right (roomy edges fs) (not (given-before (value read)) && true) l))
     in
     record {
       lowest = omega (arith, w .lowest);

@@ -28,6 +28,11 @@ tag s = textBetween (s .args .head .now) (s .args .start) (s .args .end)
 long : (s : tie.Start) → length (tag s .bytes) ≡ s .args .end - s .args .start
 long s = length-between (s .args .head .now) (s .args .start) (s .args .end) (s .pre .2) (s .pre .3)
 
+is-known : (k : tie.After-is-known)
+    → known (tables (entry (k .before .before .before))) (entry (k .before .before .before) .args .table) (tag (entry (k .before .before .before)))
+    ≡ k .is-known .result
+is-known k = sym (k .is-known .ensures (entry (k .before .before .before) .args .start))
+
 looked-up : (k : tie.After-is-known)
     → tagFault (tables (entry (k .before .before .before))) (entry (k .before .before .before) .args .table) (tag (entry (k .before .before .before)))
     ≡ wrong 18 (k .is-known .result)
@@ -35,7 +40,7 @@ looked-up k =
     let l = k .before .before .before in
     let s = entry l in
     let h : length (tag s .bytes) ≤ tagLimit (s .args .table) = omega (arith, long s, l .tag-limit .ensures, k .before .before .if1 .left) in
-    tag-short (tables s) (s .args .table) (tag s) h ∙ ap (wrong 18) (sym (k .is-known .ensures (s .args .start)))
+    tag-short (tables s) (s .args .table) (tag s) h ∙ ap (wrong 18) (is-known k)
 
 tag-limit-requires : tie.Need-tag-limit-requires
 tag-limit-requires c κs = search needs
