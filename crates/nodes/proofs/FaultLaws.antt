@@ -1,21 +1,20 @@
 -- What a tag and a parent are refused for, case by case. Assumes nothing.
 use Prim.Native.Nat.{ℕ, _-_, _≤_, _<_}
 use native.Mathlib.Omega.{arith}
-use mathlib.Core.Path.{_≡_, refl, sym, ap, _∙_}
+use mathlib.Core.Path.{_≡_, ap, _∙_}
 use mathlib.Core.Bool.{Bool, true, false}
 use mathlib.Core.Option.{Option, none, some}
 use mathlib.Core.List.{List}
-use borrow.Author.Tests.{lt-ltb, le-ltb, ne-eqb, le-leb, lt-leb}
-use lib.Dec.{eqb, ltb, leb}
+use borrow.Author.Tests.{ne-eqb, le-leb, lt-leb}
+use lib.Dec.{ltb}
 use lib.ListN.{length, take, drop, length-drop}
 use lib.Seq.{length-take-le}
-use Rattle.rules.specs.Lists.{pick, same}
-use Rattle.rules.specs.Texts.{Text, atMost}
+use Rattle.rules.specs.Lists.{same}
+use Rattle.rules.specs.Texts.{Text}
 use Rattle.rules.specs.Numbers.{phraseNumber, number, parentNumber, value}
 use Rattle.rules.specs.Tables.{Tables, dashes, known, tagLimit}
 use Rattle.rules.proofs.RuleLaws.{lesser}
 use Rattle.rules.proofs.LesserLaws.{wrong, lesser-none, lesser-some}
-use Rattle.nodes.specs.Fields.{textBetween}
 use Rattle.nodes.specs.Faults.{tagFault, parentOf, rises, parentAt, secondaryAt}
 use Rattle.nodes.specs.declared.Parent.{Parent}
 

@@ -2,7 +2,7 @@
 -- found is the first of them. By the cursor's step. Assumes nothing.
 use Prim.Native.Nat.{ℕ, _+_, _-_, _≤_, _<_}
 use native.Mathlib.Omega.{arith}
-use mathlib.Core.Path.{_≡_, refl, sym, ap, _∙_}
+use mathlib.Core.Path.{_≡_, refl, ap, _∙_}
 use mathlib.Core.Bool.{Bool, true, false}
 use mathlib.Core.List.{List, [], _∷_}
 use lib.ListN.{length, take, drop, length-drop, drop-of-length-le}
@@ -15,7 +15,7 @@ use Rattle.columns.specs.Cursors.{columnAt}
 use Rattle.columns.specs.declared.Column as cursor
 use Rattle.columns.specs.declared.Column.the-variants as cursor-variants
 use Rattle.columns.specs.declared.Cursor.{Cursor}
-use Rattle.columns.proofs.Steps.{columnBetween, Step, missing, found}
+use Rattle.columns.proofs.Steps.{Step, missing, found}
 use Rattle.nodes.specs.Fields.{fieldsFrom, endOf, textBetween, firstField}
 use Rattle.nodes.specs.declared.Field.the-variants.{Found, End}
 

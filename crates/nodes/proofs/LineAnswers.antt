@@ -2,13 +2,13 @@
 use Prim.Native.Nat.{ℕ, suc, _+_, _-_, _≤_, _<_}
 use native.Mathlib.Numerals.{add-one}
 use native.Mathlib.Omega.{arith}
-use mathlib.Core.Path.{_≡_, refl, sym, ap, _∙_}
+use mathlib.Core.Path.{_≡_, sym, ap, _∙_}
 use mathlib.Core.Bool.{Bool, true, false, not, _&&_}
 use mathlib.Core.Option.{none, some}
-use mathlib.Core.List.{List, [], _∷_}
+use mathlib.Core.List.{List}
 use borrow.Author.Tests.{le-leb}
 use lib.Dec.{leb, ltb}
-use lib.ListN.{length, take, drop, getD}
+use lib.ListN.{length, take, drop}
 use lib.Seq.{drop-cons}
 use Rattle.rules.specs.Texts.{Text}
 use Rattle.rules.specs.Columns.{text}
@@ -22,7 +22,6 @@ use Rattle.nodes.specs.Faults.{tallyOf}
 use Rattle.nodes.specs.Answers.{nodeAnswer, answered}
 use Rattle.nodes.specs.declared.Fields.{Fields}
 use Rattle.nodes.specs.declared.Five.the-variants.{Whole, Short}
-use Rattle.nodes.specs.declared.NodeAnswer.{NodeAnswer}
 use Rattle.nodes.specs.declared.NodeAnswer.the-variants.{Refused}
 use Rattle.nodes.specs.declared.Tally.{Tally}
 use Rattle.nodes.proofs.FiveFields.{FiveSteps, five-texts, five-tells, five-short, five-placed}

@@ -1,22 +1,22 @@
 -- The answers on a word line and on a phrase line: a line that is too short, and one whose fields are tallied. By the
 -- rules in their groups. Assumes nothing.
-use Prim.Native.Nat.{ℕ, zero, suc, _+_, _≤_}
+use Prim.Native.Nat.{ℕ, zero, suc, _+_}
 use native.Mathlib.Omega.{arith}
 use mathlib.Core.Path.{_≡_, refl, sym, ap, _∙_}
 use mathlib.Core.Bool.{Bool, true, false, not, _&&_}
 use mathlib.Core.Option.{Option, none, some}
-use mathlib.Core.List.{List, [], _∷_, _++_, map}
+use mathlib.Core.List.{List, [], _∷_, map}
 use borrow.Author.Tests.{ne-eqb}
 use lib.Dec.{leb, ltb, eqb}
 use lib.ListN.{length, drop, length-map}
-use Rattle.rules.specs.Lists.{pick, every}
+use Rattle.rules.specs.Lists.{pick}
 use Rattle.rules.specs.Texts.{Text, noText}
 use Rattle.rules.specs.Columns.{columns, text, fields, comment}
 use Rattle.rules.specs.Numbers.{wordLimit, edgeLimit, phraseNumber, number, good, value}
 use Rattle.rules.specs.Rules.{Rule, rule, Verdict, refused, granted, checked}
 use Rattle.rules.specs.Tables.{Tables, wordTags, nodeTags}
-use Rattle.rules.specs.Sentences.{Edge, Node}
-use Rattle.rules.specs.Nodes.{Pair, pairs, paired, asEdge, pairsField, itsParent, itsPairs, nodeOf, shaped, roomy, behindHash, wordOf, phraseOf}
+use Rattle.rules.specs.Sentences.{Node}
+use Rattle.rules.specs.Nodes.{Pair, paired, asEdge, pairsField, itsPairs, nodeOf, shaped, roomy, behindHash, wordOf, phraseOf}
 use Rattle.rules.proofs.RuleLaws.{smallest, numberOf, numbered, lesser, passes, decides, told, told-checked}
 use Rattle.rules.proofs.LesserLaws.{wrong, least, ruleFault, lesser-none, lesser-assoc, lesser-comm, lesser-left-comm, smallest-is-least}
 use Rattle.nodes.specs.Faults.{larger, largest, pairNumber, pairsOf, ownOf, tallyOf}

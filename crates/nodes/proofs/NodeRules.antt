@@ -2,19 +2,17 @@
 -- four fields, the pairs, and the limits of the sentence. By the laws of the smaller number. Assumes nothing.
 use Prim.Native.Nat.{ℕ, _≤_}
 use native.Mathlib.Omega.{arith}
-use mathlib.Core.Path.{_≡_, refl, sym, ap, _∙_}
+use mathlib.Core.Path.{_≡_, ap, _∙_}
 use mathlib.Core.Bool.{Bool, true, _&&_}
-use mathlib.Core.List.{List, [], _∷_, _++_, map}
+use mathlib.Core.List.{List, _++_}
 use borrow.Author.Tests.{le-leb}
 use lib.Dec.{leb, ltb, eqb}
-use lib.ListN.{drop}
 use Rattle.rules.specs.Lists.{pick, every}
 use Rattle.rules.specs.Texts.{Text, reads, atMost}
-use Rattle.rules.specs.Columns.{text}
 use Rattle.rules.specs.Numbers.{good, value}
 use Rattle.rules.specs.Rules.{Rule, rule}
 use Rattle.rules.specs.Tables.{Tables, morphTags, edgeTags, secEdgeTags, dashes, known, tagLimit}
-use Rattle.rules.specs.Nodes.{Pair, pairs, secondaryParent, parentField, pairsField, itsTag, itsMorphology, itsEdge, itsParent, itsPairs, parentsWritten, tagsShort, tagsKnown, parentsRise}
+use Rattle.rules.specs.Nodes.{Pair, secondaryParent, itsTag, itsMorphology, itsEdge, itsParent, itsPairs, parentsWritten, tagsShort, tagsKnown, parentsRise}
 use Rattle.rules.proofs.Conjunctions.{every-append}
 use Rattle.rules.proofs.RuleLaws.{lesser}
 use Rattle.rules.proofs.LesserLaws.{wrong, least, ruleFault, lesser-assoc, lesser-comm, lesser-left-comm, least-append, least-both, least-map, each-reaches}

@@ -3,7 +3,7 @@
 use Prim.Native.Nat.{ℕ, zero, suc, _+_, _≤_, _<_}
 use native.Mathlib.Nat.{zero-add, add-zero}
 use native.Mathlib.Omega.{arith}
-use mathlib.Core.Path.{_≡_, refl, sym, ap, _∙_}
+use mathlib.Core.Path.{_≡_, refl}
 use mathlib.Core.Bool.{Bool, true, false}
 use mathlib.Core.List.{List, [], _∷_}
 use borrow.Author.Tests.{lt-ltb, le-ltb, ltb-true, ltb-false}
@@ -12,11 +12,10 @@ use lib.ListN.{length}
 use Rattle.rules.specs.Lists.{pick}
 use Rattle.rules.specs.Texts.{Text}
 use Rattle.rules.specs.Tables.{Tables}
-use Rattle.rules.specs.Nodes.{Pair, pairs, paired}
+use Rattle.rules.specs.Nodes.{pairs, paired}
 use Rattle.rules.proofs.RuleLaws.{lesser}
 use Rattle.rules.proofs.LesserLaws.{least, lesser-none, lesser-assoc}
 use Rattle.nodes.specs.Faults.{larger, largest, pairFault, pairNumber, pairAt, pairsOf}
-use Rattle.nodes.specs.declared.Parent.{Parent}
 use Rattle.nodes.specs.declared.Pairs.{Pairs}
 
 pub larger-none : (m : ℕ) → larger m 0 ≡ m

@@ -8,12 +8,12 @@ use mathlib.Core.Bool.{Bool, true, false, not, _&&_}
 use mathlib.Core.Option.{Option, none, some}
 use mathlib.Core.List.{List, [], _∷_, _++_, map}
 use borrow.Author.Tests.{leb-true, ltb-true}
-use lib.Dec.{leb, ltb}
+use lib.Dec.{ltb}
 use lib.ListN.{length, length-map}
 use Rattle.rules.specs.Lists.{pick, every}
 use Rattle.rules.specs.Texts.{Text, noText}
 use Rattle.rules.specs.Columns.{columns, text, fields, comment}
-use Rattle.rules.specs.Numbers.{wordLimit, edgeLimit, phraseNumber, number, parentNumber, good, value}
+use Rattle.rules.specs.Numbers.{wordLimit, phraseNumber, number, good, value}
 use Rattle.rules.specs.Rules.{Rule, rule, Verdict, refused, granted}
 use Rattle.rules.specs.Tables.{Tables, wordTags, nodeTags}
 use Rattle.rules.specs.Sentences.{Node}

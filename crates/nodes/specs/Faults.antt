@@ -11,7 +11,7 @@ use Rattle.rules.specs.Texts.{Text, reads, atMost}
 use Rattle.rules.specs.Columns.{text}
 use Rattle.rules.specs.Numbers.{phraseNumber, number, parentNumber, good, value}
 use Rattle.rules.specs.Tables.{Tables, morphTags, edgeTags, secEdgeTags, dashes, known, tagLimit}
-use Rattle.rules.specs.Nodes.{Pair, pairs, paired, secondaryParent, parentField, pairsField, itsTag, itsMorphology, itsEdge, itsParent, itsPairs}
+use Rattle.rules.specs.Nodes.{Pair, pairs, paired, secondaryParent, parentField, pairsField, itsTag, itsMorphology, itsEdge}
 use Rattle.rules.proofs.RuleLaws.{lesser}
 use Rattle.rules.proofs.LesserLaws.{wrong, least}
 use Rattle.nodes.specs.declared.Parent.{Parent}

@@ -2,7 +2,7 @@
 -- field the line is short. Assumes nothing.
 use borrow.Author.Needs.{needs}
 use Prim.Native.Nat.{ℕ}
-use mathlib.Core.Path.{_≡_, sym, ap, _∙_}
+use mathlib.Core.Path.{sym, ap, _∙_}
 use mathlib.Core.List.{List}
 use Rattle.nodes.specs.Fields.{firstFive}
 use Rattle.nodes.proofs.FieldSteps.{FieldStep, field-end, field-found}

@@ -6,7 +6,6 @@ use Prim.Native.Nat.{ℕ}
 use mathlib.Core.Path.{_≡_, sym, ap, _∙_}
 use mathlib.Core.List.{List}
 use Rattle.columns.specs.Cursors.{columnAt}
-use Rattle.columns.specs.declared.Column.{Column}
 use Rattle.columns.specs.declared.Column.the-variants.{Found}
 use Rattle.columns.specs.declared.Cursor.{Cursor}
 use Rattle.columns.proofs.Steps.{Step, found}

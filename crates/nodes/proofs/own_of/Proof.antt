@@ -1,7 +1,6 @@
 -- `nodes::own_of` meets its contract: four fields are judged one by one, and the smallest number is kept.
 -- Assumes nothing.
 use borrow.Author.Needs.{needs}
-use Rattle.rules.specs.Tables.{Tables}
 use Rattle.sheets.specs.SheetRows.{tablesIn}
 use Rattle.nodes.specs.Fields.{fiveTexts}
 use Rattle.nodes.proofs.Tallies.{own-is}

@@ -2,13 +2,11 @@
 -- Assumes nothing.
 use borrow.Author.Needs.{needs}
 use borrow.Author.Tests.{not-true, not-false}
-use native.Mathlib.Omega.{arith}
-use Prim.Native.Nat.{ℕ, _≤_}
+use Prim.Native.Nat.{ℕ}
 use mathlib.Core.Path.{_≡_, sym, ap, _∙_}
 use mathlib.Core.Bool.{Bool, true}
 use mathlib.Core.List.{List}
 use Rattle.rules.specs.Tables.{Tables}
-use Rattle.rules.specs.Numbers.{fileLimit}
 use Rattle.rules.specs.Nodes.{wordOf}
 use Rattle.sheets.specs.SheetRows.{tablesIn}
 use Rattle.nodes.specs.Fields.{lineAt, fieldsFrom, firstFive}
