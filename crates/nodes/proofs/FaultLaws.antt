@@ -16,7 +16,7 @@ use Rattle.rules.specs.Tables.{Tables, dashes, known, tagLimit}
 use Rattle.rules.proofs.RuleLaws.{lesser}
 use Rattle.rules.proofs.LesserLaws.{wrong, lesser-none, lesser-some}
 use Rattle.nodes.specs.Faults.{tagFault, parentOf, rises, parentAt, secondaryAt}
-use Rattle.nodes.specs.declared.Parent.{Parent}
+use Rattle.nodes.specs.declared.faults.Parent.{Parent}
 
 pub length-between : (head : List ℕ) (a e : ℕ) → a ≤ e → e ≤ length head → length (take (e - a) (drop a head)) ≡ e - a
 length-between head a e h k = length-take-le (e - a) (drop a head) (omega (arith, length-drop a head))

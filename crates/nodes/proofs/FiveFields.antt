@@ -9,8 +9,8 @@ use lib.Dec.{leb}
 use lib.ListN.{length}
 use Rattle.rules.specs.Texts.{Text}
 use Rattle.nodes.specs.Fields.{fieldsFrom, endOf, textBetween, firstFive, Placed, fiveTexts}
-use Rattle.nodes.specs.declared.Fields.{Fields}
-use Rattle.nodes.specs.declared.Five.the-variants.{Whole, Short}
+use Rattle.nodes.specs.declared.places.Fields.{Fields}
+use Rattle.nodes.specs.declared.places.Five.the-variants.{Whole, Short}
 use Rattle.nodes.proofs.FieldSteps.{FieldStep, end-between, head-step}
 
 pub record FiveSteps (head : List ℕ) (at : ℕ) (f : Fields) : Type 0 where

@@ -20,8 +20,8 @@ use Rattle.rules.proofs.LesserLaws.{wrong}
 use Rattle.nodes.specs.Fields.{lineAt, fieldsFrom, firstFive, textBetween, Placed, fiveTexts}
 use Rattle.nodes.specs.Faults.{tallyOf}
 use Rattle.nodes.specs.Answers.{nodeAnswer, answered}
-use Rattle.nodes.specs.declared.Fields.{Fields}
-use Rattle.nodes.specs.declared.Five.the-variants.{Whole, Short}
+use Rattle.nodes.specs.declared.places.Fields.{Fields}
+use Rattle.nodes.specs.declared.places.Five.the-variants.{Whole, Short}
 use Rattle.nodes.specs.declared.NodeAnswer.the-variants.{Refused}
 use Rattle.nodes.specs.declared.Tally.{Tally}
 use Rattle.nodes.proofs.FiveFields.{FiveSteps, five-texts, five-tells, five-short, five-placed}

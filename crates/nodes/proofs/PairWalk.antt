@@ -16,7 +16,7 @@ use Rattle.rules.specs.Nodes.{pairs, paired}
 use Rattle.rules.proofs.RuleLaws.{lesser}
 use Rattle.rules.proofs.LesserLaws.{least, lesser-none, lesser-assoc}
 use Rattle.nodes.specs.Faults.{larger, largest, pairFault, pairNumber, pairAt, pairsOf}
-use Rattle.nodes.specs.declared.Pairs.{Pairs}
+use Rattle.nodes.specs.declared.faults.Pairs.{Pairs}
 
 pub larger-none : (m : ℕ) → larger m 0 ≡ m
 larger-none m = rw (le-ltb m 0 (omega arith))

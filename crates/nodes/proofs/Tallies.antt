@@ -13,8 +13,8 @@ use Rattle.rules.proofs.RuleLaws.{lesser}
 use Rattle.rules.proofs.LesserLaws.{wrong}
 use Rattle.nodes.specs.Fields.{fieldsFrom}
 use Rattle.nodes.specs.Faults.{tagFault, parentAt, secondaryAt, pairAt, larger, pairsOf, ownOf, tallyOf}
-use Rattle.nodes.specs.declared.Parent.{Parent}
-use Rattle.nodes.specs.declared.Pairs.{Pairs}
+use Rattle.nodes.specs.declared.faults.Parent.{Parent}
+use Rattle.nodes.specs.declared.faults.Pairs.{Pairs}
 use Rattle.nodes.specs.declared.Tally.{Tally}
 use Rattle.nodes.proofs.FieldSteps.{fields-fit}
 

@@ -14,8 +14,8 @@ use Rattle.rules.specs.Tables.{Tables, morphTags, edgeTags, secEdgeTags, dashes
 use Rattle.rules.specs.Nodes.{Pair, pairs, paired, secondaryParent, parentField, pairsField, itsTag, itsMorphology, itsEdge}
 use Rattle.rules.proofs.RuleLaws.{lesser}
 use Rattle.rules.proofs.LesserLaws.{wrong, least}
-use Rattle.nodes.specs.declared.Parent.{Parent}
-use Rattle.nodes.specs.declared.Pairs.{Pairs}
+use Rattle.nodes.specs.declared.faults.Parent.{Parent}
+use Rattle.nodes.specs.declared.faults.Pairs.{Pairs}
 use Rattle.nodes.specs.declared.Tally.{Tally}
 
 -- 10: longer than its table allows; 18: not in its table

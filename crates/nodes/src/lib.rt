@@ -1,23 +1,26 @@
-// A word line and a phrase line: their columns, and the rules they must keep.
+// A word line and a phrase line: what the survey is told of them.
+mod faults;
+mod places;
+
 ghost use mathlib.Core.Path.{_≡_};
 ghost use mathlib.Core.Bool.{_&&_};
 ghost use Prim.Native.Nat.{_+_, _≤_, _<_};
-ghost use lib.ListN.{length, drop};
+ghost use lib.ListN.{length};
 ghost use lib.Dec.{leb, ltb};
 ghost use Rattle.rules.specs.Bytes.{classTable};
 ghost use Rattle.rules.specs.Numbers.{fileLimit, wordLimit, edgeLimit};
 ghost use Rattle.rules.specs.Nodes.{wordOf, phraseOf};
-ghost use Rattle.rules.proofs.RuleLaws.{lesser};
 ghost use Rattle.rules.proofs.LesserLaws.{wrong};
 ghost use Rattle.sheets.specs.SheetRows.{tablesIn};
 ghost use Rattle.tags.specs.Tabled.{Tabled};
-ghost use Rattle.nodes.specs.Fields.{lineAt, fieldsFrom, textBetween, firstField, firstFive, Lies, Placed, fiveTexts};
-ghost use Rattle.nodes.specs.Faults.{tagFault, parentAt, secondaryAt, pairAt, larger, pairsOf, ownOf, tallyOf};
+ghost use Rattle.nodes.specs.Fields.{lineAt, Placed, fiveTexts};
+ghost use Rattle.nodes.specs.Faults.{ownOf, tallyOf};
 ghost use Rattle.nodes.specs.Answers.{nodeAnswer, answered, marked};
-use columns::Column;
-use columns::Cursor;
+use faults::Parent;
 use numbers::Number;
 use numbers::PhraseNumber;
+use places::Fields;
+use places::Five;
 
 // The tables of tags, by their places in the sheet.
 const WORD_TAGS: usize = 2;
@@ -27,304 +30,6 @@ const MORPH_TAGS: usize = 3;
 const NODE_TAGS: usize = 4;
 
 const EDGE_TAGS: usize = 5;
-
-const SEC_EDGE_TAGS: usize = 6;
-
-// The next field, from its first byte to behind its last; none stands behind the line's end or a column %%.
-pub enum Field {
-    Found { start: usize, end: usize },
-    End,
-}
-
-pub fn next_field(head: &[u8], at: usize, classes: &[u8; 256]) -> Field
-    requires { ⌜ now classes ≡ classTable ⌝ }
-    ensures { λ r. ⌜ r ≡ firstField (fieldsFrom (now (head .entry)) at) ⌝ }
-{
-    let column = Cursor::new(at).next(head, classes);
-    let Column::Found {
-        start,
-        end,
-        next: _,
-    } = column
-    else {
-        return Field::End;
-    };
-    if tags::is_twice(&head[start..end], b'%') {
-        return Field::End;
-    }
-    Field::Found { start, end }
-}
-
-// The first five fields of a line: the word, or # and a phrase's number; tag, morphology, edge and parent.
-pub struct Fields {
-    pub first: usize,
-    pub first_end: usize,
-    pub tag: usize,
-    pub tag_end: usize,
-    pub morphology: usize,
-    pub morphology_end: usize,
-    pub edge: usize,
-    pub edge_end: usize,
-    pub parent: usize,
-    pub parent_end: usize,
-}
-
-pub enum Five {
-    Whole(Fields),
-    Short,
-}
-
-pub fn five_fields(head: &[u8], at: usize, classes: &[u8; 256]) -> Five
-    requires { ⌜ now classes ≡ classTable ⌝ }
-    ensures { λ r. ⌜ r ≡ firstFive (fieldsFrom (now (head .entry)) at) ⌝ }
-{
-    let found = next_field(head, at, classes);
-    let Field::Found {
-        start: first,
-        end: first_end,
-    } = found
-    else {
-        return Five::Short;
-    };
-    let found = next_field(head, first_end, classes);
-    let Field::Found {
-        start: tag,
-        end: tag_end,
-    } = found
-    else {
-        return Five::Short;
-    };
-    let found = next_field(head, tag_end, classes);
-    let Field::Found {
-        start: morphology,
-        end: morphology_end,
-    } = found
-    else {
-        return Five::Short;
-    };
-    let found = next_field(head, morphology_end, classes);
-    let Field::Found {
-        start: edge,
-        end: edge_end,
-    } = found
-    else {
-        return Five::Short;
-    };
-    let found = next_field(head, edge_end, classes);
-    let Field::Found {
-        start: parent,
-        end: parent_end,
-    } = found
-    else {
-        return Five::Short;
-    };
-    Five::Whole(Fields {
-        first,
-        first_end,
-        tag,
-        tag_end,
-        morphology,
-        morphology_end,
-        edge,
-        edge_end,
-        parent,
-        parent_end,
-    })
-}
-
-// Of two numbers of refusal the smaller; 0 is none.
-fn lesser_fault(m: u32, n: u32) -> u32
-    ensures { λ r. ⌜ r ≡ lesser m n ⌝ }
-{
-    if m == 0 {
-        return n;
-    }
-    if n == 0 {
-        return m;
-    }
-    if m <= n { m } else { n }
-}
-
-fn larger_number(m: u32, n: u32) -> u32
-    ensures { λ r. ⌜ r ≡ larger m n ⌝ }
-{
-    if m < n { n } else { m }
-}
-
-fn tag_fault(head: &[u8], sheet: &[u32], table: usize, start: usize, end: usize) -> u32
-    requires { ⌜ Tabled (now head) (now sheet) × (table < 7) × (start ≤ end) × (end ≤ length (now head)) ⌝ }
-    ensures { λ r. ⌜ r ≡ tagFault (tablesIn (now (head .entry)) (now (sheet .entry))) table (textBetween (now (head .entry)) start end) ⌝ }
-{
-    if tags::tag_limit(table) < end - start {
-        return 10;
-    }
-    if tags::is_known(head, sheet, table, &head[start..end]) {
-        0
-    } else {
-        18
-    }
-}
-
-// A parent's number, 0 where it is badly written, and the number of refusal.
-pub struct Parent {
-    pub number: u32,
-    pub fault: u32,
-}
-
-// The parent of the node with this number and the edge between these places. Only --, the root's edge, has parent 0.
-fn parent_at(
-    head: &[u8],
-    number: u32,
-    edge: usize,
-    edge_end: usize,
-    start: usize,
-    end: usize,
-    classes: &[u8; 256],
-) -> Parent
-    requires { ⌜ (now classes ≡ classTable) × (edge ≤ «edge_end») × («edge_end» ≤ length (now head)) × (start ≤ end) × (end ≤ length (now head)) ⌝ }
-    ensures { λ r. ⌜ r ≡ parentAt number (textBetween (now (head .entry)) edge «edge_end») (textBetween (now (head .entry)) start end) ⌝ }
-{
-    let read = numbers::read_parent(&head[start..end], classes);
-    let Number::Good(parent) = read else {
-        return Parent {
-            number: 0,
-            fault: 8,
-        };
-    };
-    if parent == 0 {
-        if tags::is_twice(&head[edge..edge_end], b'-') {
-            return Parent {
-                number: 0,
-                fault: 0,
-            };
-        }
-        return Parent {
-            number: 0,
-            fault: 19,
-        };
-    }
-    if number < parent {
-        return Parent {
-            number: parent,
-            fault: 0,
-        };
-    }
-    Parent {
-        number: parent,
-        fault: 19,
-    }
-}
-
-fn secondary_at(head: &[u8], number: u32, start: usize, end: usize, classes: &[u8; 256]) -> Parent
-    requires { ⌜ (now classes ≡ classTable) × (start ≤ end) × (end ≤ length (now head)) ⌝ }
-    ensures { λ r. ⌜ r ≡ secondaryAt number (textBetween (now (head .entry)) start end) ⌝ }
-{
-    let read = PhraseNumber::read(&head[start..end], classes);
-    let Number::Good(parent) = read else {
-        return Parent {
-            number: 0,
-            fault: 8,
-        };
-    };
-    if parent <= number {
-        return Parent {
-            number: parent,
-            fault: 19,
-        };
-    }
-    Parent {
-        number: parent,
-        fault: 0,
-    }
-}
-
-// The label between the first two places and the secondary parent between the others.
-fn pair_at(
-    head: &[u8],
-    sheet: &[u32],
-    number: u32,
-    label: usize,
-    label_end: usize,
-    parent: usize,
-    parent_end: usize,
-    classes: &[u8; 256],
-) -> Parent
-    requires { ⌜ Tabled (now head) (now sheet) × (now classes ≡ classTable) × Lies (now head) label «label_end» × Lies (now head) parent «parent_end» ⌝ }
-    ensures { λ r. ⌜ r ≡ pairAt (tablesIn (now (head .entry)) (now (sheet .entry))) number (textBetween (now (head .entry)) label «label_end») (textBetween (now (head .entry)) parent «parent_end») ⌝ }
-{
-    let tag = tag_fault(head, sheet, SEC_EDGE_TAGS, label, label_end);
-    let read = secondary_at(head, number, parent, parent_end, classes);
-    Parent {
-        number: read.number,
-        fault: lesser_fault(tag, read.fault),
-    }
-}
-
-// The pairs of secondary label and secondary parent behind a line's fifth field.
-pub struct Pairs {
-    pub count: u32,
-    pub highest: u32,
-    pub fault: u32,
-    pub whole: bool,
-}
-
-fn pairs_from(head: &[u8], from: usize, sheet: &[u32], number: u32, classes: &[u8; 256]) -> Pairs
-    requires { ⌜ Tabled (now head) (now sheet) × (now classes ≡ classTable) × (from ≤ length (now head)) × (length (now head) ≤ fileLimit) ⌝ }
-    ensures { λ r. ⌜ r ≡ pairsOf (tablesIn (now (head .entry)) (now (sheet .entry))) number (fieldsFrom (now (head .entry)) from) ⌝ }
-{
-    let mut at = from;
-    let mut count: u32 = 0;
-    let mut highest: u32 = 0;
-    let mut fault: u32 = 0;
-    while at < head.len() {
-        let found = next_field(head, at, classes);
-        let Field::Found {
-            start: label,
-            end: label_end,
-        } = found
-        else {
-            return Pairs {
-                count,
-                highest,
-                fault,
-                whole: true,
-            };
-        };
-        let found = next_field(head, label_end, classes);
-        let Field::Found {
-            start: parent,
-            end: parent_end,
-        } = found
-        else {
-            return Pairs {
-                count,
-                highest,
-                fault,
-                whole: false,
-            };
-        };
-        let pair = pair_at(
-            head,
-            sheet,
-            number,
-            label,
-            label_end,
-            parent,
-            parent_end,
-            classes,
-        );
-        highest = larger_number(highest, pair.number);
-        fault = lesser_fault(fault, pair.fault);
-        count += 1;
-        at = parent_end;
-    }
-    Pairs {
-        count,
-        highest,
-        fault,
-        whole: true,
-    }
-}
 
 // The number where a rule is broken, else 0.
 fn fault_unless(holds: bool, number: u32) -> u32
@@ -344,10 +49,10 @@ fn own_of(
     requires { ⌜ Tabled (now head) (now sheet) × (now classes ≡ classTable) × (tags < 7) × Placed (now head) f ⌝ }
     ensures { λ r. ⌜ r ≡ ownOf (tablesIn (now (head .entry)) (now (sheet .entry))) tags number (fiveTexts (now (head .entry)) f) ⌝ }
 {
-    let tag = tag_fault(head, sheet, tags, f.tag, f.tag_end);
-    let morphology = tag_fault(head, sheet, MORPH_TAGS, f.morphology, f.morphology_end);
-    let edge = tag_fault(head, sheet, EDGE_TAGS, f.edge, f.edge_end);
-    let parent = parent_at(
+    let tag = faults::tag_fault(head, sheet, tags, f.tag, f.tag_end);
+    let morphology = faults::tag_fault(head, sheet, MORPH_TAGS, f.morphology, f.morphology_end);
+    let edge = faults::tag_fault(head, sheet, EDGE_TAGS, f.edge, f.edge_end);
+    let parent = faults::parent_at(
         head,
         number,
         f.edge,
@@ -358,9 +63,9 @@ fn own_of(
     );
     Parent {
         number: parent.number,
-        fault: lesser_fault(
+        fault: faults::lesser_fault(
             tag,
-            lesser_fault(morphology, lesser_fault(edge, parent.fault)),
+            faults::lesser_fault(morphology, faults::lesser_fault(edge, parent.fault)),
         ),
     }
 }
@@ -385,12 +90,12 @@ fn tally_of(
 {
     let from = f.parent_end;
     let own = own_of(head, sheet, tags, number, f, classes);
-    let pairs = pairs_from(head, from, sheet, number, classes);
+    let pairs = faults::pairs_from(head, from, sheet, number, classes);
     let shape = fault_unless(pairs.whole, 7);
     Tally {
         edges: pairs.count,
-        highest: larger_number(own.number, pairs.highest),
-        fault: lesser_fault(shape, lesser_fault(own.fault, pairs.fault)),
+        highest: faults::larger_number(own.number, pairs.highest),
+        fault: faults::lesser_fault(shape, faults::lesser_fault(own.fault, pairs.fault)),
     }
 }
 
@@ -444,13 +149,13 @@ pub fn word_line(
     if !no_phrase {
         return NodeAnswer::Refused(6);
     }
-    let five = five_fields(head, at, classes);
+    let five = places::five_fields(head, at, classes);
     let Five::Whole(f) = five else {
         return NodeAnswer::Refused(7);
     };
     let tally = tally_of(head, sheet, WORD_TAGS, words, f, classes);
     let room = room_fault(words, edges, tally.edges);
-    let fault = lesser_fault(tally.fault, room);
+    let fault = faults::lesser_fault(tally.fault, room);
     answer(fault, words, tally.edges, tally.highest)
 }
 
@@ -467,7 +172,7 @@ pub fn phrase_line(
     requires { ⌜ Tabled (now head) (now sheet) × (now classes ≡ classTable) × (at ≤ length (now head)) × (length (now head) ≤ fileLimit) × (edges ≤ edgeLimit) × (length (now marks) ≡ 500) ⌝ }
     ensures { λ r. ⌜ r ≡ nodeAnswer (phraseOf (tablesIn (now (head .entry)) (now (sheet .entry))) (marked (now (marks .entry)) stamp) edges (lineAt (now (head .entry)) at)) ⌝ }
 {
-    let five = five_fields(head, at, classes);
+    let five = places::five_fields(head, at, classes);
     let Five::Whole(f) = five else {
         return NodeAnswer::Refused(7);
     };
@@ -476,13 +181,13 @@ pub fn phrase_line(
     let read = PhraseNumber::read(&head[digits..end], classes);
     let Number::Good(number) = read else {
         let tally = tally_of(head, sheet, NODE_TAGS, 0, f, classes);
-        return NodeAnswer::Refused(lesser_fault(8, tally.fault));
+        return NodeAnswer::Refused(faults::lesser_fault(8, tally.fault));
     };
     let tally = tally_of(head, sheet, NODE_TAGS, number, f, classes);
     let fresh = marks[(number - PhraseNumber::LOWEST) as usize] != stamp;
     let again = fault_unless(fresh, 17);
     let room = room_fault(0, edges, tally.edges);
-    let limits = lesser_fault(room, again);
-    let fault = lesser_fault(tally.fault, limits);
+    let limits = faults::lesser_fault(room, again);
+    let fault = faults::lesser_fault(tally.fault, limits);
     answer(fault, number, tally.edges, tally.highest)
 }

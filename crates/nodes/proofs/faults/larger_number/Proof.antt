@@ -1,8 +1,8 @@
--- `nodes::larger_number` meets its contract: by the order of the two.
+-- `nodes::faults::larger_number` meets its contract: by the order of the two.
 -- Assumes nothing.
 use borrow.Author.Tests.{lt-ltb, le-ltb}
-use Rattle.nodes.proofs.larger_number.Statement.{statement}
-use Rattle.nodes.proofs.larger_number.Tie as tie
+use Rattle.nodes.proofs.faults.larger_number.Statement.{statement}
+use Rattle.nodes.proofs.faults.larger_number.Tie as tie
 
 returns : tie.Need-returns
 returns c = rw (lt-ltb (c .before .args .m) (c .before .args .n) (c .if1 .taken))

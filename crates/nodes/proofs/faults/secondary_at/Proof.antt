@@ -1,4 +1,4 @@
--- `nodes::secondary_at` meets its contract: badly written, or a phrase above the node or not.
+-- `nodes::faults::secondary_at` meets its contract: badly written, or a phrase above the node or not.
 -- Assumes nothing.
 use borrow.Author.Needs.{needs}
 use borrow.Author.Tests.{lt-ltb, le-ltb}
@@ -12,8 +12,8 @@ use Rattle.numbers.proofs.Told.{good-tells, bad-tells}
 use Rattle.nodes.specs.Fields.{textBetween}
 use Rattle.nodes.specs.Faults.{secondaryAt}
 use Rattle.nodes.proofs.FaultLaws.{parentIs, secondary-bad, secondary-phrase}
-use Rattle.nodes.proofs.secondary_at.Statement.{statement}
-use Rattle.nodes.proofs.secondary_at.Tie as tie
+use Rattle.nodes.proofs.faults.secondary_at.Statement.{statement}
+use Rattle.nodes.proofs.faults.secondary_at.Tie as tie
 
 abbrev entry : tie.After-read → tie.Start
 entry r = r .before .before .before

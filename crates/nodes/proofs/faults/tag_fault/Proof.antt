@@ -1,4 +1,4 @@
--- `nodes::tag_fault` meets its contract: a tag is too long, or it is looked up.
+-- `nodes::faults::tag_fault` meets its contract: a tag is too long, or it is looked up.
 -- Assumes nothing.
 use borrow.Author.Needs.{needs}
 use native.Mathlib.Omega.{arith}
@@ -12,8 +12,8 @@ use Rattle.sheets.specs.SheetRows.{tablesIn}
 use Rattle.nodes.specs.Fields.{textBetween}
 use Rattle.nodes.specs.Faults.{tagFault}
 use Rattle.nodes.proofs.FaultLaws.{length-between, tag-long, tag-short}
-use Rattle.nodes.proofs.tag_fault.Statement.{statement}
-use Rattle.nodes.proofs.tag_fault.Tie as tie
+use Rattle.nodes.proofs.faults.tag_fault.Statement.{statement}
+use Rattle.nodes.proofs.faults.tag_fault.Tie as tie
 
 abbrev entry : tie.After-tag-limit → tie.Start
 entry l = l .before .before .before

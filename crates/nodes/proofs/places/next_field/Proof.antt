@@ -1,4 +1,4 @@
--- `nodes::next_field` meets its contract: the column that the cursor comes to is the next field unless it is exactly %%.
+-- `nodes::places::next_field` meets its contract: the column that the cursor comes to is the next field unless it is exactly %%.
 -- Assumes nothing.
 use borrow.Author.Needs.{needs}
 use native.Mathlib.Omega.{arith}
@@ -11,8 +11,8 @@ use Rattle.columns.specs.declared.Cursor.{Cursor}
 use Rattle.columns.proofs.Steps.{Step, found}
 use Rattle.nodes.specs.Fields.{firstField}
 use Rattle.nodes.proofs.FieldSteps.{none-missing, none-percents, one-more, step-first}
-use Rattle.nodes.proofs.next_field.Statement.{statement}
-use Rattle.nodes.proofs.next_field.Tie as tie
+use Rattle.nodes.proofs.places.next_field.Statement.{statement}
+use Rattle.nodes.proofs.places.next_field.Tie as tie
 
 abbrev head : tie.After-next → List ℕ
 head s = s .before .before .before .args .head .now

@@ -1,4 +1,4 @@
--- `nodes::parent_at` meets its contract: badly written, the root behind its edge, or a phrase above the node.
+-- `nodes::faults::parent_at` meets its contract: badly written, the root behind its edge, or a phrase above the node.
 -- Assumes nothing.
 use borrow.Author.Needs.{needs}
 use borrow.Author.Tests.{lt-ltb, le-ltb}
@@ -14,8 +14,8 @@ use Rattle.numbers.proofs.Told.{good-tells, bad-tells}
 use Rattle.nodes.specs.Fields.{textBetween}
 use Rattle.nodes.specs.Faults.{parentAt}
 use Rattle.nodes.proofs.FaultLaws.{parentIs, parent-bad, parent-root, parent-phrase}
-use Rattle.nodes.proofs.parent_at.Statement.{statement}
-use Rattle.nodes.proofs.parent_at.Tie as tie
+use Rattle.nodes.proofs.faults.parent_at.Statement.{statement}
+use Rattle.nodes.proofs.faults.parent_at.Tie as tie
 
 abbrev entry : tie.After-read-parent → tie.Start
 entry r = r .before .before .before

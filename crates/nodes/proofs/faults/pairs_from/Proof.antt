@@ -1,4 +1,4 @@
--- `nodes::pairs_from` meets its contract. The invariant: what is told so far, joined with what the fields from the loop's
+-- `nodes::faults::pairs_from` meets its contract. The invariant: what is told so far, joined with what the fields from the loop's
 -- place on tell, is what all tell. The measure is what is left of the line. Assumes nothing.
 use borrow.Author.Needs.{needs}
 use native.Mathlib.Omega.{arith}
@@ -12,13 +12,13 @@ use Rattle.rules.proofs.RuleLaws.{lesser}
 use Rattle.sheets.specs.SheetRows.{tablesIn}
 use Rattle.nodes.specs.Fields.{fieldsFrom, textBetween}
 use Rattle.nodes.specs.Faults.{larger, pairAt, pairsOf}
-use Rattle.nodes.specs.declared.Pairs.{Pairs}
-use Rattle.nodes.specs.declared.Parent.{Parent}
+use Rattle.nodes.specs.declared.faults.Pairs.{Pairs}
+use Rattle.nodes.specs.declared.faults.Parent.{Parent}
 use Rattle.nodes.proofs.FieldSteps.{FieldStep, none-behind, field-end, field-found}
 use Rattle.nodes.proofs.FiveFields.{then}
 use Rattle.nodes.proofs.PairWalk.{soFar, pairs-start, pairs-end, pairs-odd, pairs-more}
-use Rattle.nodes.proofs.pairs_from.Statement.{statement}
-use Rattle.nodes.proofs.pairs_from.Tie as tie
+use Rattle.nodes.proofs.faults.pairs_from.Statement.{statement}
+use Rattle.nodes.proofs.faults.pairs_from.Tie as tie
 
 abbrev Inv-loop : tie.InvT-loop
 Inv-loop head from sheet number classes at₀ count₀ highest₀ fault₀ at count highest fault =

@@ -1,11 +1,11 @@
--- `nodes::pair_at` meets its contract: label and parent are judged one by one, and the smaller number is kept.
+-- `nodes::faults::pair_at` meets its contract: label and parent are judged one by one, and the smaller number is kept.
 -- Assumes nothing.
 use borrow.Author.Needs.{needs}
 use Rattle.sheets.specs.SheetRows.{tablesIn}
 use Rattle.nodes.specs.Fields.{textBetween}
 use Rattle.nodes.proofs.Tallies.{pair-is}
-use Rattle.nodes.proofs.pair_at.Statement.{statement}
-use Rattle.nodes.proofs.pair_at.Tie as tie
+use Rattle.nodes.proofs.faults.pair_at.Statement.{statement}
+use Rattle.nodes.proofs.faults.pair_at.Tie as tie
 
 tag-fault-requires : tie.Need-tag-fault-requires
 tag-fault-requires c κs = search needs

@@ -1,11 +1,11 @@
--- `nodes::lesser_fault` meets its contract: by whether one of the two is none, and else by their order.
+-- `nodes::faults::lesser_fault` meets its contract: by whether one of the two is none, and else by their order.
 -- Assumes nothing.
 use borrow.Author.Tests.{le-leb, lt-leb}
 use mathlib.Core.Path.{sym, ap, _∙_}
 use Rattle.rules.proofs.RuleLaws.{lesser}
 use Rattle.rules.proofs.LesserLaws.{lesser-none, lesser-some}
-use Rattle.nodes.proofs.lesser_fault.Statement.{statement}
-use Rattle.nodes.proofs.lesser_fault.Tie as tie
+use Rattle.nodes.proofs.faults.lesser_fault.Statement.{statement}
+use Rattle.nodes.proofs.faults.lesser_fault.Tie as tie
 
 returns : tie.Need-returns
 returns c = rw (c .if1 .taken)
