@@ -6,6 +6,7 @@ pub mod Same
 pub mod Decimal
 pub mod ColumnLaws
 pub mod RuleLaws
+pub mod LesserLaws
 pub mod ReadLines
 pub mod Cut
 pub mod CutRule
