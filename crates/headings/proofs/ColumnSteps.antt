@@ -2,7 +2,7 @@
 -- nothing.
 use Prim.Native.Nat.{ℕ, zero, suc, _≤_, _<_}
 use native.Mathlib.Omega.{arith}
-use mathlib.Core.Path.{_≡_, refl, sym, ap, _∙_}
+use mathlib.Core.Path.{_≡_, refl, _∙_}
 use mathlib.Core.Bool.{Bool, true, false}
 use mathlib.Core.List.{List, _∷_}
 use lib.Dec.{ltb}
@@ -53,12 +53,13 @@ module _ (s : List ℕ) (at : ℕ) where
           pub none-fifth : columnAt s (n4 .at) ≡ Missing → fiveOf (columnsFrom at (drop at s)) ≡ five.Short
           unfolding fiveOf
           none-fifth p =
-              rw
-              (columns-are s at a e n q,
-              columns-are s (n .at) a2 e2 n2 q2,
-              columns-are s (n2 .at) a3 e3 n3 q3,
-              columns-are s (n3 .at) a4 e4 n4 q4,
-              missing s (n4 .at) p)
+              rw (
+                columns-are s at a e n q,
+                columns-are s (n .at) a2 e2 n2 q2,
+                columns-are s (n2 .at) a3 e3 n3 q3,
+                columns-are s (n3 .at) a4 e4 n4 q4,
+                missing s (n4 .at) p,
+              )
 
           pub five-found : (a5 e5 : ℕ) (n5 : Cursor) → columnAt s (n4 .at) ≡ Found a5 e5 n5
               → fiveOf (columnsFrom at (drop at s))
@@ -77,19 +78,21 @@ module _ (s : List ℕ) (at : ℕ) where
               let shape : columnsFrom at (drop at s)
               ≡ columnBetween s a e ∷ columnBetween s a2 e2 ∷ columnBetween s a3 e3 ∷ columnBetween s a4 e4 ∷ columnBetween s a5 e5
               ∷ columnsFrom (n5 .at) (drop (n5 .at) s) =
-              rw
-              (columns-are s at a e n q,
-              columns-are s (n .at) a2 e2 n2 q2,
-              columns-are s (n2 .at) a3 e3 n3 q3,
-              columns-are s (n3 .at) a4 e4 n4 q4,
-              columns-are s (n4 .at) a5 e5 n5 q5) in
+              rw (
+                columns-are s at a e n q,
+                columns-are s (n .at) a2 e2 n2 q2,
+                columns-are s (n2 .at) a3 e3 n3 q3,
+                columns-are s (n3 .at) a4 e4 n4 q4,
+                columns-are s (n4 .at) a5 e5 n5 q5,
+              ) in
               five-long (columnsFrom at (drop at s)) (rw shape (omega arith))
-              ∙ rw
-              (shape,
-              ends-at s (n .at) a2 e2 n2 q2,
-              ends-at s (n2 .at) a3 e3 n3 q3,
-              ends-at s (n3 .at) a4 e4 n4 q4,
-              ends-at s (n4 .at) a5 e5 n5 q5)
+              ∙ rw (
+                shape,
+                ends-at s (n .at) a2 e2 n2 q2,
+                ends-at s (n2 .at) a3 e3 n3 q3,
+                ends-at s (n3 .at) a4 e4 n4 q4,
+                ends-at s (n4 .at) a5 e5 n5 q5,
+              )
 
 -- ---- what the answer tells
 
@@ -162,11 +165,12 @@ module _ (s : List ℕ) (at : ℕ) (long : 4 < length (columnsFrom at (drop at s
   pub numbers-are : numbersAt s (placesOf cols) ≡ numbersOn cols
   unfolding numbersAt numbersOn
   numbers-are =
-      rw
-      (← (column-is s 1 at (omega arith) .bytes-are),
-      ← (column-is s 2 at (omega arith) .bytes-are),
-      ← (column-is s 3 at (omega arith) .bytes-are),
-      ← (column-is s 4 at (omega arith) .bytes-are))
+      rw (
+        ← (column-is s 1 at (omega arith) .bytes-are),
+        ← (column-is s 2 at (omega arith) .bytes-are),
+        ← (column-is s 3 at (omega arith) .bytes-are),
+        ← (column-is s 4 at (omega arith) .bytes-are),
+      )
 
   pub behind-is : drop 5 cols ≡ columnsFrom (endOf (written cols 4)) (drop (endOf (written cols 4)) s)
   behind-is = column-is s 4 at long .behind

@@ -2,10 +2,10 @@
 -- lies. By one step of the cursor. Assumes nothing.
 use Prim.Native.Nat.{ℕ, _+_, _-_, _≤_}
 use native.Mathlib.Omega.{arith}
-use mathlib.Core.Path.{_≡_, refl, sym, ap, _∙_}
+use mathlib.Core.Path.{_≡_, refl}
 use mathlib.Core.Bool.{Bool, true, false}
-use mathlib.Core.List.{List, [], _∷_}
-use lib.ListN.{length, take, drop}
+use mathlib.Core.List.{List}
+use lib.ListN.{length, drop}
 use Rattle.rules.specs.Lists.{pick, empty, same}
 use Rattle.rules.specs.Bytes.{percents}
 use Rattle.rules.specs.Texts.{trimFrom}

@@ -1,21 +1,19 @@
 -- What #EOS answers, case by case: its rules stand in rising order. Assumes nothing.
 use Prim.Native.Nat.{ℕ}
-use native.Mathlib.Omega.{arith}
-use mathlib.Core.Path.{_≡_, refl, sym, ap, _∙_}
-use mathlib.Core.Bool.{Bool, true, false, _&&_}
+use mathlib.Core.Path.{_≡_, refl, ap, _∙_}
+use mathlib.Core.Bool.{Bool, true, false}
 use mathlib.Core.Option.{Option, none, some}
 use mathlib.Core.List.{List}
 use lib.Dec.{eqb}
 use lib.ListN.{length}
-use borrow.Author.Tests.{eq-eqb, ne-eqb, eqb-true}
-use Rattle.rules.specs.Lists.{pick, every}
+use borrow.Author.Tests.{eq-eqb, ne-eqb}
+use Rattle.rules.specs.Lists.{pick}
 use Rattle.rules.specs.Texts.{Text}
 use Rattle.rules.specs.Columns.{columns, written}
-use Rattle.rules.specs.Numbers.{sentenceNumber, number, good, value}
+use Rattle.rules.specs.Numbers.{sentenceNumber, number}
 use Rattle.rules.specs.Rules.{Rule, rule, Verdict, broken, unless, checked, granted, refused}
 use Rattle.rules.specs.Sentences.{endRules}
-use Rattle.rules.proofs.Conjunctions.{and-left, and-right}
-use Rattle.rules.proofs.RuleLaws.{holdsOf, none-broken, told, rising, inOrder, in-order}
+use Rattle.rules.proofs.RuleLaws.{told, rising, inOrder, in-order}
 use Rattle.headings.specs.Ends.{endAnswer, judgedEnd}
 use Rattle.headings.specs.declared.EndAnswer.{EndAnswer}
 use Rattle.headings.specs.declared.EndAnswer.the-variants.{Ended, Refused}

@@ -1,6 +1,6 @@
 -- What #BOS answers, case by case: its rules stand in rising order. Assumes nothing.
 use Prim.Native.Nat.{ℕ}
-use mathlib.Core.Path.{_≡_, refl, sym, ap, _∙_}
+use mathlib.Core.Path.{_≡_, refl}
 use mathlib.Core.Bool.{Bool, true, false, not, _&&_, and-false}
 use mathlib.Core.Option.{Option, none, some}
 use mathlib.Core.List.{List, [], _∷_}
@@ -10,8 +10,8 @@ use Rattle.rules.specs.Lists.{pick, empty}
 use Rattle.rules.specs.Texts.{Text}
 use Rattle.rules.specs.Columns.{columns, written, fields, comment}
 use Rattle.rules.specs.Numbers.{sentenceNumber, originId, date, number, signedId, good, value}
-use Rattle.rules.specs.Rules.{Rule, rule, Verdict, granted, refused}
-use Rattle.rules.specs.Tables.{Tables, origins, editors, present, hasId}
+use Rattle.rules.specs.Rules.{Rule, rule, granted, refused}
+use Rattle.rules.specs.Tables.{Tables, origins, editors, present}
 use Rattle.rules.specs.Sentences as sentences
 use Rattle.rules.specs.Sentences.{knownEditor, knownOrigin, headingOf}
 use Rattle.rules.proofs.RuleLaws.{inOrder, in-order}

@@ -1,7 +1,7 @@
 -- What #BOT answers, case by case: its rules stand in rising order. Assumes nothing.
 use Prim.Native.Nat.{ℕ, suc, _+_, _≤_, _<_}
 use native.Mathlib.Omega.{arith}
-use mathlib.Core.Path.{_≡_, refl, sym, ap, _∙_}
+use mathlib.Core.Path.{_≡_, refl}
 use mathlib.Core.Bool.{Bool, true, false, not}
 use mathlib.Core.Option.{Option, none, some}
 use mathlib.Core.List.{List, [], _∷_}
@@ -10,7 +10,6 @@ use borrow.Author.Tests.{eq-eqb, ne-eqb, lt-ltb, le-ltb}
 use Rattle.rules.specs.Lists.{pick}
 use Rattle.rules.specs.Texts.{Text, reads}
 use Rattle.rules.specs.Columns.{columns, written}
-use Rattle.rules.specs.Numbers.{value}
 use Rattle.rules.specs.Tables.{Tables, tableNames, placeFrom, tableNamed, present}
 use Rattle.rules.specs.Keywords.{fresh, tableOpened}
 use Rattle.rules.proofs.RuleLaws.{inOrder, in-order}

@@ -14,7 +14,6 @@ use Rattle.rules.specs.Rules.{Verdict, refused, granted}
 use Rattle.rules.specs.Tables.{Tables, origins, editors, present}
 use Rattle.rules.specs.Sentences as sentences
 use Rattle.texts.specs.Spans.{spanOf}
-use Rattle.texts.specs.declared.Span.{Span}
 use Rattle.keywords.specs.Seconds.{endOf}
 use Rattle.headings.specs.declared.HeadingColumns.{HeadingColumns}
 use Rattle.headings.specs.declared.FiveColumns.{FiveColumns}

@@ -6,11 +6,10 @@ use mathlib.Core.Bool.{true, false}
 use mathlib.Core.List.{List}
 use borrow.Author.Tests.{not-true, not-false}
 use Rattle.rules.specs.Tables.{Tables, origins, editors, present}
-use Rattle.rules.specs.Sentences.{knownEditor, knownOrigin}
+use Rattle.rules.specs.Sentences.{knownEditor}
 use Rattle.sheets.specs.SheetRows.{tablesIn}
 use Rattle.seen.specs.Bits.{bitAt}
 use Rattle.headings.specs.Headings.{judgedHeading}
-use Rattle.headings.specs.declared.HeadingNumbers.{HeadingNumbers}
 use Rattle.headings.proofs.judge_heading.Statement.{statement}
 use Rattle.headings.proofs.judge_heading.Tie as tie
 

@@ -1,0 +1,19 @@
+-- `tags::is_present` meets its contract: by the table's count.
+-- Assumes nothing.
+use borrow.Author.Needs.{needs}
+use mathlib.Core.Path.{sym}
+use Rattle.tags.proofs.TablesThere.{present-in}
+use Rattle.tags.proofs.is_present.Statement.{statement}
+use Rattle.tags.proofs.is_present.Tie as tie
+
+mul-result : tie.Need-mul-result
+mul-result c = search needs
+
+shared-slice-read-result : tie.Need-shared-slice-read-result
+shared-slice-read-result c = search needs
+
+returns : tie.Need-returns
+returns c head = sym (present-in head (c .before .args .sheet .now) (c .before .args .table) (c .before .pre .1))
+
+pub is-present-spec : {M : Type 1} → statement M
+is-present-spec = tie.close (tie.spec mul-result shared-slice-read-result returns)
