@@ -17,3 +17,6 @@ pub mod Opening
 pub mod Meaning
 pub mod Tidy
 pub mod Writing
+pub mod Grammar
+pub mod GrammarTables
+pub mod GrammarSentences

@@ -1,0 +1,161 @@
+-- What a sentence of a file is, and what a file is. Document 01, "The file from top to bottom": `#BOS number editor date
+-- origin`, word lines, phrase lines, `#EOS number`; references are resolved against the whole sentence and the file's
+-- tables. Assumes nothing.
+use Prim.Native.Nat.{ℕ, suc, _+_, _≤_, _<_}
+use mathlib.Core.Path.{_≡_}
+use mathlib.Core.Logic.{_⊎_}
+use mathlib.Core.Option.{some}
+use mathlib.Core.List.{List, [], _∷_, _++_, map}
+use lib.ListN.{length}
+use Rattle.rules.specs.Lists.{bytes, joined}
+use Rattle.rules.specs.Numbers.{fileLimit, wordLimit, edgeLimit, sentenceNumber, originId, date, phraseNumber, formatNumber, number, signedId, parentNumber}
+use Rattle.rules.specs.Tables.{origins, editors, wordTags, morphTags, nodeTags, edgeTags, secEdgeTags, tagLimit, dashes}
+use Rattle.rules.specs.Grammar.{In, Each, Differ, allColumns, frontColumns, linesWritten, told, LineFits, Starts}
+use Rattle.rules.specs.GrammarTables.{TableLines, TablesFit, HasRow, Known, tableLines}
+
+-- ---- nodes
+
+-- a secondary edge: its label, and its parent as written and as a number
+pub record EdgeSaid : Type 0 where
+  pub label : List ℕ
+  pub parentText : List ℕ
+  pub parent : ℕ
+
+-- a word's or phrase's line and what its columns say; a word's number is not written
+pub record NodeLine : Type 0 where
+  pub line : List ℕ
+  pub first : List ℕ
+  pub tag : List ℕ
+  pub morphology : List ℕ
+  pub edge : List ℕ
+  pub parentText : List ℕ
+  pub parent : ℕ
+  pub secondary : List EdgeSaid
+
+abbrev pub pairColumns : EdgeSaid → List (List ℕ)
+pairColumns e = (e .label) ∷ (e .parentText) ∷ []
+
+abbrev pub nodeColumns : NodeLine → List (List ℕ)
+nodeColumns n =
+    (n .first) ∷ (n .tag) ∷ (n .morphology) ∷ (n .edge) ∷ (n .parentText) ∷ joined (map pairColumns (n .secondary))
+
+-- a secondary edge fits; phrases are the numbers of the sentence's phrases
+pub record EdgeFits (ts : List TableLines) (phrases : List ℕ) (e : EdgeSaid) : Type 0 where
+  pub parent-written : number phraseNumber (e .parentText) ≡ some (e .parent)
+  pub parent-there : In (e .parent) phrases
+  pub label-short : length (e .label) ≤ tagLimit secEdgeTags
+  pub label-known : Known ts secEdgeTags (e .label)
+
+-- what words and phrases have in common; tags is the table of the node's own tag
+pub record NodeFits (ts : List TableLines) (phrases : List ℕ) (tags : ℕ) (n : NodeLine) : Type 0 where
+  pub columns : frontColumns (n .line) ≡ nodeColumns n
+  pub parent-written : parentNumber (n .parentText) ≡ some (n .parent)
+  pub parent-there : (n .parent ≡ 0) ⊎ In (n .parent) phrases
+  pub parent-zero : n .parent ≡ 0 → n .edge ≡ dashes
+  pub tag-short : length (n .tag) ≤ tagLimit tags
+  pub tag-known : Known ts tags (n .tag)
+  pub morphology-short : length (n .morphology) ≤ tagLimit morphTags
+  pub morphology-known : Known ts morphTags (n .morphology)
+  pub edge-short : length (n .edge) ≤ tagLimit edgeTags
+  pub edge-known : Known ts edgeTags (n .edge)
+  pub each-secondary : Each (EdgeFits ts phrases) (n .secondary)
+
+-- a word may be a lone #, but doesn't start with # otherwise
+pub record WordFits (ts : List TableLines) (phrases : List ℕ) (n : NodeLine) : Type 0 where
+  pub node : NodeFits ts phrases wordTags n
+  pub word : (n .first ≡ bytes "#") ⊎ ((rest : List ℕ) → n .first ≡ bytes "#" ++ rest → ⊥)
+
+-- a phrase's line, and its number
+pub record PhraseLine : Type 0 where
+  pub node : NodeLine
+  pub number : ℕ
+
+-- # with its number at once after it; its parent, unless 0, and its secondary parents are larger than its number
+pub record PhraseFits (ts : List TableLines) (phrases : List ℕ) (p : PhraseLine) : Type 0 where
+  pub node : NodeFits ts phrases nodeTags (p .node)
+  pub digits : List ℕ
+  pub sign : p .node .first ≡ bytes "#" ++ digits
+  pub number-written : number phraseNumber digits ≡ some (p .number)
+  pub parent-larger : (p .node .parent ≡ 0) ⊎ (p .number < p .node .parent)
+  pub secondary-larger : Each (λ (e : EdgeSaid). p .number < e .parent) (p .node .secondary)
+
+-- ---- sentences
+
+-- the lines of a sentence, and the numbers on #BOS: editor1 is one more than the editor's id
+pub record SentenceLines : Type 0 where
+  pub bos : List ℕ
+  pub number : ℕ
+  pub editor1 : ℕ
+  pub origin : ℕ
+  pub words : List NodeLine
+  pub phrases : List PhraseLine
+  pub eos : List ℕ
+
+abbrev pub phraseNumbers : SentenceLines → List ℕ
+phraseNumbers s = map (λ (p : PhraseLine). p .number) (s .phrases)
+
+abbrev pub secondaryEdges : SentenceLines → List EdgeSaid
+secondaryEdges s =
+    joined (map (λ (n : NodeLine). n .secondary) (s .words))
+    ++ joined (map (λ (p : PhraseLine). p .node .secondary) (s .phrases))
+
+-- #BOS number editor date origin; the editor and the origin are known, editors -1 and 0 without a row
+pub record BosFits (ts : List TableLines) (s : SentenceLines) : Type 0 where
+  pub numberText : List ℕ
+  pub editorText : List ℕ
+  pub dateText : List ℕ
+  pub originText : List ℕ
+  pub columns : frontColumns (s .bos) ≡ bytes "#BOS" ∷ numberText ∷ editorText ∷ dateText ∷ originText ∷ []
+  pub number-written : number sentenceNumber numberText ≡ some (s .number)
+  pub editor-written : signedId editorText ≡ some (s .editor1)
+  pub day : ℕ
+  pub date-written : number date dateText ≡ some day
+  pub origin-written : number originId originText ≡ some (s .origin)
+  pub editor-known : (s .editor1 ≤ 1) ⊎ HasRow ts editors (s .editor1)
+  pub origin-known : HasRow ts origins (suc (s .origin))
+
+-- #EOS number
+pub record EosFits (s : SentenceLines) : Type 0 where
+  pub numberText : List ℕ
+  pub columns : allColumns (s .eos) ≡ bytes "#EOS" ∷ numberText ∷ []
+  pub number-written : number sentenceNumber numberText ≡ some (s .number)
+
+pub record SentenceFits (ts : List TableLines) (s : SentenceLines) : Type 0 where
+  pub begins : BosFits ts s
+  pub ends : EosFits s
+  pub each-word : Each (WordFits ts (phraseNumbers s)) (s .words)
+  pub each-phrase : Each (PhraseFits ts (phraseNumbers s)) (s .phrases)
+  pub words-at-most : length (s .words) ≤ wordLimit
+  pub edges-at-most : length (secondaryEdges s) ≤ edgeLimit
+  -- each of the numbers from 500 to 499 + the count of phrases is the number of exactly one of them
+  pub numbers-differ : Differ (phraseNumbers s)
+  pub no-gap : (n : ℕ) → 500 ≤ n → n < 500 + length (s .phrases) → In n (phraseNumbers s)
+
+abbrev pub sentenceLines : SentenceLines → List (List ℕ)
+sentenceLines s =
+    (s .bos) ∷ map (λ (n : NodeLine). n .line) (s .words)
+    ++ map (λ (p : PhraseLine). p .node .line) (s .phrases)
+    ++ ((s .eos) ∷ [])
+
+-- ---- files
+
+abbrev pub sentenceNumbers : List SentenceLines → List ℕ
+sentenceNumbers ss = map (λ (s : SentenceLines). s .number) ss
+
+-- #FORMAT 3 comes first, then tables, then sentences; ignored lines stand anywhere
+pub record Fits (f : List ℕ) : Type 0 where
+  pub lines : List (List ℕ)
+  pub format : List ℕ
+  pub tables : List TableLines
+  pub sentences : List SentenceLines
+  pub written : f ≡ linesWritten lines
+  pub short : length f ≤ fileLimit
+  pub each-line : Each LineFits lines
+  pub each-starts : Each Starts (told lines)
+  pub parts : told lines ≡ format ∷ joined (map tableLines tables) ++ joined (map sentenceLines sentences)
+  pub formatText : List ℕ
+  pub format-columns : allColumns format ≡ bytes "#FORMAT" ∷ formatText ∷ []
+  pub format-three : number formatNumber formatText ≡ some 3
+  pub tables-fit : TablesFit tables
+  pub each-sentence : Each (SentenceFits tables) sentences
+  pub numbers-differ : Differ (sentenceNumbers sentences)

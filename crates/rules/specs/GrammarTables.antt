@@ -1,0 +1,123 @@
+-- What a table of a file is. Document 01, "The file from top to bottom": `#BOT NAME`, rows, `#EOT NAME`, and the rules of
+-- the rows of ORIGIN, EDITOR and the five tables of tags. Assumes nothing.
+use Prim.Native.Nat.{ℕ, suc, _≤_, _<_}
+use mathlib.Core.Path.{_≡_}
+use mathlib.Core.Logic.{_⊎_, _↔_}
+use mathlib.Core.Bool.{Bool}
+use mathlib.Core.Option.{some}
+use mathlib.Core.List.{List, [], _∷_, _++_, map}
+use lib.ListN.{length, getD}
+use lib.Dec.{eqb}
+use Rattle.rules.specs.Lists.{pick, bytes, counting}
+use Rattle.rules.specs.Bytes.{percents}
+use Rattle.rules.specs.Texts.{inFront, behind, trim}
+use Rattle.rules.specs.Numbers.{rowLimit, originId, number, signedId}
+use Rattle.rules.specs.Tables.{origins, editors, wordTags, tableNames, tagLimit, dashes, unknown}
+use Rattle.rules.specs.Grammar.{In, Each, Differ, allColumns, columnAt, restBehind, textBehind, GivenUpTo}
+
+-- a row's line, one more than its id, and its name, login or tag
+pub record RowLine : Type 0 where
+  pub line : List ℕ
+  pub id1 : ℕ
+  pub first : List ℕ
+
+abbrev pub ids1 : List RowLine → List ℕ
+ids1 rs = map (λ (r : RowLine). r .id1) rs
+
+abbrev pub firsts : List RowLine → List (List ℕ)
+firsts rs = map (λ (r : RowLine). r .first) rs
+
+-- which of the seven tables it is, from ORIGIN, 0, to SECEDGETAG, 6; its lines
+pub record TableLines : Type 0 where
+  pub which : ℕ
+  pub bot : List ℕ
+  pub rows : List RowLine
+  pub eot : List ℕ
+
+-- ---- rows
+
+-- ORIGIN row: id, name (at most 128 bytes), optional comment (at most 160); the name ends at the first two adjacent
+-- percent signs
+pub record OriginRow (r : RowLine) : Type 0 where
+  pub id : ℕ
+  pub id-written : number originId (columnAt 0 (r .line)) ≡ some id
+  pub one-more : r .id1 ≡ suc id
+  pub name-is : r .first ≡ trim (inFront (restBehind 0 (r .line))) .bytes
+  pub name : GivenUpTo 128 (r .first)
+  pub comment : length (trim (behind (restBehind 0 (r .line))) .bytes) ≤ 160
+
+-- EDITOR row: id, login (16), full name (40), the rest of the line
+pub record EditorRow (r : RowLine) : Type 0 where
+  pub id-written : signedId (columnAt 0 (r .line)) ≡ some (r .id1)
+  pub login-is : r .first ≡ columnAt 1 (r .line)
+  pub login : GivenUpTo 16 (r .first)
+  pub full-name : GivenUpTo 40 (textBehind 1 (r .line))
+
+-- Tag row: id, tag, for WORDTAG a flag Y or N, description (80), the rest of the line
+pub record TagRow (which : ℕ) (r : RowLine) : Type 0 where
+  pub id-written : signedId (columnAt 0 (r .line)) ≡ some (r .id1)
+  pub tag-is : r .first ≡ columnAt 1 (r .line)
+  pub tag : GivenUpTo (tagLimit which) (r .first)
+  pub no-comment-sign : r .first ≡ percents → ⊥
+  pub flag : which ≡ wordTags → (columnAt 2 (r .line) ≡ bytes "Y") ⊎ (columnAt 2 (r .line) ≡ bytes "N")
+  pub description : GivenUpTo 80 (textBehind (pick (eqb which wordTags) 2 1) (r .line))
+
+-- ---- a table's rows together
+
+-- ids stand in order: -1 if given, 0 if given, then 1, 2, 3 without a gap
+pub record InOrder (rows : List RowLine) : Type 0 where
+  pub minus-given : Bool
+  pub zero-given : Bool
+  pub others : ℕ
+  pub are : ids1 rows ≡ pick minus-given (0 ∷ []) [] ++ pick zero-given (1 ∷ []) [] ++ counting 2 others
+
+-- row -1 carries UNKNOWN, row 0 --, no other row carries either
+pub record Carries (r : RowLine) : Type 0 where
+  pub minus : r .id1 ≡ 0 ↔ r .first ≡ unknown
+  pub zero-row : r .id1 ≡ 1 ↔ r .first ≡ dashes
+
+pub record TagTable (which : ℕ) (rows : List RowLine) : Type 0 where
+  pub each-row : Each (TagRow which) rows
+  pub in-order : InOrder rows
+  pub carried : Each Carries rows
+  pub tags-differ : Differ (firsts rows)
+
+pub record OriginTable (rows : List RowLine) : Type 0 where
+  pub each-row : Each OriginRow rows
+  pub ids-differ : Differ (ids1 rows)
+
+pub record EditorTable (rows : List RowLine) : Type 0 where
+  pub each-row : Each EditorRow rows
+  pub ids-differ : Differ (ids1 rows)
+
+pub record TableFits (t : TableLines) : Type 0 where
+  pub one-of-seven : t .which < 7
+  pub begins : allColumns (t .bot) ≡ bytes "#BOT" ∷ getD tableNames (t .which) [] ∷ []
+  pub ends : allColumns (t .eot) ≡ bytes "#EOT" ∷ getD tableNames (t .which) [] ∷ []
+  pub at-most : length (t .rows) ≤ rowLimit
+  pub of-origins : t .which ≡ origins → OriginTable (t .rows)
+  pub of-editors : t .which ≡ editors → EditorTable (t .rows)
+  pub of-tags : wordTags ≤ t .which → TagTable (t .which) (t .rows)
+
+abbrev pub tableLines : TableLines → List (List ℕ)
+tableLines t = (t .bot) ∷ map (λ (r : RowLine). r .line) (t .rows) ++ ((t .eot) ∷ [])
+
+-- ---- the tables of a file
+
+abbrev pub whiches : List TableLines → List ℕ
+whiches ts = map (λ (t : TableLines). t .which) ts
+
+-- each at most once, in any order; the first two must be there
+pub record TablesFit (ts : List TableLines) : Type 0 where
+  pub each-table : Each TableFits ts
+  pub once : Differ (whiches ts)
+  pub origin-there : In origins (whiches ts)
+  pub editor-there : In editors (whiches ts)
+
+-- one more than an id that a row of the file's table has
+abbrev pub HasRow : List TableLines → ℕ → ℕ → Type 0
+HasRow ts which id1 = (t : TableLines) × (In t ts) × (t .which ≡ which) × (In id1 (ids1 (t .rows)))
+
+-- a tag must stand in its table if the file has that table; -- and UNKNOWN always may
+abbrev pub Known : List TableLines → ℕ → List ℕ → Type 0
+Known ts which tag = (tag ≡ dashes) ⊎ (tag ≡ unknown) ⊎ ((t : TableLines) → In t ts → t .which ≡ which → In tag (firsts (t .rows)))
