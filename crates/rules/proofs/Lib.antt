@@ -6,3 +6,6 @@ pub mod RuleLaws
 pub mod ReadLines
 pub mod Cut
 pub mod CutRule
+pub mod Same
+pub mod SaidOfLists
+pub mod PlaceFree

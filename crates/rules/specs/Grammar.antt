@@ -62,9 +62,9 @@ abbrev pub linesWritten : List (List ℕ) → List ℕ
 linesWritten ls = joined (map (λ (l : List ℕ). l ++ (newline ∷ [])) ls)
 
 -- a line of only white bytes, or one that begins with %%, is ignored wherever it stands
-abbrev pub told : List (List ℕ) → List (List ℕ)
-told [] = []
-told (l ∷ ls) = pick (ignored l) (told ls) (l ∷ told ls)
+abbrev pub heeded : List (List ℕ) → List (List ℕ)
+heeded [] = []
+heeded (l ∷ ls) = pick (ignored l) (heeded ls) (l ∷ heeded ls)
 
 -- its bytes are legal, newline is not, and it is no longer than a line may be
 pub record LineFits (l : List ℕ) : Type 0 where

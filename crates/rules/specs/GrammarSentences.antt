@@ -10,7 +10,7 @@ use lib.ListN.{length}
 use Rattle.rules.specs.Lists.{bytes, joined}
 use Rattle.rules.specs.Numbers.{fileLimit, wordLimit, edgeLimit, sentenceNumber, originId, date, phraseNumber, formatNumber, number, signedId, parentNumber}
 use Rattle.rules.specs.Tables.{origins, editors, wordTags, morphTags, nodeTags, edgeTags, secEdgeTags, tagLimit, dashes}
-use Rattle.rules.specs.Grammar.{In, Each, Differ, allColumns, frontColumns, linesWritten, told, LineFits, Starts}
+use Rattle.rules.specs.Grammar.{In, Each, Differ, allColumns, frontColumns, linesWritten, heeded, LineFits, Starts}
 use Rattle.rules.specs.GrammarTables.{TableLines, TablesFit, HasRow, Known, tableLines}
 
 -- ---- nodes
@@ -39,18 +39,16 @@ abbrev pub nodeColumns : NodeLine → List (List ℕ)
 nodeColumns n =
     (n .first) ∷ (n .tag) ∷ (n .morphology) ∷ (n .edge) ∷ (n .parentText) ∷ joined (map pairColumns (n .secondary))
 
--- a secondary edge fits; phrases are the numbers of the sentence's phrases
-pub record EdgeFits (ts : List TableLines) (phrases : List ℕ) (e : EdgeSaid) : Type 0 where
+-- a secondary edge, whose label has at most 10 bytes and is known
+pub record EdgeFits (ts : List TableLines) (e : EdgeSaid) : Type 0 where
   pub parent-written : number phraseNumber (e .parentText) ≡ some (e .parent)
-  pub parent-there : In (e .parent) phrases
   pub label-short : length (e .label) ≤ tagLimit secEdgeTags
   pub label-known : Known ts secEdgeTags (e .label)
 
 -- what words and phrases have in common; tags is the table of the node's own tag
-pub record NodeFits (ts : List TableLines) (phrases : List ℕ) (tags : ℕ) (n : NodeLine) : Type 0 where
+pub record NodeFits (ts : List TableLines) (tags : ℕ) (n : NodeLine) : Type 0 where
   pub columns : frontColumns (n .line) ≡ nodeColumns n
   pub parent-written : parentNumber (n .parentText) ≡ some (n .parent)
-  pub parent-there : (n .parent ≡ 0) ⊎ In (n .parent) phrases
   pub parent-zero : n .parent ≡ 0 → n .edge ≡ dashes
   pub tag-short : length (n .tag) ≤ tagLimit tags
   pub tag-known : Known ts tags (n .tag)
@@ -58,11 +56,11 @@ pub record NodeFits (ts : List TableLines) (phrases : List ℕ) (tags : ℕ) (n 
   pub morphology-known : Known ts morphTags (n .morphology)
   pub edge-short : length (n .edge) ≤ tagLimit edgeTags
   pub edge-known : Known ts edgeTags (n .edge)
-  pub each-secondary : Each (EdgeFits ts phrases) (n .secondary)
+  pub each-secondary : Each (EdgeFits ts) (n .secondary)
 
 -- a word may be a lone #, but doesn't start with # otherwise
-pub record WordFits (ts : List TableLines) (phrases : List ℕ) (n : NodeLine) : Type 0 where
-  pub node : NodeFits ts phrases wordTags n
+pub record WordFits (ts : List TableLines) (n : NodeLine) : Type 0 where
+  pub node : NodeFits ts wordTags n
   pub word : (n .first ≡ bytes "#") ⊎ ((rest : List ℕ) → n .first ≡ bytes "#" ++ rest → ⊥)
 
 -- a phrase's line, and its number
@@ -70,9 +68,9 @@ pub record PhraseLine : Type 0 where
   pub node : NodeLine
   pub number : ℕ
 
--- # with its number at once after it; its parent, unless 0, and its secondary parents are larger than its number
-pub record PhraseFits (ts : List TableLines) (phrases : List ℕ) (p : PhraseLine) : Type 0 where
-  pub node : NodeFits ts phrases nodeTags (p .node)
+-- # with its number at once after it; its parent, unless 0, and each of its secondary parents is larger than its number
+pub record PhraseFits (ts : List TableLines) (p : PhraseLine) : Type 0 where
+  pub node : NodeFits ts nodeTags (p .node)
   pub digits : List ℕ
   pub sign : p .node .first ≡ bytes "#" ++ digits
   pub number-written : number phraseNumber digits ≡ some (p .number)
@@ -81,66 +79,81 @@ pub record PhraseFits (ts : List TableLines) (phrases : List ℕ) (p : PhraseLin
 
 -- ---- sentences
 
--- the lines of a sentence, and the numbers on #BOS: editor1 is one more than the editor's id
-pub record SentenceLines : Type 0 where
-  pub bos : List ℕ
+-- #BOS with its numbers: editor1 is one more than the editor's id
+pub record HeadLine : Type 0 where
+  pub line : List ℕ
   pub number : ℕ
   pub editor1 : ℕ
   pub origin : ℕ
+
+pub record SentenceLines : Type 0 where
+  pub head : HeadLine
   pub words : List NodeLine
   pub phrases : List PhraseLine
   pub eos : List ℕ
 
-abbrev pub phraseNumbers : SentenceLines → List ℕ
-phraseNumbers s = map (λ (p : PhraseLine). p .number) (s .phrases)
-
-abbrev pub secondaryEdges : SentenceLines → List EdgeSaid
-secondaryEdges s =
-    joined (map (λ (n : NodeLine). n .secondary) (s .words))
-    ++ joined (map (λ (p : PhraseLine). p .node .secondary) (s .phrases))
-
 -- #BOS number editor date origin; the editor and the origin are known, editors -1 and 0 without a row
-pub record BosFits (ts : List TableLines) (s : SentenceLines) : Type 0 where
+pub record HeadFits (ts : List TableLines) (h : HeadLine) : Type 0 where
   pub numberText : List ℕ
   pub editorText : List ℕ
   pub dateText : List ℕ
   pub originText : List ℕ
-  pub columns : frontColumns (s .bos) ≡ bytes "#BOS" ∷ numberText ∷ editorText ∷ dateText ∷ originText ∷ []
-  pub number-written : number sentenceNumber numberText ≡ some (s .number)
-  pub editor-written : signedId editorText ≡ some (s .editor1)
+  pub columns : frontColumns (h .line) ≡ bytes "#BOS" ∷ numberText ∷ editorText ∷ dateText ∷ originText ∷ []
+  pub number-written : number sentenceNumber numberText ≡ some (h .number)
+  pub editor-written : signedId editorText ≡ some (h .editor1)
   pub day : ℕ
   pub date-written : number date dateText ≡ some day
-  pub origin-written : number originId originText ≡ some (s .origin)
-  pub editor-known : (s .editor1 ≤ 1) ⊎ HasRow ts editors (s .editor1)
-  pub origin-known : HasRow ts origins (suc (s .origin))
+  pub origin-written : number originId originText ≡ some (h .origin)
+  pub editor-known : (h .editor1 ≤ 1) ⊎ HasRow ts editors (h .editor1)
+  pub origin-known : HasRow ts origins (suc (h .origin))
 
 -- #EOS number
-pub record EosFits (s : SentenceLines) : Type 0 where
+pub record EosFits (itself : ℕ) (eos : List ℕ) : Type 0 where
   pub numberText : List ℕ
-  pub columns : allColumns (s .eos) ≡ bytes "#EOS" ∷ numberText ∷ []
-  pub number-written : number sentenceNumber numberText ≡ some (s .number)
+  pub columns : allColumns eos ≡ bytes "#EOS" ∷ numberText ∷ []
+  pub number-written : number sentenceNumber numberText ≡ some itself
+
+-- the numbers of phrases, their nodes, and the secondary edges of nodes
+abbrev pub numbersOf : List PhraseLine → List ℕ
+numbersOf ps = map (λ (p : PhraseLine). p .number) ps
+
+abbrev pub nodesOf : List PhraseLine → List NodeLine
+nodesOf ps = map (λ (p : PhraseLine). p .node) ps
+
+abbrev pub secondaryEdges : List NodeLine → List EdgeSaid
+secondaryEdges ns = joined (map (λ (n : NodeLine). n .secondary) ns)
+
+-- phrases are numbered from 500 without a gap: each number from 500 to 499 + their count is the number of exactly one
+pub record Numbered (ps : List PhraseLine) : Type 0 where
+  pub differ : Differ (numbersOf ps)
+  pub no-gap : (n : ℕ) → 500 ≤ n → n < 500 + length ps → In n (numbersOf ps)
+
+-- each parent other than 0 is a phrase of the sentence, secondary parents too
+pub record ParentsThere (ps : List PhraseLine) (n : NodeLine) : Type 0 where
+  pub parent : (n .parent ≡ 0) ⊎ In (n .parent) (numbersOf ps)
+  pub secondary : Each (λ (e : EdgeSaid). In (e .parent) (numbersOf ps)) (n .secondary)
 
 pub record SentenceFits (ts : List TableLines) (s : SentenceLines) : Type 0 where
-  pub begins : BosFits ts s
-  pub ends : EosFits s
-  pub each-word : Each (WordFits ts (phraseNumbers s)) (s .words)
-  pub each-phrase : Each (PhraseFits ts (phraseNumbers s)) (s .phrases)
+  pub begins : HeadFits ts (s .head)
+  pub each-word : Each (WordFits ts) (s .words)
+  pub each-phrase : Each (PhraseFits ts) (s .phrases)
   pub words-at-most : length (s .words) ≤ wordLimit
-  pub edges-at-most : length (secondaryEdges s) ≤ edgeLimit
-  -- each of the numbers from 500 to 499 + the count of phrases is the number of exactly one of them
-  pub numbers-differ : Differ (phraseNumbers s)
-  pub no-gap : (n : ℕ) → 500 ≤ n → n < 500 + length (s .phrases) → In n (phraseNumbers s)
+  pub edges-at-most : length (secondaryEdges (s .words)) + length (secondaryEdges (nodesOf (s .phrases))) ≤ edgeLimit
+  pub ends : EosFits (s .head .number) (s .eos)
+  pub numbered : Numbered (s .phrases)
+  pub parents-of-words : Each (ParentsThere (s .phrases)) (s .words)
+  pub parents-of-phrases : Each (ParentsThere (s .phrases)) (nodesOf (s .phrases))
+
+abbrev pub nodeLines : List NodeLine → List (List ℕ)
+nodeLines ns = map (λ (n : NodeLine). n .line) ns
 
 abbrev pub sentenceLines : SentenceLines → List (List ℕ)
-sentenceLines s =
-    (s .bos) ∷ map (λ (n : NodeLine). n .line) (s .words)
-    ++ map (λ (p : PhraseLine). p .node .line) (s .phrases)
-    ++ ((s .eos) ∷ [])
+sentenceLines s = (s .head .line) ∷ nodeLines (s .words) ++ nodeLines (nodesOf (s .phrases)) ++ ((s .eos) ∷ [])
 
 -- ---- files
 
 abbrev pub sentenceNumbers : List SentenceLines → List ℕ
-sentenceNumbers ss = map (λ (s : SentenceLines). s .number) ss
+sentenceNumbers ss = map (λ (s : SentenceLines). s .head .number) ss
 
 -- #FORMAT 3 comes first, then tables, then sentences; ignored lines stand anywhere
 pub record Fits (f : List ℕ) : Type 0 where
@@ -151,8 +164,8 @@ pub record Fits (f : List ℕ) : Type 0 where
   pub written : f ≡ linesWritten lines
   pub short : length f ≤ fileLimit
   pub each-line : Each LineFits lines
-  pub each-starts : Each Starts (told lines)
-  pub parts : told lines ≡ format ∷ joined (map tableLines tables) ++ joined (map sentenceLines sentences)
+  pub each-starts : Each Starts (heeded lines)
+  pub parts : heeded lines ≡ format ∷ joined (map tableLines tables) ++ joined (map sentenceLines sentences)
   pub formatText : List ℕ
   pub format-columns : allColumns format ≡ bytes "#FORMAT" ∷ formatText ∷ []
   pub format-three : number formatNumber formatText ≡ some 3

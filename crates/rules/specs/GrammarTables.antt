@@ -46,18 +46,18 @@ pub record OriginRow (r : RowLine) : Type 0 where
   pub name : GivenUpTo 128 (r .first)
   pub comment : length (trim (behind (restBehind 0 (r .line))) .bytes) ≤ 160
 
--- EDITOR row: id, login (16), full name (40), the rest of the line
+-- EDITOR row: id, login (16), full name (40), the rest of the line; where a full name stands, no column is missing
 pub record EditorRow (r : RowLine) : Type 0 where
   pub id-written : signedId (columnAt 0 (r .line)) ≡ some (r .id1)
   pub login-is : r .first ≡ columnAt 1 (r .line)
-  pub login : GivenUpTo 16 (r .first)
+  pub login : length (r .first) ≤ 16
   pub full-name : GivenUpTo 40 (textBehind 1 (r .line))
 
 -- Tag row: id, tag, for WORDTAG a flag Y or N, description (80), the rest of the line
 pub record TagRow (which : ℕ) (r : RowLine) : Type 0 where
   pub id-written : signedId (columnAt 0 (r .line)) ≡ some (r .id1)
   pub tag-is : r .first ≡ columnAt 1 (r .line)
-  pub tag : GivenUpTo (tagLimit which) (r .first)
+  pub tag : length (r .first) ≤ tagLimit which
   pub no-comment-sign : r .first ≡ percents → ⊥
   pub flag : which ≡ wordTags → (columnAt 2 (r .line) ≡ bytes "Y") ⊎ (columnAt 2 (r .line) ≡ bytes "N")
   pub description : GivenUpTo 80 (textBehind (pick (eqb which wordTags) 2 1) (r .line))
@@ -90,14 +90,21 @@ pub record EditorTable (rows : List RowLine) : Type 0 where
   pub each-row : Each EditorRow rows
   pub ids-differ : Differ (ids1 rows)
 
+pub record RowsFit (which : ℕ) (rows : List RowLine) : Type 0 where
+  pub at-most : length rows ≤ rowLimit
+  pub of-origins : which ≡ origins → OriginTable rows
+  pub of-editors : which ≡ editors → EditorTable rows
+  pub of-tags : wordTags ≤ which → TagTable which rows
+
+-- a keyword and the name of a table, and nothing else
+abbrev pub Names : List ℕ → ℕ → List ℕ → Type 0
+Names keyword which line = allColumns line ≡ keyword ∷ getD tableNames which [] ∷ []
+
 pub record TableFits (t : TableLines) : Type 0 where
   pub one-of-seven : t .which < 7
-  pub begins : allColumns (t .bot) ≡ bytes "#BOT" ∷ getD tableNames (t .which) [] ∷ []
-  pub ends : allColumns (t .eot) ≡ bytes "#EOT" ∷ getD tableNames (t .which) [] ∷ []
-  pub at-most : length (t .rows) ≤ rowLimit
-  pub of-origins : t .which ≡ origins → OriginTable (t .rows)
-  pub of-editors : t .which ≡ editors → EditorTable (t .rows)
-  pub of-tags : wordTags ≤ t .which → TagTable (t .which) (t .rows)
+  pub begins : Names (bytes "#BOT") (t .which) (t .bot)
+  pub rows-fit : RowsFit (t .which) (t .rows)
+  pub ends : Names (bytes "#EOT") (t .which) (t .eot)
 
 abbrev pub tableLines : TableLines → List (List ℕ)
 tableLines t = (t .bot) ∷ map (λ (r : RowLine). r .line) (t .rows) ++ ((t .eot) ∷ [])
