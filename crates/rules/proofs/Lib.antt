@@ -9,3 +9,4 @@ pub mod CutRule
 pub mod Same
 pub mod SaidOfLists
 pub mod PlaceFree
+pub mod RefusalNumbers
