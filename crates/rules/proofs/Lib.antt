@@ -10,3 +10,4 @@ pub mod Same
 pub mod SaidOfLists
 pub mod PlaceFree
 pub mod RefusalNumbers
+pub mod LineByLine
