@@ -11,3 +11,6 @@ pub mod SaidOfLists
 pub mod PlaceFree
 pub mod RefusalNumbers
 pub mod LineByLine
+pub mod TestsAsFacts
+pub mod IdsInOrder
+pub mod RowsAsSaid

@@ -101,6 +101,12 @@ module _ {A B : Type 0} (g : A → B) where
   each-mapped P [] a = tt
   each-mapped P (x ∷ xs) a = (a .0, each-mapped P xs (a .1))
 
+  pub differ-map-more : (xs : List A) (x : A) → Differ (map g xs) → (In (g x) (map g xs) → ⊥) → Differ (map g (xs ++ (x ∷ [])))
+  differ-map-more xs x d n = rw (map-joined xs (x ∷ [])) (differ-more (map g xs) (g x) d n)
+
+  pub differ-map-next : (xs : List A) (x : A) (ys : List A) → Differ (map g (xs ++ (x ∷ ys))) → In (g x) (map g xs) → ⊥
+  differ-map-next xs x ys d = differ-next (map g xs) (g x) (map g ys) (rw (map-joined xs (x ∷ ys)) at d)
+
 -- ---- as tests
 
 pub and-both-ways : (a b : Bool) → ((a && b) ≡ true) ↔ ((a ≡ true) × (b ≡ true))

@@ -64,12 +64,12 @@ pub record TagRow (which : ℕ) (r : RowLine) : Type 0 where
 
 -- ---- a table's rows together
 
--- ids stand in order: -1 if given, 0 if given, then 1, 2, 3 without a gap
-pub record InOrder (rows : List RowLine) : Type 0 where
+-- ids stand in order: -1 if given, 0 if given, then 1, 2, 3 without a gap (each here with one added)
+pub record InOrder (ids : List ℕ) : Type 0 where
   pub minus-given : Bool
   pub zero-given : Bool
   pub others : ℕ
-  pub are : ids1 rows ≡ pick minus-given (0 ∷ []) [] ++ pick zero-given (1 ∷ []) [] ++ counting 2 others
+  pub are : ids ≡ pick minus-given (0 ∷ []) [] ++ pick zero-given (1 ∷ []) [] ++ counting 2 others
 
 -- row -1 carries UNKNOWN, row 0 --, no other row carries either
 pub record Carries (r : RowLine) : Type 0 where
@@ -78,7 +78,7 @@ pub record Carries (r : RowLine) : Type 0 where
 
 pub record TagTable (which : ℕ) (rows : List RowLine) : Type 0 where
   pub each-row : Each (TagRow which) rows
-  pub in-order : InOrder rows
+  pub in-order : InOrder (ids1 rows)
   pub carried : Each Carries rows
   pub tags-differ : Differ (firsts rows)
 
