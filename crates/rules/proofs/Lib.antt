@@ -14,3 +14,4 @@ pub mod LineByLine
 pub mod TestsAsFacts
 pub mod IdsInOrder
 pub mod RowsAsSaid
+pub mod TablesAsSaid
