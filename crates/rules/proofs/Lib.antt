@@ -15,3 +15,4 @@ pub mod TestsAsFacts
 pub mod IdsInOrder
 pub mod RowsAsSaid
 pub mod TablesAsSaid
+pub mod KeywordsAsSaid

@@ -155,6 +155,12 @@ sentenceLines s = (s .head .line) ∷ nodeLines (s .words) ++ nodeLines (nodesOf
 abbrev pub sentenceNumbers : List SentenceLines → List ℕ
 sentenceNumbers ss = map (λ (s : SentenceLines). s .head .number) ss
 
+-- #FORMAT 3
+pub record FormatFits (l : List ℕ) : Type 0 where
+  pub numberText : List ℕ
+  pub columns : allColumns l ≡ bytes "#FORMAT" ∷ numberText ∷ []
+  pub number-written : number formatNumber numberText ≡ some 3
+
 -- #FORMAT 3 comes first, then tables, then sentences; ignored lines stand anywhere
 pub record Fits (f : List ℕ) : Type 0 where
   pub lines : List (List ℕ)
@@ -166,9 +172,7 @@ pub record Fits (f : List ℕ) : Type 0 where
   pub each-line : Each LineFits lines
   pub each-starts : Each Starts (heeded lines)
   pub parts : heeded lines ≡ format ∷ joined (map tableLines tables) ++ joined (map sentenceLines sentences)
-  pub formatText : List ℕ
-  pub format-columns : allColumns format ≡ bytes "#FORMAT" ∷ formatText ∷ []
-  pub format-three : number formatNumber formatText ≡ some 3
+  pub format-fits : FormatFits format
   pub tables-fit : TablesFit tables
   pub each-sentence : Each (SentenceFits tables) sentences
   pub numbers-differ : Differ (sentenceNumbers sentences)
