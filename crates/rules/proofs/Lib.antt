@@ -16,3 +16,4 @@ pub mod IdsInOrder
 pub mod RowsAsSaid
 pub mod TablesAsSaid
 pub mod KeywordsAsSaid
+pub mod HeadsAsSaid
