@@ -17,3 +17,4 @@ pub mod RowsAsSaid
 pub mod TablesAsSaid
 pub mod KeywordsAsSaid
 pub mod HeadsAsSaid
+pub mod NodeColumns
