@@ -18,3 +18,4 @@ pub mod TablesAsSaid
 pub mod KeywordsAsSaid
 pub mod HeadsAsSaid
 pub mod NodeColumns
+pub mod NodesAsSaid

@@ -1,0 +1,145 @@
+-- The rules that words and phrases have in common hold of a line exactly if the grammar says so of its node. Rule by rule,
+-- and pair by pair. Assumes nothing.
+use Prim.Native.Nat.{ℕ, zero, suc, _≤_, _<_}
+use native.Mathlib.Omega.{arith}
+use mathlib.Core.Path.{_≡_, refl, sym, ap, _∙_, subst}
+use mathlib.Core.Logic.{_⊎_, inl, inr, _↔_}
+use mathlib.Core.Bool.{Bool, true, false, false≢true, not, _&&_, _||_}
+use mathlib.Core.Option.{Option, none, some}
+use mathlib.Core.List.{List, [], _∷_, _++_, map}
+use lib.ListN.{length, drop}
+use lib.Dec.{leb, ltb, eqb}
+use borrow.Author.Tests.{leb-true, ltb-true, lt-ltb, eqb-true, eqb-false}
+use Rattle.rules.specs.Lists.{pick, between, joined}
+use Rattle.rules.specs.Texts.{Text, reads, atMost}
+use Rattle.rules.specs.Columns.{text}
+use Rattle.rules.specs.Numbers.{Kind, phraseNumber, decimal, within, number, zeroOr, parentNumber, good, value}
+use Rattle.rules.specs.Rules.{Rule, rule}
+use Rattle.rules.specs.Tables.{Tables, morphTags, edgeTags, secEdgeTags, dashes, known, tagLimit}
+use Rattle.rules.specs.Nodes.{Pair, secondaryParent, itsTag, itsMorphology, itsEdge, itsParent, itsPairs, parentsWritten, tagsShort, tagsKnown, parentsRise}
+use Rattle.rules.specs.Grammar.{Each, frontColumns}
+use Rattle.rules.specs.GrammarTables.{TableLines, Known}
+use Rattle.rules.specs.GrammarSentences.{EdgeSaid, NodeLine, EdgeFits, NodeFits}
+use Rattle.rules.proofs.SaidOfLists.{each-joined, each-front, each-back, each-map, each-mapped, each-then, true-or-not}
+use Rattle.rules.proofs.TestsAsFacts.{reads-are, leb-is, ltb-is, good-some, some-good, some-value}
+use Rattle.rules.proofs.TablesAsSaid.{Stand, known-is}
+use Rattle.rules.proofs.NodeColumns.{saidPair, each-pair, PairsAre, Shaped}
+use Rattle.rules.proofs.LineByLine.{Hold}
+
+abbrev Holds : Rule → Type 0
+Holds q = q .holds ≡ true
+
+-- ---- parents' ranges
+
+within-range : (k : Kind) (o : Option ℕ) (n : ℕ) → within k o ≡ some n → k .lowest ≤ n
+within-range k none n e = absurd (let z : _≡_ {A = ℕ} 0 1 = cc in omega arith)
+within-range k (some m) n e = by (leb (k .lowest) m) refl e
+  where
+    by : (t : Bool) → leb (k .lowest) m ≡ t → pick (t && leb m (k .highest)) (some m) none ≡ some n → k .lowest ≤ n
+    by true h e = inside (leb m (k .highest)) e
+      where
+        inside : (u : Bool) → pick u (some m) none ≡ some n → k .lowest ≤ n
+        inside true e = let q : m ≡ n = cc in omega (arith, leb-true (k .lowest) m h)
+        inside false e = absurd (let z : _≡_ {A = ℕ} 0 1 = cc in omega arith)
+    by false h e = absurd (let z : _≡_ {A = ℕ} 0 1 = cc in omega arith)
+
+pub secondary-range : (xs : List ℕ) (n : ℕ) → number phraseNumber xs ≡ some n → 500 ≤ n
+secondary-range xs n e = within-range phraseNumber (decimal xs) n e
+
+pub parent-range : (xs : List ℕ) (n : ℕ) → parentNumber xs ≡ some n → (n ≡ 0) ⊎ (500 ≤ n)
+parent-range xs n e = by (decimal xs) e
+  where
+    by : (o : Option ℕ) → zeroOr phraseNumber o ≡ some n → (n ≡ 0) ⊎ (500 ≤ n)
+    by none e = absurd (let z : _≡_ {A = ℕ} 0 1 = cc in omega arith)
+    by (some m) e = which (eqb m 0) e
+      where
+        which : (t : Bool) → pick t (some 0) (within phraseNumber (some m)) ≡ some n → (n ≡ 0) ⊎ (500 ≤ n)
+        which true e = inl (cc)
+        which false e = inr (within-range phraseNumber (some m) n e)
+
+-- ---- the rules of a node's line
+
+-- the parent is 0 with the edge --, or larger than the node's number
+abbrev pub Rises : ℕ → ℕ → List ℕ → Type 0
+Rises number parent edge = (parent ≡ 0 → edge ≡ dashes) × ((parent ≡ 0) ⊎ (number < parent))
+
+rises-read : (n parent : ℕ) (edge : Text) → (pick (eqb parent 0) (reads dashes edge) (ltb n parent) ≡ true) ↔ Rises n parent (edge .bytes)
+rises-read n parent edge = by (eqb parent 0) refl
+  where
+    by : (t : Bool) → eqb parent 0 ≡ t → (pick t (reads dashes edge) (ltb n parent) ≡ true) ↔ Rises n parent (edge .bytes)
+    by true e =
+        let z = eqb-true parent 0 e in
+        (λ h. (λ q. reads-are dashes edge .0 h, inl z), λ r. reads-are dashes edge .1 (r .0 z))
+    by false e =
+        let n0 = eqb-false parent 0 e in
+        (λ h. (λ q. absurd (n0 q), inr (ltb-true n parent h)), λ r. larger n0 (r .1))
+      where
+        larger : (parent ≡ 0 → ⊥) → (parent ≡ 0) ⊎ (n < parent) → ltb n parent ≡ true
+        larger n0 (inl z) = absurd (n0 z)
+        larger n0 (inr h) = lt-ltb n parent h
+
+module _ (T : Tables) (fs : List Text) (tags n : ℕ) where
+  pub record NodeHeld : Type 0 where
+    pub parent-good : good (itsParent fs) ≡ true
+    pub parents-good : Each (λ (p : Pair). good (secondaryParent p) ≡ true) (itsPairs fs)
+    pub tag-short : atMost (tagLimit tags) (itsTag fs) ≡ true
+    pub morphology-short : atMost (tagLimit morphTags) (itsMorphology fs) ≡ true
+    pub edge-short : atMost (tagLimit edgeTags) (itsEdge fs) ≡ true
+    pub labels-short : Each (λ (p : Pair). atMost (tagLimit secEdgeTags) (p .label) ≡ true) (itsPairs fs)
+    pub tag-known : known T tags (itsTag fs) ≡ true
+    pub morphology-known : known T morphTags (itsMorphology fs) ≡ true
+    pub edge-known : known T edgeTags (itsEdge fs) ≡ true
+    pub labels-known : Each (λ (p : Pair). known T secEdgeTags (p .label) ≡ true) (itsPairs fs)
+    pub rises : Rises n (value (itsParent fs)) (itsEdge fs .bytes)
+    pub secondary-rise : Each (λ (p : Pair). ltb n (value (secondaryParent p)) ≡ true) (itsPairs fs)
+
+  module _ (own : List Rule) where
+    abbrev rules : List Rule
+    rules = parentsWritten fs ++ tagsShort fs tags ++ (own ++ tagsKnown fs T tags) ++ parentsRise fs n
+
+    pub own-held : Hold rules → Hold own
+    own-held h =
+        each-front Holds own (tagsKnown fs T tags)
+        (each-back Holds (parentsWritten fs ++ tagsShort fs tags) (own ++ tagsKnown fs T tags)
+        (each-front Holds (parentsWritten fs ++ tagsShort fs tags ++ (own ++ tagsKnown fs T tags)) (parentsRise fs n) h))
+
+    pub node-held : Hold rules → NodeHeld
+    unfolding parentsWritten tagsShort tagsKnown parentsRise
+    node-held h =
+        let front = each-front Holds (parentsWritten fs ++ tagsShort fs tags ++ (own ++ tagsKnown fs T tags)) (parentsRise fs n) h in
+        let nineteen = each-back Holds (parentsWritten fs ++ tagsShort fs tags ++ (own ++ tagsKnown fs T tags)) (parentsRise fs n) h in
+        let two = each-front Holds (parentsWritten fs ++ tagsShort fs tags) (own ++ tagsKnown fs T tags) front in
+        let eighteen = each-back Holds own (tagsKnown fs T tags) (each-back Holds (parentsWritten fs ++ tagsShort fs tags) (own ++ tagsKnown fs T tags) front) in
+        let eight = each-front Holds (parentsWritten fs) (tagsShort fs tags) two in
+        let ten = each-back Holds (parentsWritten fs) (tagsShort fs tags) two in
+        record {
+          parent-good = eight .0;
+          parents-good = each-mapped (λ (p : Pair). rule 8 (p .parent) (good (secondaryParent p))) Holds (itsPairs fs) (eight .1);
+          tag-short = ten .0;
+          morphology-short = ten .1 .0;
+          edge-short = ten .1 .1 .0;
+          labels-short = each-mapped (λ (p : Pair). rule 10 (p .label) (atMost (tagLimit secEdgeTags) (p .label))) Holds (itsPairs fs) (ten .1 .1 .1);
+          tag-known = eighteen .0;
+          morphology-known = eighteen .1 .0;
+          edge-known = eighteen .1 .1 .0;
+          labels-known = each-mapped (λ (p : Pair). rule 18 (p .label) (known T secEdgeTags (p .label))) Holds (itsPairs fs) (eighteen .1 .1 .1);
+          rises = rises-read n (value (itsParent fs)) (itsEdge fs) .0 (nineteen .0);
+          secondary-rise = each-mapped (λ (p : Pair). rule 19 (p .parent) (ltb n (value (secondaryParent p)))) Holds (itsPairs fs) (nineteen .1);
+        }
+
+    pub held-node : Hold own → NodeHeld → Hold rules
+    unfolding parentsWritten tagsShort tagsKnown parentsRise
+    held-node o h =
+        each-joined Holds (parentsWritten fs ++ tagsShort fs tags ++ (own ++ tagsKnown fs T tags)) (parentsRise fs n)
+        (each-joined Holds (parentsWritten fs ++ tagsShort fs tags) (own ++ tagsKnown fs T tags)
+        (each-joined Holds (parentsWritten fs) (tagsShort fs tags)
+        (h .parent-good, each-map (λ (p : Pair). rule 8 (p .parent) (good (secondaryParent p))) Holds (itsPairs fs) (h .parents-good))
+        (h .tag-short,
+          (h .morphology-short,
+            (h .edge-short, each-map (λ (p : Pair). rule 10 (p .label) (atMost (tagLimit secEdgeTags) (p .label))) Holds (itsPairs fs) (h .labels-short)))))
+        (each-joined Holds own (tagsKnown fs T tags) o
+        (h .tag-known,
+          (h .morphology-known,
+            (h .edge-known, each-map (λ (p : Pair). rule 18 (p .label) (known T secEdgeTags (p .label))) Holds (itsPairs fs) (h .labels-known))))))
+        (rises-read n (value (itsParent fs)) (itsEdge fs) .1 (h .rises),
+          each-map (λ (p : Pair). rule 19 (p .parent) (ltb n (value (secondaryParent p)))) Holds (itsPairs fs) (h .secondary-rise))
