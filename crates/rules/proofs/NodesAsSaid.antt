@@ -16,14 +16,15 @@ use Rattle.rules.specs.Columns.{text}
 use Rattle.rules.specs.Numbers.{Kind, phraseNumber, decimal, within, number, zeroOr, parentNumber, good, value}
 use Rattle.rules.specs.Rules.{Rule, rule}
 use Rattle.rules.specs.Tables.{Tables, morphTags, edgeTags, secEdgeTags, dashes, known, tagLimit}
-use Rattle.rules.specs.Nodes.{Pair, secondaryParent, itsTag, itsMorphology, itsEdge, itsParent, itsPairs, parentsWritten, tagsShort, tagsKnown, parentsRise}
+use Rattle.rules.specs.Sentences.{Edge}
+use Rattle.rules.specs.Nodes.{Pair, secondaryParent, asEdge, nodeOf, itsTag, itsMorphology, itsEdge, itsParent, itsPairs, parentsWritten, tagsShort, tagsKnown, parentsRise}
 use Rattle.rules.specs.Grammar.{Each, frontColumns}
 use Rattle.rules.specs.GrammarTables.{TableLines, Known}
-use Rattle.rules.specs.GrammarSentences.{EdgeSaid, NodeLine, EdgeFits, NodeFits}
-use Rattle.rules.proofs.SaidOfLists.{each-joined, each-front, each-back, each-map, each-mapped, each-then, true-or-not}
+use Rattle.rules.specs.GrammarSentences.{EdgeSaid, NodeLine, nodeColumns, EdgeFits, NodeFits}
+use Rattle.rules.proofs.SaidOfLists.{each-joined, each-front, each-back, each-map, each-mapped, each-both}
 use Rattle.rules.proofs.TestsAsFacts.{reads-are, leb-is, ltb-is, good-some, some-good, some-value}
 use Rattle.rules.proofs.TablesAsSaid.{Stand, known-is}
-use Rattle.rules.proofs.NodeColumns.{saidPair, each-pair, PairsAre, Shaped}
+use Rattle.rules.proofs.NodeColumns.{saidPair, each-pair, PairsAre, Shaped, Side, sideOf, sideSaid}
 use Rattle.rules.proofs.LineByLine.{Hold}
 
 abbrev Holds : Rule → Type 0
@@ -143,3 +144,102 @@ module _ (T : Tables) (fs : List Text) (tags n : ℕ) where
             (h .edge-known, each-map (λ (p : Pair). rule 18 (p .label) (known T secEdgeTags (p .label))) Holds (itsPairs fs) (h .labels-known))))))
         (rises-read n (value (itsParent fs)) (itsEdge fs) .1 (h .rises),
           each-map (λ (p : Pair). rule 19 (p .parent) (ltb n (value (secondaryParent p)))) Holds (itsPairs fs) (h .secondary-rise))
+
+-- ---- a node as read, and as said
+
+module _ (T : Tables) (ts : List TableLines) (s : Stand T ts) (line : List ℕ) (fs : List Text) (tags n : ℕ) where
+  abbrev pub nodeSaid : NodeLine
+  nodeSaid =
+      record {
+        line = line;
+        first = text fs 0 .bytes;
+        tag = text fs 1 .bytes;
+        morphology = text fs 2 .bytes;
+        edge = text fs 3 .bytes;
+        parentText = text fs 4 .bytes;
+        parent = value (itsParent fs);
+        secondary = map saidPair (itsPairs fs);
+      }
+
+  edges-said : (ps : List Pair) → Each (λ (p : Pair). good (secondaryParent p) ≡ true) ps → Each (λ (p : Pair). atMost (tagLimit secEdgeTags) (p .label) ≡ true) ps
+      → Each (λ (p : Pair). known T secEdgeTags (p .label) ≡ true) ps → Each (EdgeFits ts) (map saidPair ps)
+  edges-said [] g h k = tt
+  edges-said (p ∷ ps) g h k =
+      (record {
+        parent-written = good-some (secondaryParent p) (g .0);
+        label-short = leb-is (length (p .label .bytes)) (tagLimit secEdgeTags) .0 (h .0);
+        label-known = known-is T ts s secEdgeTags (p .label) .0 (k .0);
+      },
+        edges-said ps (g .1) (h .1) (k .1))
+
+  pub held-said : NodeHeld T fs tags n → frontColumns line ≡ nodeColumns nodeSaid → NodeFits ts tags nodeSaid
+  held-said h c =
+      record {
+        columns = c;
+        parent-written = good-some (itsParent fs) (h .parent-good);
+        parent-zero = h .rises .0;
+        tag-short = leb-is (length (itsTag fs .bytes)) (tagLimit tags) .0 (h .tag-short);
+        tag-known = known-is T ts s tags (itsTag fs) .0 (h .tag-known);
+        morphology-short = leb-is (length (itsMorphology fs .bytes)) (tagLimit morphTags) .0 (h .morphology-short);
+        morphology-known = known-is T ts s morphTags (itsMorphology fs) .0 (h .morphology-known);
+        edge-short = leb-is (length (itsEdge fs .bytes)) (tagLimit edgeTags) .0 (h .edge-short);
+        edge-known = known-is T ts s edgeTags (itsEdge fs) .0 (h .edge-known);
+        each-secondary = edges-said (itsPairs fs) (h .parents-good) (h .labels-short) (h .labels-known);
+      }
+
+  -- and back: the rules hold of a line whose node fits, if parents rise above the node's number
+  module _ (node : NodeLine) (sh : Shaped fs node) (fit : NodeFits ts tags node)
+      (larger : (node .parent ≡ 0) ⊎ (n < node .parent)) (secondary-larger : Each (λ (e : EdgeSaid). n < e .parent) (node .secondary)) where
+    pub same-parent : value (itsParent fs) ≡ node .parent
+    same-parent = some-value (itsParent fs) (node .parent) (ap parentNumber (sh .at-parent) ∙ fit .parent-written)
+
+    pair-number : (p : Pair) (e : EdgeSaid) → p .parent .bytes ≡ e .parentText → EdgeFits ts e → secondaryParent p ≡ some (e .parent)
+    pair-number p e q f = ap (number phraseNumber) q ∙ f .parent-written
+
+    pub said-held : NodeHeld T fs tags n
+    said-held =
+        record {
+          parent-good = some-good (itsParent fs) (node .parent) (ap parentNumber (sh .at-parent) ∙ fit .parent-written);
+          parents-good =
+            each-pair (EdgeFits ts) (λ (p : Pair). good (secondaryParent p) ≡ true)
+            (λ p e l q f. some-good (secondaryParent p) (e .parent) (pair-number p e q f)) (itsPairs fs) (node .secondary) (sh .at-pairs) (fit .each-secondary);
+          tag-short = leb-is (length (itsTag fs .bytes)) (tagLimit tags) .1 (rw (sh .at-tag) (fit .tag-short));
+          morphology-short = leb-is (length (itsMorphology fs .bytes)) (tagLimit morphTags) .1 (rw (sh .at-morphology) (fit .morphology-short));
+          edge-short = leb-is (length (itsEdge fs .bytes)) (tagLimit edgeTags) .1 (rw (sh .at-edge) (fit .edge-short));
+          labels-short =
+            each-pair (EdgeFits ts) (λ (p : Pair). atMost (tagLimit secEdgeTags) (p .label) ≡ true)
+            (λ p e l q f. leb-is (length (p .label .bytes)) (tagLimit secEdgeTags) .1 (rw l (f .label-short))) (itsPairs fs) (node .secondary) (sh .at-pairs) (fit .each-secondary);
+          tag-known = known-is T ts s tags (itsTag fs) .1 (rw (sh .at-tag) (fit .tag-known));
+          morphology-known = known-is T ts s morphTags (itsMorphology fs) .1 (rw (sh .at-morphology) (fit .morphology-known));
+          edge-known = known-is T ts s edgeTags (itsEdge fs) .1 (rw (sh .at-edge) (fit .edge-known));
+          labels-known =
+            each-pair (EdgeFits ts) (λ (p : Pair). known T secEdgeTags (p .label) ≡ true)
+            (λ p e l q f. known-is T ts s secEdgeTags (p .label) .1 (rw l (f .label-known))) (itsPairs fs) (node .secondary) (sh .at-pairs) (fit .each-secondary);
+          rises = rw (same-parent, sh .at-edge) (fit .parent-zero, larger);
+          secondary-rise =
+            each-pair (λ (e : EdgeSaid). EdgeFits ts e × (n < e .parent)) (λ (p : Pair). ltb n (value (secondaryParent p)) ≡ true)
+            (λ p e l q f. lt-ltb n (value (secondaryParent p)) (rw (some-value (secondaryParent p) (e .parent) (pair-number p e q (f .0))) (f .1)))
+            (itsPairs fs) (node .secondary) (sh .at-pairs)
+            (each-both (EdgeFits ts) (λ (e : EdgeSaid). n < e .parent) (node .secondary) (fit .each-secondary) secondary-larger);
+        }
+
+    -- its parents are those said
+    pub same-side : (its-number : ℕ) (word its-comment : Text) → sideOf (nodeOf fs its-number word its-comment) ≡ sideSaid node
+    same-side its-number word its-comment =
+        ap (λ (p : ℕ). record { parent = p; others = map (λ (e : Edge). e .parent) (map asEdge (itsPairs fs)) }) same-parent
+        ∙ ap (λ (ns : List ℕ). record { parent = node .parent; others = ns }) (others (itsPairs fs) (node .secondary) (sh .at-pairs) (fit .each-secondary))
+      where
+        others : (ps : List Pair) (es : List EdgeSaid) → PairsAre ps es → Each (EdgeFits ts) es → map (λ (e : Edge). e .parent) (map asEdge ps) ≡ map (λ (e : EdgeSaid). e .parent) es
+        others [] [] a f = refl
+        others [] (e ∷ es) a f = absurd a
+        others (p ∷ ps) [] a f = absurd a
+        others (p ∷ ps) (e ∷ es) a f =
+            ap (λ (n : ℕ). n ∷ map (λ (e : Edge). e .parent) (map asEdge ps)) (some-value (secondaryParent p) (e .parent) (pair-number p e (a .0 .1) (f .0)))
+            ∙ ap (λ (ns : List ℕ). e .parent ∷ ns) (others ps es (a .1) (f .1))
+
+  pub side-said : (its-number : ℕ) (word its-comment : Text) → sideOf (nodeOf fs its-number word its-comment) ≡ sideSaid nodeSaid
+  side-said its-number word its-comment = ap (λ (ns : List ℕ). record { parent = value (itsParent fs); others = ns }) (others (itsPairs fs))
+    where
+      others : (ps : List Pair) → map (λ (e : Edge). e .parent) (map asEdge ps) ≡ map (λ (e : EdgeSaid). e .parent) (map saidPair ps)
+      others [] = refl
+      others (p ∷ ps) = ap (λ (ns : List ℕ). value (secondaryParent p) ∷ ns) (others ps)

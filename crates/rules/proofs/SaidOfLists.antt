@@ -59,6 +59,10 @@ module _ {A : Type 0} where
   each-then P Q f [] a = tt
   each-then P Q f (x ∷ xs) a = (f x (a .0), each-then P Q f xs (a .1))
 
+  pub each-both : (P Q : A → Type 0) (xs : List A) → Each P xs → Each Q xs → Each (λ (x : A). P x × Q x) xs
+  each-both P Q [] a b = tt
+  each-both P Q (x ∷ xs) a b = ((a .0, b .0), each-both P Q xs (a .1) (b .1))
+
   -- ---- no two equal
 
   pub differ-more : (xs : List A) (x : A) → Differ xs → (In x xs → ⊥) → Differ (xs ++ (x ∷ []))
