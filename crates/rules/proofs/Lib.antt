@@ -19,3 +19,5 @@ pub mod KeywordsAsSaid
 pub mod HeadsAsSaid
 pub mod NodeColumns
 pub mod NodesAsSaid
+pub mod FirstColumns
+pub mod WordsAndPhrases
