@@ -21,3 +21,4 @@ pub mod NodeColumns
 pub mod NodesAsSaid
 pub mod FirstColumns
 pub mod WordsAndPhrases
+pub mod SentenceEnds
