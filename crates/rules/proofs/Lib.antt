@@ -22,3 +22,5 @@ pub mod NodesAsSaid
 pub mod FirstColumns
 pub mod WordsAndPhrases
 pub mod SentenceEnds
+pub mod WhatWasRead
+pub mod ReadSoFar

@@ -1,0 +1,141 @@
+-- A line that is taken leads from what was read to what was read: whatever a reading accepts is as the grammar says. One
+-- law for each kind of line. Assumes nothing.
+use Prim.Native.Nat.{ℕ, zero, suc, _+_, _≤_, _<_}
+use native.Mathlib.Omega.{arith}
+use mathlib.Core.Path.{_≡_, refl, sym, ap, _∙_, subst}
+use mathlib.Core.Logic.{_⊎_, inl, inr, _↔_}
+use mathlib.Core.Bool.{Bool, true, false, false≢true, not, _&&_, _||_}
+use mathlib.Core.Option.{Option, none, some}
+use mathlib.Core.List.{List, [], _∷_, _++_, map, append-assoc, append-nil}
+use lib.ListN.{length, length-append}
+use Rattle.rules.specs.Lists.{pick, bytes, joined, empty, member}
+use Rattle.rules.specs.Texts.{Text, reads}
+use Rattle.rules.specs.Tables.{Row, noTables, origins, editors, closed}
+use Rattle.rules.specs.Sentences.{Node, Heading, Sentence, headingOf, listed, edgesOf, endOf}
+use Rattle.rules.specs.Nodes.{wordOf, phraseOf}
+use Rattle.rules.specs.Rows.{rowOf}
+use Rattle.rules.specs.Keywords.{formatOf, tableOpened, tableEnded, firstColumn, startsRow, startsWord, startsPhrase}
+use Rattle.rules.specs.Lines.{Preamble, Phase, start, top, inTable, inSentence, behindSentence, Answer, refuse, go, hand, next, cannotStand, atStart, atTop, behindOne, beginning, withTable, withRow, withWord, withPhrase, amongRows, amongNodes, lineAt}
+use Rattle.rules.specs.Grammar.{In, Each, Differ, columnAt, Starts}
+use Rattle.rules.specs.GrammarTables.{RowLine, TableLines, TableFits, tableLines, whiches}
+use Rattle.rules.specs.GrammarSentences.{HeadLine, NodeLine, PhraseLine, SentenceLines, WordFits, PhraseFits, SentenceFits, numbersOf, nodesOf, secondaryEdges, nodeLines, sentenceLines, sentenceNumbers}
+use Rattle.rules.proofs.SaidOfLists.{map-joined, each-more, differ-more, differ-map-more}
+use Rattle.rules.proofs.TestsAsFacts.{reads-are, is-member}
+use Rattle.rules.proofs.RowsAsSaid.{none-alike, alike-more, no-rows, row-granted}
+use Rattle.rules.proofs.TablesAsSaid.{Stand, stand-none, stand-more, is-there}
+use Rattle.rules.proofs.KeywordsAsSaid.{first-starts, starts-first, format-granted, opened-granted, ended-granted}
+use Rattle.rules.proofs.HeadsAsSaid.{head-granted, front-first}
+use Rattle.rules.proofs.NodeColumns.{Side, sideOf, sideSaid}
+use Rattle.rules.proofs.FirstColumns.{WordStart, starts-word, phrase-sign}
+use Rattle.rules.proofs.WordsAndPhrases.{word-granted, phrase-granted}
+use Rattle.rules.proofs.SentenceEnds.{SentenceAlike, end-granted, edges-both, words-count, given-before}
+use Rattle.rules.proofs.WhatWasRead.{preLines, rowLines, Preambled, Prior, priorLines, AtTop, InTable, BothThere, Behind, InSentence, WasRead, joined-more}
+use Rattle.rules.proofs.LineByLine.{Through}
+
+-- ---- the first column tells a keyword
+
+first-is : (line : Text) (xs : List ℕ) → 1 ≤ length xs → firstColumn line .bytes ≡ xs → Starts (line .bytes) × (columnAt 0 (line .bytes) ≡ xs)
+first-is line xs h e =
+    let s = first-starts line (subst (λ (xs : List ℕ). 1 ≤ length xs) (sym e) h) in
+    (s, sym (starts-first line s) ∙ e)
+
+module _ (K : Phase → List ℕ → Type 0) (used : List ℕ) (done : List (List ℕ)) (line : Text) where
+  -- where the reading goes on, and what it has read then
+  pub record Onward : Type 0 where
+    pub phase : Phase
+    pub used-then : List ℕ
+    pub was-read : WasRead phase used-then (done ++ (line .bytes ∷ []))
+    pub starts : Starts (line .bytes)
+    pub kept : K phase used-then
+
+  keyword : (xs : List ℕ) → 1 ≤ length xs → reads xs (firstColumn line) ≡ true → Starts (line .bytes) × (columnAt 0 (line .bytes) ≡ xs)
+  keyword xs h e = first-is line xs h (reads-are xs (firstColumn line) .0 e)
+
+  from-start : (done ≡ []) × (used ≡ []) → Through K used (atStart line (firstColumn line)) → Onward
+  unfolding atStart
+  from-start r g = by (reads (bytes "#FORMAT") (firstColumn line)) refl g
+    where
+      by : (t : Bool) → reads (bytes "#FORMAT") (firstColumn line) ≡ t
+          → Through K used (pick t (next (λ n. go (top (record { format = n; tables = noTables }))) (formatOf line)) (cannotStand line)) → Onward
+      by true e g =
+          let k = keyword (bytes "#FORMAT") (omega arith) e in
+          let f = format-granted K used line (λ n. go (top (record { format = n; tables = noTables }))) (k .1) g in
+          record {
+            phase = top (record { format = f .1 .0; tables = noTables });
+            used-then = used;
+            was-read =
+              record {
+                pre = record { format = line .bytes; ts = []; format-fits = f .0; each-table = tt; once = tt; stand = stand-none };
+                none-used = r .1;
+                lines = ap (λ (ls : List (List ℕ)). ls ++ (line .bytes ∷ [])) (r .0);
+              };
+            starts = k .0;
+            kept = f .1 .1;
+          }
+      by false e g = absurd g
+
+  begin-sentence : (p : Preamble) (r : Prior p used) → done ≡ priorLines p used r → Through K used (behindOne line (firstColumn line) p used) → Onward
+  unfolding behindOne
+  begin-sentence p r d g = by (reads (bytes "#BOS") (firstColumn line)) refl g
+    where
+      by : (t : Bool) → reads (bytes "#BOS") (firstColumn line) ≡ t
+          → Through K used (pick t (next (beginning line (firstColumn line) p) (headingOf (p .tables) (λ n. member n used) line)) (cannotStand line)) → Onward
+      by true e g =
+          let k = keyword (bytes "#BOS") (omega arith) e in
+          let h = head-granted (p .tables) (r .pre .ts) (r .pre .stand) K used line (λ n. member n used) (beginning line (firstColumn line) p) (k .1) g in
+          record {
+            phase = inSentence p (record { heading = h .read-as; words = []; phrases = [] });
+            used-then = used;
+            was-read =
+              record {
+                prior = r;
+                both = record { origin-there = h .origin-there; editor-there = h .editor-there };
+                head = h .head;
+                words = [];
+                phrases = [];
+                head-fits = h .fit;
+                new = λ i. h .new (is-member (h .head .number) used .1 (subst (In (h .head .number)) (sym (r .used-are)) i));
+                each-word = tt;
+                each-phrase = tt;
+                words-at-most = omega arith;
+                edges-at-most = omega arith;
+                numbers-differ = tt;
+                alike = record { its-number = h .same-number; word-sides = refl; phrase-sides = refl; phrase-numbers = refl };
+                lines = ap (λ (ls : List (List ℕ)). ls ++ (line .bytes ∷ [])) d ∙ ap (λ (l : List ℕ). priorLines p used r ++ (l ∷ [])) (sym (h .its-line));
+              };
+            starts = k .0;
+            kept = h .goes-on;
+          }
+      by false e g = absurd g
+
+  from-top : (p : Preamble) → AtTop p used done → Through K used (atTop line (firstColumn line) p used) → Onward
+  unfolding atTop
+  from-top p r g = by (reads (bytes "#BOT") (firstColumn line)) refl g
+    where
+      by : (t : Bool) → reads (bytes "#BOT") (firstColumn line) ≡ t
+          → Through K used (pick t (next (λ n. go (inTable p n [])) (tableOpened (p .tables) line)) (behindOne line (firstColumn line) p used)) → Onward
+      by true e g =
+          let k = keyword (bytes "#BOT") (omega arith) e in
+          let o = opened-granted K used line (λ n. go (inTable p n [])) (p .tables) (k .1) g in
+          record {
+            phase = inTable p (o .which) [];
+            used-then = used;
+            was-read =
+              record {
+                pre = r .pre;
+                none-used = r .none-used;
+                one-of-seven = o .one-of-seven;
+                new = λ i. o .new (is-there (p .tables) (r .pre .ts) (r .pre .stand) (o .which) .1 i);
+                bot = line .bytes;
+                begins = o .names;
+                rows = [];
+                alike = none-alike;
+                fit = no-rows (o .which);
+                lines = ap (λ (ls : List (List ℕ)). ls ++ (line .bytes ∷ [])) (r .lines);
+              };
+            starts = k .0;
+            kept = o .goes-on;
+          }
+      by false e g =
+          begin-sentence p (record { pre = r .pre; ss = []; each = tt; differ = tt; used-are = r .none-used })
+          (r .lines ∙ sym (append-nil (preLines (r .pre .format) (r .pre .ts)))) g
