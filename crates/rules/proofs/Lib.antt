@@ -24,3 +24,4 @@ pub mod WordsAndPhrases
 pub mod SentenceEnds
 pub mod WhatWasRead
 pub mod ReadSoFar
+pub mod SentencesSoFar

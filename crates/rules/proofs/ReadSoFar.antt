@@ -14,7 +14,7 @@ use Rattle.rules.specs.Tables.{Row, noTables, origins, editors, closed}
 use Rattle.rules.specs.Sentences.{Node, Heading, Sentence, headingOf, listed, edgesOf, endOf}
 use Rattle.rules.specs.Nodes.{wordOf, phraseOf}
 use Rattle.rules.specs.Rows.{rowOf}
-use Rattle.rules.specs.Keywords.{formatOf, tableOpened, tableEnded, firstColumn, startsRow, startsWord, startsPhrase}
+use Rattle.rules.specs.Keywords.{formatOf, tableOpened, tableEnded, firstColumn, hashed, startsRow, startsWord, startsPhrase}
 use Rattle.rules.specs.Lines.{Preamble, Phase, start, top, inTable, inSentence, behindSentence, Answer, refuse, go, hand, next, cannotStand, atStart, atTop, behindOne, beginning, withTable, withRow, withWord, withPhrase, amongRows, amongNodes, lineAt}
 use Rattle.rules.specs.Grammar.{In, Each, Differ, columnAt, Starts}
 use Rattle.rules.specs.GrammarTables.{RowLine, TableLines, TableFits, tableLines, whiches}
@@ -34,7 +34,7 @@ use Rattle.rules.proofs.LineByLine.{Through}
 
 -- ---- the first column tells a keyword
 
-first-is : (line : Text) (xs : List ℕ) → 1 ≤ length xs → firstColumn line .bytes ≡ xs → Starts (line .bytes) × (columnAt 0 (line .bytes) ≡ xs)
+pub first-is : (line : Text) (xs : List ℕ) → 1 ≤ length xs → firstColumn line .bytes ≡ xs → Starts (line .bytes) × (columnAt 0 (line .bytes) ≡ xs)
 first-is line xs h e =
     let s = first-starts line (subst (λ (xs : List ℕ). 1 ≤ length xs) (sym e) h) in
     (s, sym (starts-first line s) ∙ e)
@@ -48,10 +48,10 @@ module _ (K : Phase → List ℕ → Type 0) (used : List ℕ) (done : List (Lis
     pub starts : Starts (line .bytes)
     pub kept : K phase used-then
 
-  keyword : (xs : List ℕ) → 1 ≤ length xs → reads xs (firstColumn line) ≡ true → Starts (line .bytes) × (columnAt 0 (line .bytes) ≡ xs)
+  pub keyword : (xs : List ℕ) → 1 ≤ length xs → reads xs (firstColumn line) ≡ true → Starts (line .bytes) × (columnAt 0 (line .bytes) ≡ xs)
   keyword xs h e = first-is line xs h (reads-are xs (firstColumn line) .0 e)
 
-  from-start : (done ≡ []) × (used ≡ []) → Through K used (atStart line (firstColumn line)) → Onward
+  pub from-start : (done ≡ []) × (used ≡ []) → Through K used (atStart line (firstColumn line)) → Onward
   unfolding atStart
   from-start r g = by (reads (bytes "#FORMAT") (firstColumn line)) refl g
     where
@@ -74,7 +74,7 @@ module _ (K : Phase → List ℕ → Type 0) (used : List ℕ) (done : List (Lis
           }
       by false e g = absurd g
 
-  begin-sentence : (p : Preamble) (r : Prior p used) → done ≡ priorLines p used r → Through K used (behindOne line (firstColumn line) p used) → Onward
+  pub begin-sentence : (p : Preamble) (r : Prior p used) → done ≡ priorLines p used r → Through K used (behindOne line (firstColumn line) p used) → Onward
   unfolding behindOne
   begin-sentence p r d g = by (reads (bytes "#BOS") (firstColumn line)) refl g
     where
@@ -108,7 +108,7 @@ module _ (K : Phase → List ℕ → Type 0) (used : List ℕ) (done : List (Lis
           }
       by false e g = absurd g
 
-  from-top : (p : Preamble) → AtTop p used done → Through K used (atTop line (firstColumn line) p used) → Onward
+  pub from-top : (p : Preamble) → AtTop p used done → Through K used (atTop line (firstColumn line) p used) → Onward
   unfolding atTop
   from-top p r g = by (reads (bytes "#BOT") (firstColumn line)) refl g
     where
@@ -139,3 +139,77 @@ module _ (K : Phase → List ℕ → Type 0) (used : List ℕ) (done : List (Lis
       by false e g =
           begin-sentence p (record { pre = r .pre; ss = []; each = tt; differ = tt; used-are = r .none-used })
           (r .lines ∙ sym (append-nil (preLines (r .pre .format) (r .pre .ts)))) g
+
+  -- ---- in a table
+
+  pub row-given : startsRow (firstColumn line) ≡ true → 1 ≤ length (firstColumn line .bytes)
+  row-given e = by (firstColumn line .bytes) e
+    where
+      by : (xs : List ℕ) → (not (empty xs) && not (hashed xs)) ≡ true → 1 ≤ length xs
+      by [] e = absurd (false≢true e)
+      by (x ∷ xs) e = omega arith
+
+  pub from-table : (p : Preamble) (n : ℕ) (rs : List Row) → InTable p n rs used done → Through K used (amongRows line (firstColumn line) p n rs) → Onward
+  unfolding amongRows
+  from-table p n rs r g = by (reads (bytes "#EOT") (firstColumn line)) refl g
+    where
+      row : (t : Bool) → startsRow (firstColumn line) ≡ t → Through K used (pick t (next (withRow line (firstColumn line) p n rs) (rowOf n rs line)) (cannotStand line)) → Onward
+      row true e g =
+          let o = row-granted rs (r .rows) (r .alike) K used (withRow line (firstColumn line) p n rs) line n (r .fit) g in
+          record {
+            phase = inTable p n (rs ++ (o .read-as ∷ []));
+            used-then = used;
+            was-read =
+              record {
+                pre = r .pre;
+                none-used = r .none-used;
+                one-of-seven = r .one-of-seven;
+                new = r .new;
+                bot = r .bot;
+                begins = r .begins;
+                rows = r .rows ++ (o .row ∷ []);
+                alike = alike-more rs (r .rows) (o .read-as) (o .row) (r .alike) (o .alike);
+                fit = o .fit;
+                lines =
+                  ap (λ (ls : List (List ℕ)). ls ++ (line .bytes ∷ [])) (r .lines)
+                  ∙ append-assoc (preLines (r .pre .format) (r .pre .ts)) (r .bot ∷ rowLines (r .rows)) (line .bytes ∷ [])
+                  ∙ ap (λ (l : List ℕ). preLines (r .pre .format) (r .pre .ts) ++ (r .bot ∷ rowLines (r .rows) ++ (l ∷ []))) (sym (o .its-line))
+                  ∙ ap (λ (ls : List (List ℕ)). preLines (r .pre .format) (r .pre .ts) ++ (r .bot ∷ ls)) (sym (map-joined (λ (r : RowLine). r .line) (r .rows) (o .row ∷ [])));
+              };
+            starts = first-starts line (row-given e);
+            kept = o .goes-on;
+          }
+      row false e g = absurd g
+
+      by : (t : Bool) → reads (bytes "#EOT") (firstColumn line) ≡ t
+          → Through K used (pick t (next (λ m. withTable line (firstColumn line) p m rs) (tableEnded n line)) (pick (startsRow (firstColumn line)) (next (withRow line (firstColumn line) p n rs) (rowOf n rs line)) (cannotStand line)))
+          → Onward
+      by true e g =
+          let k = keyword (bytes "#EOT") (omega arith) e in
+          let o = ended-granted K used line (λ m. withTable line (firstColumn line) p m rs) n (k .1) g in
+          let t : TableLines = record { which = n; bot = r .bot; rows = r .rows; eot = line .bytes } in
+          let whole : TableFits t = record { one-of-seven = r .one-of-seven; begins = r .begins; rows-fit = r .fit; ends = o .0 } in
+          record {
+            phase = top (record { format = p .format; tables = closed n rs (p .tables) });
+            used-then = used;
+            was-read =
+              record {
+                pre =
+                  record {
+                    format = r .pre .format;
+                    ts = r .pre .ts ++ (t ∷ []);
+                    format-fits = r .pre .format-fits;
+                    each-table = each-more TableFits (r .pre .ts) t (r .pre .each-table) whole;
+                    once = differ-map-more (λ (t : TableLines). t .which) (r .pre .ts) t (r .pre .once) (r .new);
+                    stand = stand-more (p .tables) (r .pre .ts) (r .pre .stand) t rs (r .one-of-seven) (r .new) (r .alike);
+                  };
+                none-used = r .none-used;
+                lines =
+                  ap (λ (ls : List (List ℕ)). ls ++ (line .bytes ∷ [])) (r .lines)
+                  ∙ append-assoc (preLines (r .pre .format) (r .pre .ts)) (r .bot ∷ rowLines (r .rows)) (line .bytes ∷ [])
+                  ∙ ap (λ (ls : List (List ℕ)). r .pre .format ∷ ls) (sym (joined-more tableLines (r .pre .ts) t));
+              };
+            starts = k .0;
+            kept = o .1;
+          }
+      by false e g = row (startsRow (firstColumn line)) refl g

@@ -93,7 +93,7 @@ WasRead (inSentence p s) used done = InSentence p s used done
 WasRead (behindSentence p) used done = Behind p used done
 
 -- one part more
-module _ {A : Type 0} (f : A → List (List ℕ)) where
+module _ {A B : Type 0} (f : A → List B) where
   pub joined-more : (xs : List A) (x : A) → joined (map f (xs ++ (x ∷ []))) ≡ joined (map f xs) ++ f x
   joined-more [] x = append-nil (f x)
-  joined-more (y ∷ xs) x = ap (λ (ls : List (List ℕ)). f y ++ ls) (joined-more xs x) ∙ sym (append-assoc (f y) (joined (map f xs)) (f x))
+  joined-more (y ∷ xs) x = ap (λ (ls : List B). f y ++ ls) (joined-more xs x) ∙ sym (append-assoc (f y) (joined (map f xs)) (f x))
