@@ -25,3 +25,4 @@ pub mod SentenceEnds
 pub mod WhatWasRead
 pub mod ReadSoFar
 pub mod SentencesSoFar
+pub mod AcceptedFits
