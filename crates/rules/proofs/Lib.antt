@@ -26,3 +26,4 @@ pub mod WhatWasRead
 pub mod ReadSoFar
 pub mod SentencesSoFar
 pub mod AcceptedFits
+pub mod TablesFollow
