@@ -27,3 +27,4 @@ pub mod ReadSoFar
 pub mod SentencesSoFar
 pub mod AcceptedFits
 pub mod TablesFollow
+pub mod SentencesFollow
