@@ -62,12 +62,12 @@ at-end (top p) used done r s e =
           starts = s;
           format-fits = r .pre .format-fits;
           tables-fit =
-            record {
-              each-table = r .pre .each-table;
-              once = r .pre .once;
-              origin-there = is-there (p .tables) (r .pre .ts) (r .pre .stand) origins .0 (both .0);
-              editor-there = is-there (p .tables) (r .pre .ts) (r .pre .stand) editors .0 (both .1);
-            };
+              record {
+                each-table = r .pre .each-table;
+                once = r .pre .once;
+                origin-there = is-there (p .tables) (r .pre .ts) (r .pre .stand) origins .0 (both .0);
+                editor-there = is-there (p .tables) (r .pre .ts) (r .pre .stand) editors .0 (both .1);
+              };
           each-sentence = tt;
           numbers-differ = tt;
         }
@@ -84,12 +84,12 @@ at-end (behindSentence p) used done r s e =
       starts = s;
       format-fits = pre .format-fits;
       tables-fit =
-        record {
-          each-table = pre .each-table;
-          once = pre .once;
-          origin-there = r .both .origin-there;
-          editor-there = r .both .editor-there;
-        };
+          record {
+            each-table = pre .each-table;
+            once = pre .once;
+            origin-there = r .both .origin-there;
+            editor-there = r .both .editor-there;
+          };
       each-sentence = r .prior .each;
       numbers-differ = r .prior .differ;
     }

@@ -149,29 +149,29 @@ module _ (T : Tables) (ts : List TableLines) (s : Stand T ts) where
           head = record { line = line .bytes; number = value n; editor1 = value e; origin = value o };
           its-line = refl;
           fit =
-            record {
-              numberText = written cs 1 .bytes;
-              editorText = written cs 2 .bytes;
-              dateText = written cs 3 .bytes;
-              originText = written cs 4 .bytes;
-              columns =
-                sym (front-columns line)
-                ∙ five cs (ltb-true 4 (length cs) (seven .0)) (λ z. let c : _≡_ {A = ℕ} 0 1 = cc in omega arith)
-                (not-sign (number sentenceNumber) (written cs 1 .bytes) refl (h .0 .1 .0))
-                (not-sign signedId (written cs 2 .bytes) refl (h .0 .1 .1 .0))
-                (not-sign (number date) (written cs 3 .bytes) refl (h .0 .1 .1 .1 .0))
-                (not-sign (number originId) (written cs 4 .bytes) refl (h .0 .1 .1 .1 .1 .0))
-                ∙ ap (λ (xs : List (List ℕ)). written cs 0 .bytes ∷ written cs 1 .bytes ∷ written cs 2 .bytes ∷ written cs 3 .bytes ∷ written cs 4 .bytes ∷ xs)
-                (no-fields (fields (drop 5 cs)) (seven .1))
-                ∙ ap (λ (x : List ℕ). x ∷ written cs 1 .bytes ∷ written cs 2 .bytes ∷ written cs 3 .bytes ∷ written cs 4 .bytes ∷ []) keyword;
-              number-written = good-some n (h .0 .1 .0);
-              editor-written = good-some e (h .0 .1 .1 .0);
-              day = value d;
-              date-written = good-some d (h .0 .1 .1 .1 .0);
-              origin-written = good-some o (h .0 .1 .1 .1 .1 .0);
-              editor-known = editor-said (value e) .0 (h .0 .1 .1 .1 .1 .1 .1 .1 .0);
-              origin-known = has-row T ts s origins (suc (value o)) .0 (h .0 .1 .1 .1 .1 .1 .1 .1 .1 .0);
-            };
+              record {
+                numberText = written cs 1 .bytes;
+                editorText = written cs 2 .bytes;
+                dateText = written cs 3 .bytes;
+                originText = written cs 4 .bytes;
+                columns =
+                    sym (front-columns line)
+                    ∙ five cs (ltb-true 4 (length cs) (seven .0)) (λ z. let c : _≡_ {A = ℕ} 0 1 = cc in omega arith)
+                    (not-sign (number sentenceNumber) (written cs 1 .bytes) refl (h .0 .1 .0))
+                    (not-sign signedId (written cs 2 .bytes) refl (h .0 .1 .1 .0))
+                    (not-sign (number date) (written cs 3 .bytes) refl (h .0 .1 .1 .1 .0))
+                    (not-sign (number originId) (written cs 4 .bytes) refl (h .0 .1 .1 .1 .1 .0))
+                    ∙ ap (λ (xs : List (List ℕ)). written cs 0 .bytes ∷ written cs 1 .bytes ∷ written cs 2 .bytes ∷ written cs 3 .bytes ∷ written cs 4 .bytes ∷ xs)
+                    (no-fields (fields (drop 5 cs)) (seven .1))
+                    ∙ ap (λ (x : List ℕ). x ∷ written cs 1 .bytes ∷ written cs 2 .bytes ∷ written cs 3 .bytes ∷ written cs 4 .bytes ∷ []) keyword;
+                number-written = good-some n (h .0 .1 .0);
+                editor-written = good-some e (h .0 .1 .1 .0);
+                day = value d;
+                date-written = good-some d (h .0 .1 .1 .1 .0);
+                origin-written = good-some o (h .0 .1 .1 .1 .1 .0);
+                editor-known = editor-said (value e) .0 (h .0 .1 .1 .1 .1 .1 .1 .1 .0);
+                origin-known = has-row T ts s origins (suc (value o)) .0 (h .0 .1 .1 .1 .1 .1 .1 .1 .1 .0);
+              };
           origin-there = is-there T ts s origins .0 (both .0);
           editor-there = is-there T ts s editors .0 (both .1);
           new = not-both-ways (before (value n)) .0 (h .0 .1 .1 .1 .1 .1 .1 .0);
@@ -197,14 +197,29 @@ module _ (T : Tables) (ts : List TableLines) (s : Stand T ts) where
         let v-n : value n ≡ head .number = some-value n (head .number) is-n in
         let v-e : value e ≡ head .editor1 = some-value e (head .editor1) is-e in
         let v-o : value o ≡ head .origin = some-value o (head .origin) is-o in
-        held-through K used f _ _
-        (and-both-ways (ltb 4 (length cs)) (empty (fields (drop 5 cs))) .1 (lt-ltb 4 (length cs) (omega (arith, are .enough)), are .none-behind),
-          (some-good n (head .number) is-n,
-            (some-good e (head .editor1) is-e,
-              (some-good d (t .day) is-d,
-                (some-good o (head .origin) is-o,
-                  (and-both-ways (present origins T) (present editors T) .1 (is-there T ts s origins .1 io, is-there T ts s editors .1 ie),
-                    (not-both-ways (before (value n)) .1 (rw v-n new),
-                      (rw v-e (editor-said (head .editor1) .1 (t .editor-known)),
-                        (rw v-o (has-row T ts s origins (suc (head .origin)) .1 (t .origin-known)), tt)))))))))
+        held-through K used f _ _ (
+          and-both-ways (ltb 4 (length cs)) (empty (fields (drop 5 cs))) .1 (lt-ltb 4 (length cs) (omega (arith, are .enough)), are .none-behind),
+          (
+            some-good n (head .number) is-n,
+            (
+              some-good e (head .editor1) is-e,
+              (
+                some-good d (t .day) is-d,
+                (
+                  some-good o (head .origin) is-o,
+                  (
+                    and-both-ways (present origins T) (present editors T) .1 (is-there T ts s origins .1 io, is-there T ts s editors .1 ie),
+                    (
+                      not-both-ways (before (value n)) .1 (rw v-n new),
+                      (
+                        rw v-e (editor-said (head .editor1) .1 (t .editor-known)),
+                        (rw v-o (has-row T ts s origins (suc (head .origin)) .1 (t .origin-known)), tt),
+                      ),
+                    ),
+                  ),
+                ),
+              ),
+            ),
+          ),
+        )
         (goes-on _ v-n)

@@ -89,22 +89,24 @@ module _ (K : Phase → List ℕ → Type 0) (used : List ℕ) (line : Text) whe
   unfolding formatOf
   format-granted f q g =
       let h = through-held K used f _ _ g in
-      let n = number formatNumber (written (columns line) 1 .bytes) in
-      (record {
-        numberText = written (columns line) 1 .bytes;
-        columns = two-columns line (h .0 .0) ∙ ap (λ (x : List ℕ). x ∷ written (columns line) 1 .bytes ∷ []) q;
-        number-written = good-some n (h .0 .1 .0) ∙ ap some (eqb-true (value n) 3 (h .0 .1 .1 .0));
-      },
-        (value n, h .1))
+      let n = number formatNumber (written (columns line) 1 .bytes) in (
+        record {
+          numberText = written (columns line) 1 .bytes;
+          columns = two-columns line (h .0 .0) ∙ ap (λ (x : List ℕ). x ∷ written (columns line) 1 .bytes ∷ []) q;
+          number-written = good-some n (h .0 .1 .0) ∙ ap some (eqb-true (value n) 3 (h .0 .1 .1 .0));
+        },
+        (value n, h .1),
+      )
 
   pub format-grants : (f : ℕ → Answer) → FormatFits (line .bytes) → ((n : ℕ) → Through K used (f n)) → Through K used (next f (formatOf line))
   unfolding formatOf
   format-grants f t goes-on =
       let n = number formatNumber (written (columns line) 1 .bytes) in
       let e : n ≡ some 3 = ap (number formatNumber) (name-second line (bytes "#FORMAT") (t .numberText) (t .columns)) ∙ t .number-written in
-      held-through K used f _ _
-      (eq-eqb (length (columns line)) 2 (columns-two line (bytes "#FORMAT") (t .numberText) (t .columns)),
-        (some-good n 3 e, (eq-eqb (value n) 3 (some-value n 3 e), tt)))
+      held-through K used f _ _ (
+        eq-eqb (length (columns line)) 2 (columns-two line (bytes "#FORMAT") (t .numberText) (t .columns)),
+        (some-good n 3 e, (eq-eqb (value n) 3 (some-value n 3 e), tt)),
+      )
       (goes-on (value n))
 
   -- a name where two columns stand
@@ -144,9 +146,10 @@ module _ (K : Phase → List ℕ → Type 0) (used : List ℕ) (line : Text) whe
   unfolding tableOpened
   opened-grants f T n l e new goes-on =
       let s = is-named (written (columns line) 1) n l (name-second line (bytes "#BOT") (getD tableNames n []) e) in
-      held-through K used f _ _
-      (or-both-ways (ltb (length (columns line)) 2) (fresh T (tableNamed (written (columns line) 1))) .1 (inr (ap (fresh T) s ∙ not-both-ways (present n T) .1 new)),
-        (eq-eqb (length (columns line)) 2 (columns-two line (bytes "#BOT") (getD tableNames n []) e), tt))
+      held-through K used f _ _ (
+        or-both-ways (ltb (length (columns line)) 2) (fresh T (tableNamed (written (columns line) 1))) .1 (inr (ap (fresh T) s ∙ not-both-ways (present n T) .1 new)),
+        (eq-eqb (length (columns line)) 2 (columns-two line (bytes "#BOT") (getD tableNames n []) e), tt),
+      )
       (subst (λ (o : Option ℕ). Through K used (f (value o))) (sym s) goes-on)
 
   pub ended-granted : (f : ℕ → Answer) (n : ℕ) → columnAt 0 (line .bytes) ≡ bytes "#EOT" → Through K used (next f (tableEnded n line)) → Names (bytes "#EOT") n (line .bytes) × Through K used (f n)
@@ -167,7 +170,8 @@ module _ (K : Phase → List ℕ → Type 0) (used : List ℕ) (line : Text) whe
   unfolding tableEnded
   ended-grants f n l e goes-on =
       let s = is-named (written (columns line) 1) n l (name-second line (bytes "#EOT") (getD tableNames n []) e) in
-      held-through K used f _ _
-      (or-both-ways (ltb (length (columns line)) 2) (itself n (tableNamed (written (columns line) 1))) .1 (inr (ap (itself n) s ∙ eq-eqb n n refl)),
-        (eq-eqb (length (columns line)) 2 (columns-two line (bytes "#EOT") (getD tableNames n []) e), tt))
+      held-through K used f _ _ (
+        or-both-ways (ltb (length (columns line)) 2) (itself n (tableNamed (written (columns line) 1))) .1 (inr (ap (itself n) s ∙ eq-eqb n n refl)),
+        (eq-eqb (length (columns line)) 2 (columns-two line (bytes "#EOT") (getD tableNames n []) e), tt),
+      )
       goes-on

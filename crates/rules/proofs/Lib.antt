@@ -28,3 +28,5 @@ pub mod SentencesSoFar
 pub mod AcceptedFits
 pub mod TablesFollow
 pub mod SentencesFollow
+pub mod FitsAccepted
+pub mod AcceptedExactly

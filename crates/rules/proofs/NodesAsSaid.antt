@@ -134,16 +134,23 @@ module _ (T : Tables) (fs : List Text) (tags n : ℕ) where
         each-joined Holds (parentsWritten fs ++ tagsShort fs tags ++ (own ++ tagsKnown fs T tags)) (parentsRise fs n)
         (each-joined Holds (parentsWritten fs ++ tagsShort fs tags) (own ++ tagsKnown fs T tags)
         (each-joined Holds (parentsWritten fs) (tagsShort fs tags)
-        (h .parent-good, each-map (λ (p : Pair). rule 8 (p .parent) (good (secondaryParent p))) Holds (itsPairs fs) (h .parents-good))
-        (h .tag-short,
-          (h .morphology-short,
-            (h .edge-short, each-map (λ (p : Pair). rule 10 (p .label) (atMost (tagLimit secEdgeTags) (p .label))) Holds (itsPairs fs) (h .labels-short)))))
-        (each-joined Holds own (tagsKnown fs T tags) o
-        (h .tag-known,
-          (h .morphology-known,
-            (h .edge-known, each-map (λ (p : Pair). rule 18 (p .label) (known T secEdgeTags (p .label))) Holds (itsPairs fs) (h .labels-known))))))
-        (rises-read n (value (itsParent fs)) (itsEdge fs) .1 (h .rises),
-          each-map (λ (p : Pair). rule 19 (p .parent) (ltb n (value (secondaryParent p)))) Holds (itsPairs fs) (h .secondary-rise))
+        (h .parent-good, each-map (λ (p : Pair). rule 8 (p .parent) (good (secondaryParent p))) Holds (itsPairs fs) (h .parents-good)) (
+          h .tag-short,
+          (
+            h .morphology-short,
+            (h .edge-short, each-map (λ (p : Pair). rule 10 (p .label) (atMost (tagLimit secEdgeTags) (p .label))) Holds (itsPairs fs) (h .labels-short)),
+          ),
+        ))
+        (each-joined Holds own (tagsKnown fs T tags) o (
+          h .tag-known,
+          (
+            h .morphology-known,
+            (h .edge-known, each-map (λ (p : Pair). rule 18 (p .label) (known T secEdgeTags (p .label))) Holds (itsPairs fs) (h .labels-known)),
+          ),
+        ))) (
+          rises-read n (value (itsParent fs)) (itsEdge fs) .1 (h .rises),
+          each-map (λ (p : Pair). rule 19 (p .parent) (ltb n (value (secondaryParent p)))) Holds (itsPairs fs) (h .secondary-rise),
+        )
 
 -- ---- a node as read, and as said
 
@@ -164,13 +171,14 @@ module _ (T : Tables) (ts : List TableLines) (s : Stand T ts) (line : List ℕ) 
   edges-said : (ps : List Pair) → Each (λ (p : Pair). good (secondaryParent p) ≡ true) ps → Each (λ (p : Pair). atMost (tagLimit secEdgeTags) (p .label) ≡ true) ps
       → Each (λ (p : Pair). known T secEdgeTags (p .label) ≡ true) ps → Each (EdgeFits ts) (map saidPair ps)
   edges-said [] g h k = tt
-  edges-said (p ∷ ps) g h k =
-      (record {
-        parent-written = good-some (secondaryParent p) (g .0);
-        label-short = leb-is (length (p .label .bytes)) (tagLimit secEdgeTags) .0 (h .0);
-        label-known = known-is T ts s secEdgeTags (p .label) .0 (k .0);
-      },
-        edges-said ps (g .1) (h .1) (k .1))
+  edges-said (p ∷ ps) g h k = (
+    record {
+      parent-written = good-some (secondaryParent p) (g .0);
+      label-short = leb-is (length (p .label .bytes)) (tagLimit secEdgeTags) .0 (h .0);
+      label-known = known-is T ts s secEdgeTags (p .label) .0 (k .0);
+    },
+    edges-said ps (g .1) (h .1) (k .1),
+  )
 
   pub held-said : NodeHeld T fs tags n → frontColumns line ≡ nodeColumns nodeSaid → NodeFits ts tags nodeSaid
   held-said h c =
@@ -201,26 +209,26 @@ module _ (T : Tables) (ts : List TableLines) (s : Stand T ts) (line : List ℕ) 
         record {
           parent-good = some-good (itsParent fs) (node .parent) (ap parentNumber (sh .at-parent) ∙ fit .parent-written);
           parents-good =
-            each-pair (EdgeFits ts) (λ (p : Pair). good (secondaryParent p) ≡ true)
-            (λ p e l q f. some-good (secondaryParent p) (e .parent) (pair-number p e q f)) (itsPairs fs) (node .secondary) (sh .at-pairs) (fit .each-secondary);
+              each-pair (EdgeFits ts) (λ (p : Pair). good (secondaryParent p) ≡ true)
+              (λ p e l q f. some-good (secondaryParent p) (e .parent) (pair-number p e q f)) (itsPairs fs) (node .secondary) (sh .at-pairs) (fit .each-secondary);
           tag-short = leb-is (length (itsTag fs .bytes)) (tagLimit tags) .1 (rw (sh .at-tag) (fit .tag-short));
           morphology-short = leb-is (length (itsMorphology fs .bytes)) (tagLimit morphTags) .1 (rw (sh .at-morphology) (fit .morphology-short));
           edge-short = leb-is (length (itsEdge fs .bytes)) (tagLimit edgeTags) .1 (rw (sh .at-edge) (fit .edge-short));
           labels-short =
-            each-pair (EdgeFits ts) (λ (p : Pair). atMost (tagLimit secEdgeTags) (p .label) ≡ true)
-            (λ p e l q f. leb-is (length (p .label .bytes)) (tagLimit secEdgeTags) .1 (rw l (f .label-short))) (itsPairs fs) (node .secondary) (sh .at-pairs) (fit .each-secondary);
+              each-pair (EdgeFits ts) (λ (p : Pair). atMost (tagLimit secEdgeTags) (p .label) ≡ true)
+              (λ p e l q f. leb-is (length (p .label .bytes)) (tagLimit secEdgeTags) .1 (rw l (f .label-short))) (itsPairs fs) (node .secondary) (sh .at-pairs) (fit .each-secondary);
           tag-known = known-is T ts s tags (itsTag fs) .1 (rw (sh .at-tag) (fit .tag-known));
           morphology-known = known-is T ts s morphTags (itsMorphology fs) .1 (rw (sh .at-morphology) (fit .morphology-known));
           edge-known = known-is T ts s edgeTags (itsEdge fs) .1 (rw (sh .at-edge) (fit .edge-known));
           labels-known =
-            each-pair (EdgeFits ts) (λ (p : Pair). known T secEdgeTags (p .label) ≡ true)
-            (λ p e l q f. known-is T ts s secEdgeTags (p .label) .1 (rw l (f .label-known))) (itsPairs fs) (node .secondary) (sh .at-pairs) (fit .each-secondary);
+              each-pair (EdgeFits ts) (λ (p : Pair). known T secEdgeTags (p .label) ≡ true)
+              (λ p e l q f. known-is T ts s secEdgeTags (p .label) .1 (rw l (f .label-known))) (itsPairs fs) (node .secondary) (sh .at-pairs) (fit .each-secondary);
           rises = rw (same-parent, sh .at-edge) (fit .parent-zero, larger);
           secondary-rise =
-            each-pair (λ (e : EdgeSaid). EdgeFits ts e × (n < e .parent)) (λ (p : Pair). ltb n (value (secondaryParent p)) ≡ true)
-            (λ p e l q f. lt-ltb n (value (secondaryParent p)) (rw (some-value (secondaryParent p) (e .parent) (pair-number p e q (f .0))) (f .1)))
-            (itsPairs fs) (node .secondary) (sh .at-pairs)
-            (each-both (EdgeFits ts) (λ (e : EdgeSaid). n < e .parent) (node .secondary) (fit .each-secondary) secondary-larger);
+              each-pair (λ (e : EdgeSaid). EdgeFits ts e × (n < e .parent)) (λ (p : Pair). ltb n (value (secondaryParent p)) ≡ true)
+              (λ p e l q f. lt-ltb n (value (secondaryParent p)) (rw (some-value (secondaryParent p) (e .parent) (pair-number p e q (f .0))) (f .1)))
+              (itsPairs fs) (node .secondary) (sh .at-pairs)
+              (each-both (EdgeFits ts) (λ (e : EdgeSaid). n < e .parent) (node .secondary) (fit .each-secondary) secondary-larger);
         }
 
     -- its parents are those said

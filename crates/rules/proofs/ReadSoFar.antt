@@ -64,11 +64,11 @@ module _ (K : Phase → List ℕ → Type 0) (used : List ℕ) (done : List (Lis
             phase = top (record { format = f .1 .0; tables = noTables });
             used-then = used;
             was-read =
-              record {
-                pre = record { format = line .bytes; ts = []; format-fits = f .0; each-table = tt; once = tt; stand = stand-none };
-                none-used = r .1;
-                lines = ap (λ (ls : List (List ℕ)). ls ++ (line .bytes ∷ [])) (r .0);
-              };
+                record {
+                  pre = record { format = line .bytes; ts = []; format-fits = f .0; each-table = tt; once = tt; stand = stand-none };
+                  none-used = r .1;
+                  lines = ap (λ (ls : List (List ℕ)). ls ++ (line .bytes ∷ [])) (r .0);
+                };
             starts = k .0;
             kept = f .1 .1;
           }
@@ -87,22 +87,22 @@ module _ (K : Phase → List ℕ → Type 0) (used : List ℕ) (done : List (Lis
             phase = inSentence p (record { heading = h .read-as; words = []; phrases = [] });
             used-then = used;
             was-read =
-              record {
-                prior = r;
-                both = record { origin-there = h .origin-there; editor-there = h .editor-there };
-                head = h .head;
-                words = [];
-                phrases = [];
-                head-fits = h .fit;
-                new = λ i. h .new (is-member (h .head .number) used .1 (subst (In (h .head .number)) (sym (r .used-are)) i));
-                each-word = tt;
-                each-phrase = tt;
-                words-at-most = omega arith;
-                edges-at-most = omega arith;
-                numbers-differ = tt;
-                alike = record { its-number = h .same-number; word-sides = refl; phrase-sides = refl; phrase-numbers = refl };
-                lines = ap (λ (ls : List (List ℕ)). ls ++ (line .bytes ∷ [])) d ∙ ap (λ (l : List ℕ). priorLines p used r ++ (l ∷ [])) (sym (h .its-line));
-              };
+                record {
+                  prior = r;
+                  both = record { origin-there = h .origin-there; editor-there = h .editor-there };
+                  head = h .head;
+                  words = [];
+                  phrases = [];
+                  head-fits = h .fit;
+                  new = λ i. h .new (is-member (h .head .number) used .1 (subst (In (h .head .number)) (sym (r .used-are)) i));
+                  each-word = tt;
+                  each-phrase = tt;
+                  words-at-most = omega arith;
+                  edges-at-most = omega arith;
+                  numbers-differ = tt;
+                  alike = record { its-number = h .same-number; word-sides = refl; phrase-sides = refl; phrase-numbers = refl };
+                  lines = ap (λ (ls : List (List ℕ)). ls ++ (line .bytes ∷ [])) d ∙ ap (λ (l : List ℕ). priorLines p used r ++ (l ∷ [])) (sym (h .its-line));
+                };
             starts = k .0;
             kept = h .goes-on;
           }
@@ -121,18 +121,18 @@ module _ (K : Phase → List ℕ → Type 0) (used : List ℕ) (done : List (Lis
             phase = inTable p (o .which) [];
             used-then = used;
             was-read =
-              record {
-                pre = r .pre;
-                none-used = r .none-used;
-                one-of-seven = o .one-of-seven;
-                new = λ i. o .new (is-there (p .tables) (r .pre .ts) (r .pre .stand) (o .which) .1 i);
-                bot = line .bytes;
-                begins = o .names;
-                rows = [];
-                alike = none-alike;
-                fit = no-rows (o .which);
-                lines = ap (λ (ls : List (List ℕ)). ls ++ (line .bytes ∷ [])) (r .lines);
-              };
+                record {
+                  pre = r .pre;
+                  none-used = r .none-used;
+                  one-of-seven = o .one-of-seven;
+                  new = λ i. o .new (is-there (p .tables) (r .pre .ts) (r .pre .stand) (o .which) .1 i);
+                  bot = line .bytes;
+                  begins = o .names;
+                  rows = [];
+                  alike = none-alike;
+                  fit = no-rows (o .which);
+                  lines = ap (λ (ls : List (List ℕ)). ls ++ (line .bytes ∷ [])) (r .lines);
+                };
             starts = k .0;
             kept = o .goes-on;
           }
@@ -160,22 +160,22 @@ module _ (K : Phase → List ℕ → Type 0) (used : List ℕ) (done : List (Lis
             phase = inTable p n (rs ++ (o .read-as ∷ []));
             used-then = used;
             was-read =
-              record {
-                pre = r .pre;
-                none-used = r .none-used;
-                one-of-seven = r .one-of-seven;
-                new = r .new;
-                bot = r .bot;
-                begins = r .begins;
-                rows = r .rows ++ (o .row ∷ []);
-                alike = alike-more rs (r .rows) (o .read-as) (o .row) (r .alike) (o .alike);
-                fit = o .fit;
-                lines =
-                  ap (λ (ls : List (List ℕ)). ls ++ (line .bytes ∷ [])) (r .lines)
-                  ∙ append-assoc (preLines (r .pre .format) (r .pre .ts)) (r .bot ∷ rowLines (r .rows)) (line .bytes ∷ [])
-                  ∙ ap (λ (l : List ℕ). preLines (r .pre .format) (r .pre .ts) ++ (r .bot ∷ rowLines (r .rows) ++ (l ∷ []))) (sym (o .its-line))
-                  ∙ ap (λ (ls : List (List ℕ)). preLines (r .pre .format) (r .pre .ts) ++ (r .bot ∷ ls)) (sym (map-joined (λ (r : RowLine). r .line) (r .rows) (o .row ∷ [])));
-              };
+                record {
+                  pre = r .pre;
+                  none-used = r .none-used;
+                  one-of-seven = r .one-of-seven;
+                  new = r .new;
+                  bot = r .bot;
+                  begins = r .begins;
+                  rows = r .rows ++ (o .row ∷ []);
+                  alike = alike-more rs (r .rows) (o .read-as) (o .row) (r .alike) (o .alike);
+                  fit = o .fit;
+                  lines =
+                      ap (λ (ls : List (List ℕ)). ls ++ (line .bytes ∷ [])) (r .lines)
+                      ∙ append-assoc (preLines (r .pre .format) (r .pre .ts)) (r .bot ∷ rowLines (r .rows)) (line .bytes ∷ [])
+                      ∙ ap (λ (l : List ℕ). preLines (r .pre .format) (r .pre .ts) ++ (r .bot ∷ rowLines (r .rows) ++ (l ∷ []))) (sym (o .its-line))
+                      ∙ ap (λ (ls : List (List ℕ)). preLines (r .pre .format) (r .pre .ts) ++ (r .bot ∷ ls)) (sym (map-joined (λ (r : RowLine). r .line) (r .rows) (o .row ∷ [])));
+                };
             starts = first-starts line (row-given e);
             kept = o .goes-on;
           }
@@ -193,22 +193,22 @@ module _ (K : Phase → List ℕ → Type 0) (used : List ℕ) (done : List (Lis
             phase = top (record { format = p .format; tables = closed n rs (p .tables) });
             used-then = used;
             was-read =
-              record {
-                pre =
-                  record {
-                    format = r .pre .format;
-                    ts = r .pre .ts ++ (t ∷ []);
-                    format-fits = r .pre .format-fits;
-                    each-table = each-more TableFits (r .pre .ts) t (r .pre .each-table) whole;
-                    once = differ-map-more (λ (t : TableLines). t .which) (r .pre .ts) t (r .pre .once) (r .new);
-                    stand = stand-more (p .tables) (r .pre .ts) (r .pre .stand) t rs (r .one-of-seven) (r .new) (r .alike);
-                  };
-                none-used = r .none-used;
-                lines =
-                  ap (λ (ls : List (List ℕ)). ls ++ (line .bytes ∷ [])) (r .lines)
-                  ∙ append-assoc (preLines (r .pre .format) (r .pre .ts)) (r .bot ∷ rowLines (r .rows)) (line .bytes ∷ [])
-                  ∙ ap (λ (ls : List (List ℕ)). r .pre .format ∷ ls) (sym (joined-more tableLines (r .pre .ts) t));
-              };
+                record {
+                  pre =
+                      record {
+                        format = r .pre .format;
+                        ts = r .pre .ts ++ (t ∷ []);
+                        format-fits = r .pre .format-fits;
+                        each-table = each-more TableFits (r .pre .ts) t (r .pre .each-table) whole;
+                        once = differ-map-more (λ (t : TableLines). t .which) (r .pre .ts) t (r .pre .once) (r .new);
+                        stand = stand-more (p .tables) (r .pre .ts) (r .pre .stand) t rs (r .one-of-seven) (r .new) (r .alike);
+                      };
+                  none-used = r .none-used;
+                  lines =
+                      ap (λ (ls : List (List ℕ)). ls ++ (line .bytes ∷ [])) (r .lines)
+                      ∙ append-assoc (preLines (r .pre .format) (r .pre .ts)) (r .bot ∷ rowLines (r .rows)) (line .bytes ∷ [])
+                      ∙ ap (λ (ls : List (List ℕ)). r .pre .format ∷ ls) (sym (joined-more tableLines (r .pre .ts) t));
+                };
             starts = k .0;
             kept = o .1;
           }

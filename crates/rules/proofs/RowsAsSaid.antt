@@ -192,25 +192,25 @@ module _ (rs : List Row) (rows : List RowLine) (a : Alike rs rows) where
         let id = number originId (column (columns line) 0 .text .bytes) in
         let row : RowLine = record { line = line .bytes; id1 = suc (value id); first = trim (inFront (column (columns line) 0 .after)) .bytes } in
         let one : OriginRow row =
-          record {
-            id = value id;
-            id-written = ap (number originId) (sym (column-there line 0)) ∙ good-some id (h .0 .1 .0);
-            one-more = refl;
-            name-is = name-there line;
-            name = (given-are (trim (inFront (column (columns line) 0 .after))) .0 (h .0 .0), leb-is _ _ .0 (h .0 .1 .1 .0));
-            comment = rw (note-there line) at (leb-is (length (trim (behind (column (columns line) 0 .after)) .bytes)) 160 .0 (h .0 .1 .1 .1 .0));
-          } in
+        record {
+          id = value id;
+          id-written = ap (number originId) (sym (column-there line 0)) ∙ good-some id (h .0 .1 .0);
+          one-more = refl;
+          name-is = name-there line;
+          name = (given-are (trim (inFront (column (columns line) 0 .after))) .0 (h .0 .0), leb-is _ _ .0 (h .0 .1 .1 .0));
+          comment = rw (note-there line) at (leb-is (length (trim (behind (column (columns line) 0 .after)) .bytes)) 160 .0 (h .0 .1 .1 .1 .0));
+        } in
         record {
           row = row;
           its-line = refl;
           few = room-next row (h .0 .1 .1 .1 .1 .1 .0);
           fit =
-            record {
-              each-row = each-more OriginRow rows row (t .each-row) one;
-              ids-differ =
-                differ-map-more (λ (r : RowLine). r .id1) rows row (t .ids-differ)
-                (not-is (hasId (suc (value id)) rs) (has-id-alike (suc (value id))) .0 (h .0 .1 .1 .1 .1 .0));
-            };
+              record {
+                each-row = each-more OriginRow rows row (t .each-row) one;
+                ids-differ =
+                    differ-map-more (λ (r : RowLine). r .id1) rows row (t .ids-differ)
+                    (not-is (hasId (suc (value id)) rs) (has-id-alike (suc (value id))) .0 (h .0 .1 .1 .1 .1 .0));
+              };
           read-as = _;
           alike = record { id = refl; text = refl };
           goes-on = h .1;
@@ -225,23 +225,23 @@ module _ (rs : List Row) (rows : List RowLine) (a : Alike rs rows) where
         let name = trim (login .after) in
         let row : RowLine = record { line = line .bytes; id1 = value id; first = login .text .bytes } in
         let one : EditorRow row =
-          record {
-            id-written = ap signedId (sym (column-there line 0)) ∙ good-some id (h .0 .1 .0);
-            login-is = column-there line 1;
-            login = leb-is (length (login .text .bytes)) 16 .0 (h .0 .1 .1 .0);
-            full-name = subst (GivenUpTo 40) (text-there line 1) (given-are name .0 (h .0 .0), leb-is (length (name .bytes)) 40 .0 (h .0 .1 .1 .1 .0));
-          } in
+        record {
+          id-written = ap signedId (sym (column-there line 0)) ∙ good-some id (h .0 .1 .0);
+          login-is = column-there line 1;
+          login = leb-is (length (login .text .bytes)) 16 .0 (h .0 .1 .1 .0);
+          full-name = subst (GivenUpTo 40) (text-there line 1) (given-are name .0 (h .0 .0), leb-is (length (name .bytes)) 40 .0 (h .0 .1 .1 .1 .0));
+        } in
         record {
           row = row;
           its-line = refl;
           few = room-next row (h .0 .1 .1 .1 .1 .1 .0);
           fit =
-            record {
-              each-row = each-more EditorRow rows row (t .each-row) one;
-              ids-differ =
-                differ-map-more (λ (r : RowLine). r .id1) rows row (t .ids-differ)
-                (not-is (hasId (value id) rs) (has-id-alike (value id)) .0 (h .0 .1 .1 .1 .1 .0));
-            };
+              record {
+                each-row = each-more EditorRow rows row (t .each-row) one;
+                ids-differ =
+                    differ-map-more (λ (r : RowLine). r .id1) rows row (t .ids-differ)
+                    (not-is (hasId (value id) rs) (has-id-alike (value id)) .0 (h .0 .1 .1 .1 .1 .0));
+              };
           read-as = _;
           alike = record { id = refl; text = refl };
           goes-on = h .1;
@@ -260,29 +260,29 @@ module _ (rs : List Row) (rows : List RowLine) (a : Alike rs rows) where
         let eleven = and-both-ways (follows (lastId rs) (value id) && ownTag (value id) tag) (not (hasTag tag rs)) .0 (h .0 .1 .1 .1 .1 .1 .0) in
         let ordered = and-both-ways (follows (lastId rs) (value id)) (ownTag (value id) tag) .0 (eleven .0) in
         let one : TagRow n row =
-          record {
-            id-written = ap signedId (sym (column-there line 0)) ∙ good-some id (h .0 .1 .0);
-            tag-is = column-there line 1;
-            tag = leb-is (length (tag .bytes)) (tagLimit n) .0 (short .0);
-            no-comment-sign = not-is (reads percents tag) (reads-are percents tag) .0 (short .1);
-            flag = λ e. flagged n (columnAt 2 (line .bytes)) flag (column-there line 2) (eq-eqb n wordTags e) (h .0 .1 .1 .1 .0);
-            description =
+        record {
+          id-written = ap signedId (sym (column-there line 0)) ∙ good-some id (h .0 .1 .0);
+          tag-is = column-there line 1;
+          tag = leb-is (length (tag .bytes)) (tagLimit n) .0 (short .0);
+          no-comment-sign = not-is (reads percents tag) (reads-are percents tag) .0 (short .1);
+          flag = λ e. flagged n (columnAt 2 (line .bytes)) flag (column-there line 2) (eq-eqb n wordTags e) (h .0 .1 .1 .1 .0);
+          description =
               subst (GivenUpTo 80) (described line n)
               (given-are behindAll .0 (h .0 .0), leb-is (length (behindAll .bytes)) 80 .0 (h .0 .1 .1 .1 .1 .0));
-          } in
+        } in
         record {
           row = row;
           its-line = refl;
           few = room-next row (h .0 .1 .1 .1 .1 .1 .1 .0);
           fit =
-            record {
-              each-row = each-more (TagRow n) rows row (t .each-row) one;
-              in-order = next-in-order (value id) row refl (t .in-order) (ordered .0);
-              carried = each-more Carries rows row (t .carried) (own-carries (value id) tag row refl refl (ordered .1));
-              tags-differ =
-                differ-map-more (λ (r : RowLine). r .first) rows row (t .tags-differ)
-                (not-is (hasTag tag rs) (has-tag-alike tag) .0 (eleven .1));
-            };
+              record {
+                each-row = each-more (TagRow n) rows row (t .each-row) one;
+                in-order = next-in-order (value id) row refl (t .in-order) (ordered .0);
+                carried = each-more Carries rows row (t .carried) (own-carries (value id) tag row refl refl (ordered .1));
+                tags-differ =
+                    differ-map-more (λ (r : RowLine). r .first) rows row (t .tags-differ)
+                    (not-is (hasTag tag rs) (has-tag-alike tag) .0 (eleven .1));
+              };
           read-as = _;
           alike = record { id = refl; text = refl };
           goes-on = h .1;
@@ -327,14 +327,23 @@ module _ (rs : List Row) (rows : List RowLine) (a : Alike rs rows) where
           let same-name : name .bytes ≡ row .first = name-there line ∙ ap (λ (l : List ℕ). trim (inFront (restBehind 0 l)) .bytes) (sym its-line) ∙ sym (one .name-is) in
           let note = trim (behind (column (columns line) 0 .after)) in
           let same-note : note .bytes ≡ trim (behind (restBehind 0 (row .line))) .bytes = note-there line ∙ ap (λ (l : List ℕ). trim (behind (restBehind 0 l)) .bytes) (sym its-line) in
-          held-through K used f _ _
-          (given-are name .1 (rw same-name (one .name .0)),
-            (some-good id (one .id) is,
-              (leb-is (length (name .bytes)) 128 .1 (rw same-name (one .name .1)),
-                (leb-is (length (note .bytes)) 160 .1 (rw same-note (one .comment)),
-                  (not-is (hasId (suc (value id)) rs) (has-id-alike (suc (value id))) .1
-                    (rw same-id (differ-map-next (λ (r : RowLine). r .id1) rows row more (t .ids-differ))),
-                    (next-room row more few, tt))))))
+          held-through K used f _ _ (
+            given-are name .1 (rw same-name (one .name .0)),
+            (
+              some-good id (one .id) is,
+              (
+                leb-is (length (name .bytes)) 128 .1 (rw same-name (one .name .1)),
+                (
+                  leb-is (length (note .bytes)) 160 .1 (rw same-note (one .comment)),
+                  (
+                    not-is (hasId (suc (value id)) rs) (has-id-alike (suc (value id))) .1
+                        (rw same-id (differ-map-next (λ (r : RowLine). r .id1) rows row more (t .ids-differ))),
+                    (next-room row more few, tt),
+                  ),
+                ),
+              ),
+            ),
+          )
           (goes-on _ (record { id = same-id; text = same-name }))
 
       pub editor-grants : EditorTable (rows ++ (row ∷ more)) → Through K used (next f (editorRow rs line))
@@ -347,14 +356,23 @@ module _ (rs : List Row) (rows : List RowLine) (a : Alike rs rows) where
           let login = column (columns line) 1 .text in
           let same-login : login .bytes ≡ row .first = at-column 1 ∙ sym (one .login-is) in
           let name = trim (column (columns line) 1 .after) in
-          held-through K used f _ _
-          (given-are name .1 (rw (behind-column 1) (one .full-name .0)),
-            (some-good id (row .id1) is,
-              (leb-is (length (login .bytes)) 16 .1 (rw same-login (one .login)),
-                (leb-is (length (name .bytes)) 40 .1 (rw (behind-column 1) (one .full-name .1)),
-                  (not-is (hasId (value id) rs) (has-id-alike (value id)) .1
-                    (rw same-id (differ-map-next (λ (r : RowLine). r .id1) rows row more (t .ids-differ))),
-                    (next-room row more few, tt))))))
+          held-through K used f _ _ (
+            given-are name .1 (rw (behind-column 1) (one .full-name .0)),
+            (
+              some-good id (row .id1) is,
+              (
+                leb-is (length (login .bytes)) 16 .1 (rw same-login (one .login)),
+                (
+                  leb-is (length (name .bytes)) 40 .1 (rw (behind-column 1) (one .full-name .1)),
+                  (
+                    not-is (hasId (value id) rs) (has-id-alike (value id)) .1
+                        (rw same-id (differ-map-next (λ (r : RowLine). r .id1) rows row more (t .ids-differ))),
+                    (next-room row more few, tt),
+                  ),
+                ),
+              ),
+            ),
+          )
           (goes-on _ (record { id = same-id; text = same-login }))
 
       pub tag-grants : (n : ℕ) → TagTable n (rows ++ (row ∷ more)) → Through K used (next f (tagRow n rs line))
@@ -370,20 +388,33 @@ module _ (rs : List Row) (rows : List RowLine) (a : Alike rs rows) where
           let flag = column (columns line) 2 .text in
           let behindAll = trim (pick (eqb n wordTags) (column (columns line) 2) (column (columns line) 1) .after) in
           let same-text : behindAll .bytes ≡ textBehind (pick (eqb n wordTags) 2 1) (row .line) = described line n ∙ ap (textBehind (pick (eqb n wordTags) 2 1)) (sym its-line) in
-          held-through K used f _ _
-          (given-are behindAll .1 (rw same-text (one .description .0)),
-            (some-good id (row .id1) is,
-              (and-both-ways (atMost (tagLimit n) tag) (not (reads percents tag)) .1
-                (leb-is (length (tag .bytes)) (tagLimit n) .1 (rw same-tag (one .tag)),
-                  not-is (reads percents tag) (reads-are percents tag) .1 (rw same-tag (one .no-comment-sign))),
-                (flag-held n flag (rw (at-column 2) (one .flag)),
-                  (leb-is (length (behindAll .bytes)) 80 .1 (rw same-text (one .description .1)),
-                    (and-both-ways (follows (lastId rs) (value id) && ownTag (value id) tag) (not (hasTag tag rs)) .1
-                      (and-both-ways (follows (lastId rs) (value id)) (ownTag (value id) tag) .1
-                        (rw same-id (in-order-next row more (t .in-order)), rw same-id (carries-own tag row (sym same-tag) own)),
+          held-through K used f _ _ (
+            given-are behindAll .1 (rw same-text (one .description .0)),
+            (
+              some-good id (row .id1) is,
+              (
+                and-both-ways (atMost (tagLimit n) tag) (not (reads percents tag)) .1 (
+                  leb-is (length (tag .bytes)) (tagLimit n) .1 (rw same-tag (one .tag)),
+                  not-is (reads percents tag) (reads-are percents tag) .1 (rw same-tag (one .no-comment-sign)),
+                ),
+                (
+                  flag-held n flag (rw (at-column 2) (one .flag)),
+                  (
+                    leb-is (length (behindAll .bytes)) 80 .1 (rw same-text (one .description .1)),
+                    (
+                      and-both-ways (follows (lastId rs) (value id) && ownTag (value id) tag) (not (hasTag tag rs)) .1 (
+                        and-both-ways (follows (lastId rs) (value id)) (ownTag (value id) tag) .1
+                            (rw same-id (in-order-next row more (t .in-order)), rw same-id (carries-own tag row (sym same-tag) own)),
                         not-is (hasTag tag rs) (has-tag-alike tag) .1
-                        (rw same-tag (differ-map-next (λ (r : RowLine). r .first) rows row more (t .tags-differ)))),
-                      (next-room row more few, tt)))))))
+                            (rw same-tag (differ-map-next (λ (r : RowLine). r .first) rows row more (t .tags-differ))),
+                      ),
+                      (next-room row more few, tt),
+                    ),
+                  ),
+                ),
+              ),
+            ),
+          )
           (goes-on _ (record { id = same-id; text = same-tag }))
 
       pub row-grants : (n : ℕ) → RowsFit n (rows ++ (row ∷ more)) → Through K used (next f (rowOf n rs line))

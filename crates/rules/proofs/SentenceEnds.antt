@@ -71,11 +71,12 @@ SideThere ns s = ((s .parent ≡ 0) ⊎ In (s .parent) ns) × Each (λ (q : ℕ)
 module _ (ps : List Node) where
   parented-there : (n : Node) → parented ps n ≡ true → SideThere (numbersOfNodes ps) (sideOf n)
   parented-there n h =
-      let b = and-both-ways (eqb (n .parent) 0 || listed ps (n .parent)) (every (λ (e : Edge). listed ps (e .parent)) (n .secondary)) .0 h in
-      (either (or-both-ways (eqb (n .parent) 0) (listed ps (n .parent)) .0 (b .0)),
+      let b = and-both-ways (eqb (n .parent) 0 || listed ps (n .parent)) (every (λ (e : Edge). listed ps (e .parent)) (n .secondary)) .0 h in (
+        either (or-both-ways (eqb (n .parent) 0) (listed ps (n .parent)) .0 (b .0)),
         each-map (λ (e : Edge). e .parent) (λ (q : ℕ). In q (numbersOfNodes ps)) (n .secondary)
-        (each-then (λ (e : Edge). listed ps (e .parent) ≡ true) (λ (e : Edge). In (e .parent) (numbersOfNodes ps)) (λ e k. is-listed ps (e .parent) .0 k)
-        (n .secondary) (every-each (λ (e : Edge). listed ps (e .parent)) (n .secondary) (b .1))))
+            (each-then (λ (e : Edge). listed ps (e .parent) ≡ true) (λ (e : Edge). In (e .parent) (numbersOfNodes ps)) (λ e k. is-listed ps (e .parent) .0 k)
+            (n .secondary) (every-each (λ (e : Edge). listed ps (e .parent)) (n .secondary) (b .1))),
+      )
     where
       either : (eqb (n .parent) 0 ≡ true) ⊎ (listed ps (n .parent) ≡ true) → (n .parent ≡ 0) ⊎ In (n .parent) (numbersOfNodes ps)
       either (inl e) = inl (eqb-true (n .parent) 0 e)
@@ -83,11 +84,12 @@ module _ (ps : List Node) where
 
   there-parented : (n : Node) → SideThere (numbersOfNodes ps) (sideOf n) → parented ps n ≡ true
   there-parented n h =
-      and-both-ways (eqb (n .parent) 0 || listed ps (n .parent)) (every (λ (e : Edge). listed ps (e .parent)) (n .secondary)) .1
-      (or-both-ways (eqb (n .parent) 0) (listed ps (n .parent)) .1 (either (h .0)),
+      and-both-ways (eqb (n .parent) 0 || listed ps (n .parent)) (every (λ (e : Edge). listed ps (e .parent)) (n .secondary)) .1 (
+        or-both-ways (eqb (n .parent) 0) (listed ps (n .parent)) .1 (either (h .0)),
         each-every (λ (e : Edge). listed ps (e .parent)) (n .secondary)
-        (each-then (λ (e : Edge). In (e .parent) (numbersOfNodes ps)) (λ (e : Edge). listed ps (e .parent) ≡ true) (λ e k. is-listed ps (e .parent) .1 k)
-        (n .secondary) (each-mapped (λ (e : Edge). e .parent) (λ (q : ℕ). In q (numbersOfNodes ps)) (n .secondary) (h .1))))
+            (each-then (λ (e : Edge). In (e .parent) (numbersOfNodes ps)) (λ (e : Edge). listed ps (e .parent) ≡ true) (λ e k. is-listed ps (e .parent) .1 k)
+            (n .secondary) (each-mapped (λ (e : Edge). e .parent) (λ (q : ℕ). In q (numbersOfNodes ps)) (n .secondary) (h .1))),
+      )
     where
       either : (n .parent ≡ 0) ⊎ In (n .parent) (numbersOfNodes ps) → (eqb (n .parent) 0 ≡ true) ⊎ (listed ps (n .parent) ≡ true)
       either (inl e) = inl (eq-eqb (n .parent) 0 e)
@@ -157,11 +159,11 @@ module _ (s : Sentence) (itself : ℕ) (words : List NodeLine) (phrases : List P
         let P : Node → Type 0 = λ (n : Node). parented (s .phrases) n ≡ true in
         record {
           eos =
-            record {
-              numberText = written (columns line) 1 .bytes;
-              columns = two-columns line (h .0 .0) ∙ ap (λ (x : List ℕ). x ∷ written (columns line) 1 .bytes ∷ []) q;
-              number-written = good-some o (h .0 .1 .0) ∙ ap some (eqb-true (value o) (s .heading .number) (h .0 .1 .1 .0) ∙ a .its-number);
-            };
+              record {
+                numberText = written (columns line) 1 .bytes;
+                columns = two-columns line (h .0 .0) ∙ ap (λ (x : List ℕ). x ∷ written (columns line) 1 .bytes ∷ []) q;
+                number-written = good-some o (h .0 .1 .0) ∙ ap some (eqb-true (value o) (s .heading .number) (h .0 .1 .1 .0) ∙ a .its-number);
+              };
           no-gap = λ n l u. given-before n .0 (every-counted (listed (s .phrases)) 500 (length (s .phrases)) (h .0 .1 .1 .1 .0) n l (omega (arith, phrases-count)));
           of-words = parents-said (s .phrases) phrases (a .phrase-numbers) (s .words) words (a .word-sides) (each-every (parented (s .phrases)) (s .words) (each-front P (s .words) (s .phrases) both));
           of-phrases = parents-said (s .phrases) phrases (a .phrase-numbers) (s .phrases) (nodesOf phrases) (a .phrase-sides) (each-every (parented (s .phrases)) (s .phrases) (each-back P (s .words) (s .phrases) both));
@@ -174,14 +176,23 @@ module _ (s : Sentence) (itself : ℕ) (words : List NodeLine) (phrases : List P
         let o = number sentenceNumber (written (columns line) 1 .bytes) in
         let is : o ≡ some itself = ap (number sentenceNumber) (name-second line (bytes "#EOS") (t .numberText) (t .columns)) ∙ t .number-written in
         let P : Node → Type 0 = λ (n : Node). parented (s .phrases) n ≡ true in
-        held-through K used f _ _
-        (eq-eqb (length (columns line)) 2 (columns-two line (bytes "#EOS") (t .numberText) (t .columns)),
-          (some-good o itself is,
-            (eq-eqb (value o) (s .heading .number) (some-value o itself is ∙ sym (a .its-number)),
-              (counted-every (listed (s .phrases)) 500 (length (s .phrases)) (λ n l u. given-before n .1 (no-gap n l (omega (arith, phrases-count)))),
-                (each-every (parented (s .phrases)) (s .words ++ s .phrases)
-                  (each-joined P (s .words) (s .phrases)
-                  (every-each (parented (s .phrases)) (s .words) (said-parents (s .phrases) phrases (a .phrase-numbers) (s .words) words (a .word-sides) of-words))
-                  (every-each (parented (s .phrases)) (s .phrases) (said-parents (s .phrases) phrases (a .phrase-numbers) (s .phrases) (nodesOf phrases) (a .phrase-sides) of-phrases))),
-                  tt)))))
+        held-through K used f _ _ (
+          eq-eqb (length (columns line)) 2 (columns-two line (bytes "#EOS") (t .numberText) (t .columns)),
+          (
+            some-good o itself is,
+            (
+              eq-eqb (value o) (s .heading .number) (some-value o itself is ∙ sym (a .its-number)),
+              (
+                counted-every (listed (s .phrases)) 500 (length (s .phrases)) (λ n l u. given-before n .1 (no-gap n l (omega (arith, phrases-count)))),
+                (
+                  each-every (parented (s .phrases)) (s .words ++ s .phrases)
+                      (each-joined P (s .words) (s .phrases)
+                      (every-each (parented (s .phrases)) (s .words) (said-parents (s .phrases) phrases (a .phrase-numbers) (s .words) words (a .word-sides) of-words))
+                      (every-each (parented (s .phrases)) (s .phrases) (said-parents (s .phrases) phrases (a .phrase-numbers) (s .phrases) (nodesOf phrases) (a .phrase-sides) of-phrases))),
+                  tt,
+                ),
+              ),
+            ),
+          ),
+        )
         goes-on

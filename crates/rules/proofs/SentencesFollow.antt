@@ -59,7 +59,7 @@ module _ (p : Preamble) (ts : List TableLines) (stand : Stand (p .tables) ts) (u
     unfolding lineAt amongNodes
     taken-phrase h t = rw (false-if-never (reads (bytes "#EOS") first) (phrase-no-end first h), h) t
 
-    taken-end : reads (bytes "#EOS") first ≡ true → Through K used (next (hand p) (endOf s line)) → Through K used (lineAt (inSentence p s) used line first)
+    pub taken-end : reads (bytes "#EOS") first ≡ true → Through K used (next (hand p) (endOf s line)) → Through K used (lineAt (inSentence p s) used line first)
     unfolding lineAt amongNodes
     taken-end h t = rw h t
 
@@ -71,24 +71,24 @@ module _ (p : Preamble) (ts : List TableLines) (stand : Stand (p .tables) ts) (u
       let ls = nodeLines rest ++ tail in
       let again = append-assoc words (w ∷ []) rest in
       one-line (w .line) ls (inSentence p s) used (λ line e st.
-        let at-first : firstColumn line .bytes ≡ w .first = starts-first line st ∙ ap (columnAt 0) e ∙ front-first (w .line) (w .first) _ (f .0 .node .columns) in
-        taken-word (Follows ls) line s (subst WordStart (sym at-first) (f .0 .word))
-        (subst (λ (xs : List ℕ). 1 ≤ length xs) (sym (starts-first line st)) (first-given (line .bytes) st))
-        (word-grants (p .tables) ts stand (Follows ls) used line (edgesOf s) (length (s .words)) (empty (s .phrases)) (withWord line (firstColumn line) p s) w (sym e) (f .0)
-          (none-empty (s .phrases) (a .phrase-numbers))
-          (omega (arith, few, words-count s itself words [] a, length-append words (w ∷ rest)))
-          (omega (arith, room, edges-both s itself words [] a, edges-split words w rest))
-          (λ r same.
-            words-follow rest (words ++ (w ∷ [])) (record { heading = s .heading; words = s .words ++ (r ∷ []); phrases = s .phrases })
-            (record {
-              its-number = a .its-number;
-              word-sides = maps-more sideOf sideSaid (s .words) words r w (a .word-sides) same;
-              phrase-sides = a .phrase-sides;
-              phrase-numbers = a .phrase-numbers;
-            })
-            (f .1) (subst (λ (ws : List NodeLine). length ws ≤ wordLimit) (sym again) few)
-            (subst (λ (ws : List NodeLine). length (secondaryEdges ws) ≤ edgeLimit) (sym again) room)
-            (λ s' b. k s' (subst (λ (ws : List NodeLine). SentenceAlike s' itself ws []) again b)))))
+      let at-first : firstColumn line .bytes ≡ w .first = starts-first line st ∙ ap (columnAt 0) e ∙ front-first (w .line) (w .first) _ (f .0 .node .columns) in
+      taken-word (Follows ls) line s (subst WordStart (sym at-first) (f .0 .word))
+      (subst (λ (xs : List ℕ). 1 ≤ length xs) (sym (starts-first line st)) (first-given (line .bytes) st))
+      (word-grants (p .tables) ts stand (Follows ls) used line (edgesOf s) (length (s .words)) (empty (s .phrases)) (withWord line (firstColumn line) p s) w (sym e) (f .0)
+      (none-empty (s .phrases) (a .phrase-numbers))
+      (omega (arith, few, words-count s itself words [] a, length-append words (w ∷ rest)))
+      (omega (arith, room, edges-both s itself words [] a, edges-split words w rest))
+      (λ r same.
+      words-follow rest (words ++ (w ∷ [])) (record { heading = s .heading; words = s .words ++ (r ∷ []); phrases = s .phrases })
+      (record {
+        its-number = a .its-number;
+        word-sides = maps-more sideOf sideSaid (s .words) words r w (a .word-sides) same;
+        phrase-sides = a .phrase-sides;
+        phrase-numbers = a .phrase-numbers;
+      })
+      (f .1) (subst (λ (ws : List NodeLine). length ws ≤ wordLimit) (sym again) few)
+      (subst (λ (ws : List NodeLine). length (secondaryEdges ws) ≤ edgeLimit) (sym again) room)
+      (λ s' b. k s' (subst (λ (ws : List NodeLine). SentenceAlike s' itself ws []) again b)))))
 
   pub phrases-follow : (words : List NodeLine) (rest phrases : List PhraseLine) (s : Sentence) → SentenceAlike s itself words phrases → Each (PhraseFits ts) rest → Differ (numbersOf (phrases ++ rest))
       → length (secondaryEdges words) + length (secondaryEdges (nodesOf (phrases ++ rest))) ≤ edgeLimit
@@ -99,20 +99,20 @@ module _ (p : Preamble) (ts : List TableLines) (stand : Stand (p .tables) ts) (u
       let again = append-assoc phrases (q ∷ []) rest in
       let nodes : nodesOf (phrases ++ (q ∷ rest)) ≡ nodesOf phrases ++ (q .node ∷ nodesOf rest) = map-joined (λ (p : PhraseLine). p .node) phrases (q ∷ rest) in
       one-line (q .node .line) ls (inSentence p s) used (λ line e st.
-        let at-first : firstColumn line .bytes ≡ q .node .first = starts-first line st ∙ ap (columnAt 0) e ∙ front-first (q .node .line) (q .node .first) _ (f .0 .node .columns) in
-        taken-phrase (Follows ls) line s
-        (sign-phrase (firstColumn line .bytes) (f .0 .digits) (at-first ∙ f .0 .sign) (number-digits phraseNumber (f .0 .digits) (q .number) (f .0 .number-written)))
-        (phrase-grants (p .tables) ts stand (Follows ls) used line (edgesOf s) (listed (s .phrases)) (withPhrase line (firstColumn line) p s) q (sym e) (f .0)
-          (λ h. differ-map-next (λ (p : PhraseLine). p .number) phrases q rest d (given-before s itself words phrases a (q .number) .0 h))
-          (omega (arith, room, edges-both s itself words phrases a, ap (λ (ns : List NodeLine). length (secondaryEdges ns)) nodes, edges-split (nodesOf phrases) (q .node) (nodesOf rest)))
-          (λ r same same-number.
-            phrases-follow words rest (phrases ++ (q ∷ [])) (record { heading = s .heading; words = s .words; phrases = s .phrases ++ (r ∷ []) })
-            (record {
-              its-number = a .its-number;
-              word-sides = a .word-sides;
-              phrase-sides = maps-more sideOf sideSaid (s .phrases) (nodesOf phrases) r (q .node) (a .phrase-sides) same ∙ ap (map sideSaid) (sym (nodes-more phrases q));
-              phrase-numbers = maps-more (λ (n : Node). n .number) (λ (p : PhraseLine). p .number) (s .phrases) phrases r q (a .phrase-numbers) same-number;
-            })
-            (f .1) (subst (λ (ps : List PhraseLine). Differ (numbersOf ps)) (sym again) d)
-            (subst (λ (ps : List PhraseLine). length (secondaryEdges words) + length (secondaryEdges (nodesOf ps)) ≤ edgeLimit) (sym again) room)
-            (λ s' b. k s' (subst (SentenceAlike s' itself words) again b)))))
+      let at-first : firstColumn line .bytes ≡ q .node .first = starts-first line st ∙ ap (columnAt 0) e ∙ front-first (q .node .line) (q .node .first) _ (f .0 .node .columns) in
+      taken-phrase (Follows ls) line s
+      (sign-phrase (firstColumn line .bytes) (f .0 .digits) (at-first ∙ f .0 .sign) (number-digits phraseNumber (f .0 .digits) (q .number) (f .0 .number-written)))
+      (phrase-grants (p .tables) ts stand (Follows ls) used line (edgesOf s) (listed (s .phrases)) (withPhrase line (firstColumn line) p s) q (sym e) (f .0)
+      (λ h. differ-map-next (λ (p : PhraseLine). p .number) phrases q rest d (given-before s itself words phrases a (q .number) .0 h))
+      (omega (arith, room, edges-both s itself words phrases a, ap (λ (ns : List NodeLine). length (secondaryEdges ns)) nodes, edges-split (nodesOf phrases) (q .node) (nodesOf rest)))
+      (λ r same same-number.
+      phrases-follow words rest (phrases ++ (q ∷ [])) (record { heading = s .heading; words = s .words; phrases = s .phrases ++ (r ∷ []) })
+      (record {
+        its-number = a .its-number;
+        word-sides = a .word-sides;
+        phrase-sides = maps-more sideOf sideSaid (s .phrases) (nodesOf phrases) r (q .node) (a .phrase-sides) same ∙ ap (map sideSaid) (sym (nodes-more phrases q));
+        phrase-numbers = maps-more (λ (n : Node). n .number) (λ (p : PhraseLine). p .number) (s .phrases) phrases r q (a .phrase-numbers) same-number;
+      })
+      (f .1) (subst (λ (ps : List PhraseLine). Differ (numbersOf ps)) (sym again) d)
+      (subst (λ (ps : List PhraseLine). length (secondaryEdges words) + length (secondaryEdges (nodesOf ps)) ≤ edgeLimit) (sym again) room)
+      (λ s' b. k s' (subst (SentenceAlike s' itself words) again b)))))

@@ -64,40 +64,40 @@ module _ (K : Phase → List ℕ → Type 0) (used : List ℕ) (done : List (Lis
       let o = end-granted s (r .head .number) (r .words) (r .phrases) (r .alike) K used line (hand p) (k .1) g in
       let t : SentenceLines = record { head = r .head; words = r .words; phrases = r .phrases; eos = line .bytes } in
       let whole : SentenceFits tables t =
-        record {
-          begins = r .head-fits;
-          each-word = r .each-word;
-          each-phrase = r .each-phrase;
-          words-at-most = r .words-at-most;
-          edges-at-most = r .edges-at-most;
-          ends = o .eos;
-          numbered = record { differ = r .numbers-differ; no-gap = o .no-gap };
-          parents-of-words = o .of-words;
-          parents-of-phrases = o .of-phrases;
-        } in
+      record {
+        begins = r .head-fits;
+        each-word = r .each-word;
+        each-phrase = r .each-phrase;
+        words-at-most = r .words-at-most;
+        edges-at-most = r .edges-at-most;
+        ends = o .eos;
+        numbered = record { differ = r .numbers-differ; no-gap = o .no-gap };
+        parents-of-words = o .of-words;
+        parents-of-phrases = o .of-phrases;
+      } in
       record {
         phase = behindSentence p;
         used-then = used ++ (s .heading .number ∷ []);
         was-read =
-          record {
-            prior =
-              record {
-                pre = r .prior .pre;
-                ss = r .prior .ss ++ (t ∷ []);
-                each = each-more (SentenceFits tables) (r .prior .ss) t (r .prior .each) whole;
-                differ = differ-map-more (λ (s : SentenceLines). s .head .number) (r .prior .ss) t (r .prior .differ) (r .new);
-                used-are =
-                  ap (λ (ns : List ℕ). ns ++ (s .heading .number ∷ [])) (r .prior .used-are)
-                  ∙ ap (λ (n : ℕ). sentenceNumbers (r .prior .ss) ++ (n ∷ [])) (r .alike .its-number)
-                  ∙ sym (map-joined (λ (s : SentenceLines). s .head .number) (r .prior .ss) (t ∷ []));
-              };
-            both = r .both;
-            lines =
-              ap (λ (ls : List (List ℕ)). ls ++ (line .bytes ∷ [])) (r .lines)
-              ∙ append-assoc (priorLines p used (r .prior)) (r .head .line ∷ nodeLines (r .words) ++ nodeLines (nodesOf (r .phrases))) (line .bytes ∷ [])
-              ∙ append-assoc (preLines (r .prior .pre .format) tables) (joined (map sentenceLines (r .prior .ss))) (sentenceLines t)
-              ∙ ap (λ (ls : List (List ℕ)). preLines (r .prior .pre .format) tables ++ ls) (sym (joined-more sentenceLines (r .prior .ss) t));
-          };
+            record {
+              prior =
+                  record {
+                    pre = r .prior .pre;
+                    ss = r .prior .ss ++ (t ∷ []);
+                    each = each-more (SentenceFits tables) (r .prior .ss) t (r .prior .each) whole;
+                    differ = differ-map-more (λ (s : SentenceLines). s .head .number) (r .prior .ss) t (r .prior .differ) (r .new);
+                    used-are =
+                        ap (λ (ns : List ℕ). ns ++ (s .heading .number ∷ [])) (r .prior .used-are)
+                        ∙ ap (λ (n : ℕ). sentenceNumbers (r .prior .ss) ++ (n ∷ [])) (r .alike .its-number)
+                        ∙ sym (map-joined (λ (s : SentenceLines). s .head .number) (r .prior .ss) (t ∷ []));
+                  };
+              both = r .both;
+              lines =
+                  ap (λ (ls : List (List ℕ)). ls ++ (line .bytes ∷ [])) (r .lines)
+                  ∙ append-assoc (priorLines p used (r .prior)) (r .head .line ∷ nodeLines (r .words) ++ nodeLines (nodesOf (r .phrases))) (line .bytes ∷ [])
+                  ∙ append-assoc (preLines (r .prior .pre .format) tables) (joined (map sentenceLines (r .prior .ss))) (sentenceLines t)
+                  ∙ ap (λ (ls : List (List ℕ)). preLines (r .prior .pre .format) tables ++ ls) (sym (joined-more sentenceLines (r .prior .ss) t));
+            };
         starts = k .0;
         kept = o .goes-on;
       }
@@ -115,44 +115,44 @@ module _ (K : Phase → List ℕ → Type 0) (used : List ℕ) (done : List (Lis
       let sign : o .phrase .node .first ≡ bytes "#" ++ drop 1 (o .phrase .node .first) = subst (λ (xs : List ℕ). xs ≡ bytes "#" ++ drop 1 xs) first (phrase-sign (firstColumn line .bytes) e) in
       let more = nodes-more (r .phrases) (o .phrase) in
       let counted : length (secondaryEdges (nodesOf (r .phrases ++ (o .phrase ∷ [])))) ≡ length (secondaryEdges (nodesOf (r .phrases))) + length (o .phrase .node .secondary) =
-        ap (λ (ns : List NodeLine). length (secondaryEdges ns)) more ∙ edges-more (nodesOf (r .phrases)) (o .phrase .node) in
+      ap (λ (ns : List NodeLine). length (secondaryEdges ns)) more ∙ edges-more (nodesOf (r .phrases)) (o .phrase .node) in
       record {
         phase = inSentence p (record { heading = s .heading; words = s .words; phrases = s .phrases ++ (o .read-as ∷ []) });
         used-then = used;
         was-read =
-          record {
-            prior = r .prior;
-            both = r .both;
-            head = r .head;
-            words = r .words;
-            phrases = r .phrases ++ (o .phrase ∷ []);
-            head-fits = r .head-fits;
-            new = r .new;
-            each-word = r .each-word;
-            each-phrase = each-more (PhraseFits tables) (r .phrases) (o .phrase) (r .each-phrase) (o .fit sign);
-            words-at-most = r .words-at-most;
-            edges-at-most = omega (arith, o .room, counted, edges-both s (r .head .number) (r .words) (r .phrases) a);
-            numbers-differ =
-              differ-map-more (λ (p : PhraseLine). p .number) (r .phrases) (o .phrase) (r .numbers-differ)
-              (λ i. o .new (given-before s (r .head .number) (r .words) (r .phrases) a (o .phrase .number) .1 i));
-            alike =
-              record {
-                its-number = a .its-number;
-                word-sides = a .word-sides;
-                phrase-sides =
-                  maps-more sideOf sideSaid (s .phrases) (nodesOf (r .phrases)) (o .read-as) (o .phrase .node) (a .phrase-sides) (o .same) ∙ ap (map sideSaid) (sym more);
-                phrase-numbers =
-                  maps-more (λ (n : Node). n .number) (λ (p : PhraseLine). p .number) (s .phrases) (r .phrases) (o .read-as) (o .phrase) (a .phrase-numbers) (o .same-number);
-              };
-            lines =
-              ap (λ (ls : List (List ℕ)). ls ++ (line .bytes ∷ [])) (r .lines)
-              ∙ append-assoc (priorLines p used (r .prior)) (r .head .line ∷ nodeLines (r .words) ++ nodeLines (nodesOf (r .phrases))) (line .bytes ∷ [])
-              ∙ ap (λ (ls : List (List ℕ)). priorLines p used (r .prior) ++ ls)
-              (append-assoc (r .head .line ∷ nodeLines (r .words)) (nodeLines (nodesOf (r .phrases))) (line .bytes ∷ [])
-              ∙ ap (λ (l : List ℕ). r .head .line ∷ nodeLines (r .words) ++ (nodeLines (nodesOf (r .phrases)) ++ (l ∷ []))) (sym (o .its-line))
-              ∙ ap (λ (ls : List (List ℕ)). r .head .line ∷ nodeLines (r .words) ++ ls)
-              (sym (map-joined (λ (n : NodeLine). n .line) (nodesOf (r .phrases)) (o .phrase .node ∷ [])) ∙ ap nodeLines (sym more)));
-          };
+            record {
+              prior = r .prior;
+              both = r .both;
+              head = r .head;
+              words = r .words;
+              phrases = r .phrases ++ (o .phrase ∷ []);
+              head-fits = r .head-fits;
+              new = r .new;
+              each-word = r .each-word;
+              each-phrase = each-more (PhraseFits tables) (r .phrases) (o .phrase) (r .each-phrase) (o .fit sign);
+              words-at-most = r .words-at-most;
+              edges-at-most = omega (arith, o .room, counted, edges-both s (r .head .number) (r .words) (r .phrases) a);
+              numbers-differ =
+                  differ-map-more (λ (p : PhraseLine). p .number) (r .phrases) (o .phrase) (r .numbers-differ)
+                  (λ i. o .new (given-before s (r .head .number) (r .words) (r .phrases) a (o .phrase .number) .1 i));
+              alike =
+                  record {
+                    its-number = a .its-number;
+                    word-sides = a .word-sides;
+                    phrase-sides =
+                        maps-more sideOf sideSaid (s .phrases) (nodesOf (r .phrases)) (o .read-as) (o .phrase .node) (a .phrase-sides) (o .same) ∙ ap (map sideSaid) (sym more);
+                    phrase-numbers =
+                        maps-more (λ (n : Node). n .number) (λ (p : PhraseLine). p .number) (s .phrases) (r .phrases) (o .read-as) (o .phrase) (a .phrase-numbers) (o .same-number);
+                  };
+              lines =
+                  ap (λ (ls : List (List ℕ)). ls ++ (line .bytes ∷ [])) (r .lines)
+                  ∙ append-assoc (priorLines p used (r .prior)) (r .head .line ∷ nodeLines (r .words) ++ nodeLines (nodesOf (r .phrases))) (line .bytes ∷ [])
+                  ∙ ap (λ (ls : List (List ℕ)). priorLines p used (r .prior) ++ ls)
+                  (append-assoc (r .head .line ∷ nodeLines (r .words)) (nodeLines (nodesOf (r .phrases))) (line .bytes ∷ [])
+                  ∙ ap (λ (l : List ℕ). r .head .line ∷ nodeLines (r .words) ++ (nodeLines (nodesOf (r .phrases)) ++ (l ∷ []))) (sym (o .its-line))
+                  ∙ ap (λ (ls : List (List ℕ)). r .head .line ∷ nodeLines (r .words) ++ ls)
+                  (sym (map-joined (λ (n : NodeLine). n .line) (nodesOf (r .phrases)) (o .phrase .node ∷ [])) ∙ ap nodeLines (sym more)));
+            };
         starts = starts;
         kept = o .goes-on;
       }
@@ -175,32 +175,32 @@ module _ (K : Phase → List ℕ → Type 0) (used : List ℕ) (done : List (Lis
         phase = inSentence p (record { heading = s .heading; words = s .words ++ (o .read-as ∷ []); phrases = s .phrases });
         used-then = used;
         was-read =
-          record {
-            prior = r .prior;
-            both = r .both;
-            head = r .head;
-            words = r .words ++ (o .node ∷ []);
-            phrases = r .phrases;
-            head-fits = r .head-fits;
-            new = r .new;
-            each-word = each-more (WordFits tables) (r .words) (o .node) (r .each-word) (o .fit (subst WordStart first (starts-word (firstColumn line) e)));
-            each-phrase = r .each-phrase;
-            words-at-most = omega (arith, o .few, words-count s (r .head .number) (r .words) (r .phrases) a, length-append (r .words) (o .node ∷ []));
-            edges-at-most = omega (arith, o .room, edges-more (r .words) (o .node), edges-both s (r .head .number) (r .words) (r .phrases) a);
-            numbers-differ = r .numbers-differ;
-            alike =
-              record {
-                its-number = a .its-number;
-                word-sides = maps-more sideOf sideSaid (s .words) (r .words) (o .read-as) (o .node) (a .word-sides) (o .same);
-                phrase-sides = a .phrase-sides;
-                phrase-numbers = a .phrase-numbers;
-              };
-            lines =
-              ap (λ (ls : List (List ℕ)). ls ++ (line .bytes ∷ [])) (r .lines)
-              ∙ word-lines (priorLines p used (r .prior)) (nodeLines (r .words)) (nodeLines (nodesOf (r .phrases))) (line .bytes) (r .head .line) (ap (λ (ps : List PhraseLine). nodeLines (nodesOf ps)) none-yet)
-              ∙ ap (λ (ls : List (List ℕ)). priorLines p used (r .prior) ++ (r .head .line ∷ ls ++ nodeLines (nodesOf (r .phrases))))
-              (ap (λ (l : List ℕ). nodeLines (r .words) ++ (l ∷ [])) (sym (o .its-line)) ∙ sym (map-joined (λ (n : NodeLine). n .line) (r .words) (o .node ∷ [])));
-          };
+            record {
+              prior = r .prior;
+              both = r .both;
+              head = r .head;
+              words = r .words ++ (o .node ∷ []);
+              phrases = r .phrases;
+              head-fits = r .head-fits;
+              new = r .new;
+              each-word = each-more (WordFits tables) (r .words) (o .node) (r .each-word) (o .fit (subst WordStart first (starts-word (firstColumn line) e)));
+              each-phrase = r .each-phrase;
+              words-at-most = omega (arith, o .few, words-count s (r .head .number) (r .words) (r .phrases) a, length-append (r .words) (o .node ∷ []));
+              edges-at-most = omega (arith, o .room, edges-more (r .words) (o .node), edges-both s (r .head .number) (r .words) (r .phrases) a);
+              numbers-differ = r .numbers-differ;
+              alike =
+                  record {
+                    its-number = a .its-number;
+                    word-sides = maps-more sideOf sideSaid (s .words) (r .words) (o .read-as) (o .node) (a .word-sides) (o .same);
+                    phrase-sides = a .phrase-sides;
+                    phrase-numbers = a .phrase-numbers;
+                  };
+              lines =
+                  ap (λ (ls : List (List ℕ)). ls ++ (line .bytes ∷ [])) (r .lines)
+                  ∙ word-lines (priorLines p used (r .prior)) (nodeLines (r .words)) (nodeLines (nodesOf (r .phrases))) (line .bytes) (r .head .line) (ap (λ (ps : List PhraseLine). nodeLines (nodesOf ps)) none-yet)
+                  ∙ ap (λ (ls : List (List ℕ)). priorLines p used (r .prior) ++ (r .head .line ∷ ls ++ nodeLines (nodesOf (r .phrases))))
+                  (ap (λ (l : List ℕ). nodeLines (r .words) ++ (l ∷ [])) (sym (o .its-line)) ∙ sym (map-joined (λ (n : NodeLine). n .line) (r .words) (o .node ∷ [])));
+            };
         starts = starts;
         kept = o .goes-on;
       }

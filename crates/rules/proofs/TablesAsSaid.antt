@@ -84,9 +84,10 @@ module _ (T : Tables) (ts : List TableLines) (s : Stand T ts) where
         either (inr (inr i)) = absurd i
 
     slot-same : (w : ℕ) → w ≡ t .which → Slot (some rs) w (ts ++ (t ∷ []))
-    slot-same w e =
-        (subst (λ (w : ℕ). In w (whiches (ts ++ (t ∷ [])))) (sym e) (in-map (λ (t : TableLines). t .which) t (ts ++ (t ∷ [])) (in-last t ts)),
-          λ u i q. either u q (in-either u ts (t ∷ []) i))
+    slot-same w e = (
+      subst (λ (w : ℕ). In w (whiches (ts ++ (t ∷ [])))) (sym e) (in-map (λ (t : TableLines). t .which) t (ts ++ (t ∷ [])) (in-last t ts)),
+      λ u i q. either u q (in-either u ts (t ∷ []) i),
+    )
       where
         either : (u : TableLines) → u .which ≡ w → In u ts ⊎ In u (t ∷ []) → Alike rs (u .rows)
         either u q (inl i) = absurd (new (subst (λ (w : ℕ). In w (whiches ts)) (q ∙ e) (in-map (λ (t : TableLines). t .which) u ts i)))
@@ -99,9 +100,10 @@ module _ (T : Tables) (ts : List TableLines) (s : Stand T ts) where
         either : In w (whiches ts) ⊎ (w ≡ t .which) → ⊥
         either (inl i) = k i
         either (inr e) = n e
-    slot-other w (some qs) n k =
-        (rw (map-joined (λ (t : TableLines). t .which) ts (t ∷ [])) (in-front w (whiches ts) (t .which ∷ []) (k .0)),
-          λ u i q. either u q (in-either u ts (t ∷ []) i))
+    slot-other w (some qs) n k = (
+      rw (map-joined (λ (t : TableLines). t .which) ts (t ∷ [])) (in-front w (whiches ts) (t .which ∷ []) (k .0)),
+      λ u i q. either u q (in-either u ts (t ∷ []) i),
+    )
       where
         either : (u : TableLines) → u .which ≡ w → In u ts ⊎ In u (t ∷ []) → Alike qs (u .rows)
         either u q (inl i) = k .1 u i q
@@ -115,7 +117,7 @@ module _ (T : Tables) (ts : List TableLines) (s : Stand T ts) where
         by w (inl e) =
             let q = eqb-true w (t .which) e in
             let at : table w (closed (t .which) rs T) ≡ some rs =
-              ap (λ (w : ℕ). getD (set T (t .which) (some rs)) w none) q ∙ getD-set-same T (t .which) (some rs) none (omega (arith, s .seven)) in
+            ap (λ (w : ℕ). getD (set T (t .which) (some rs)) w none) q ∙ getD-set-same T (t .which) (some rs) none (omega (arith, s .seven)) in
             subst (λ (o : Option (List Row)). Slot o w (ts ++ (t ∷ []))) (sym at) (slot-same w q)
         by w (inr e) =
             let n = eqb-false w (t .which) e in
@@ -136,9 +138,10 @@ module _ (T : Tables) (ts : List TableLines) (s : Stand T ts) where
       by : (o : Option (List Row)) → Slot o w ts → (hasId i (rowsOf o) ≡ true) ↔ HasRow ts w i
       by none k =
           (λ e. absurd (has-id i [] .0 e), λ h. absurd (k (subst (λ (w : ℕ). In w (whiches ts)) (h .2) (in-map (λ (t : TableLines). t .which) (h .0) ts (h .1)))))
-      by (some rs) k =
-          (λ e. let t = in-mapped (λ (t : TableLines). t .which) w ts (k .0) in (t .0, t .1, t .2, subst (In i) (k .1 (t .0) (t .1) (t .2) .ids) (has-id i rs .0 e)),
-            λ h. has-id i rs .1 (subst (In i) (sym (k .1 (h .0) (h .1) (h .2) .ids)) (h .3)))
+      by (some rs) k = (
+        λ e. let t = in-mapped (λ (t : TableLines). t .which) w ts (k .0) in (t .0, t .1, t .2, subst (In i) (k .1 (t .0) (t .1) (t .2) .ids) (has-id i rs .0 e)),
+        λ h. has-id i rs .1 (subst (In i) (sym (k .1 (h .0) (h .1) (h .2) .ids)) (h .3)),
+      )
 
   pub known-is : (w : ℕ) (t : Text) → (known T w t ≡ true) ↔ Known ts w (t .bytes)
   unfolding known
@@ -158,9 +161,10 @@ module _ (T : Tables) (ts : List TableLines) (s : Stand T ts) where
           or-both-ways (reserved t) tested .1 (inl (or-both-ways (reads dashes t) (reads unknown t) .1 (inr (reads-are unknown t .1 u))))
 
       by : (o : Option (List Row)) → Slot o w ts → ((reserved t || not (there o) || hasTag t (rowsOf o)) ≡ true) ↔ Known ts w (t .bytes)
-      by none k =
-          (λ e. inr (inr (λ u i q. absurd (k (subst (λ (w : ℕ). In w (whiches ts)) q (in-map (λ (t : TableLines). t .which) u ts i))))),
-            λ n. or-both-ways (reserved t || true) (hasTag t []) .1 (inl (or-both-ways (reserved t) true .1 (inr refl))))
+      by none k = (
+        λ e. inr (inr (λ u i q. absurd (k (subst (λ (w : ℕ). In w (whiches ts)) q (in-map (λ (t : TableLines). t .which) u ts i))))),
+        λ n. or-both-ways (reserved t || true) (hasTag t []) .1 (inl (or-both-ways (reserved t) true .1 (inr refl))),
+      )
       by (some rs) k = (λ e. there-known (or-both-ways (reserved t || false) (hasTag t rs) .0 e), λ n. known-there n)
         where
           there-known : ((reserved t || false) ≡ true) ⊎ (hasTag t rs ≡ true) → Known ts w (t .bytes)

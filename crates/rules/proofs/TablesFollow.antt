@@ -52,10 +52,10 @@ pub format-follows : (l : List ℕ) (ls : List (List ℕ)) → FormatFits l → 
 unfolding lineAt atStart
 format-follows l ls t k =
     one-line l ls start [] (λ line e s.
-      let f = subst FormatFits (sym e) t in
-      subst (λ (b : Bool). Through (Follows ls) [] (pick b (next (λ n. go (top (record { format = n; tables = noTables }))) (formatOf line)) (cannotStand line)))
-      (sym (keyword-reads line (bytes "#FORMAT") s (keyword-first line (bytes "#FORMAT") (f .numberText) (f .columns))))
-      (format-grants (Follows ls) [] line (λ n. go (top (record { format = n; tables = noTables }))) f (λ n. k (record { format = n; tables = noTables }) refl)))
+    let f = subst FormatFits (sym e) t in
+    subst (λ (b : Bool). Through (Follows ls) [] (pick b (next (λ n. go (top (record { format = n; tables = noTables }))) (formatOf line)) (cannotStand line)))
+    (sym (keyword-reads line (bytes "#FORMAT") s (keyword-first line (bytes "#FORMAT") (f .numberText) (f .columns))))
+    (format-grants (Follows ls) [] line (λ n. go (top (record { format = n; tables = noTables }))) f (λ n. k (record { format = n; tables = noTables }) refl)))
 
 -- ---- rows
 
@@ -77,20 +77,20 @@ module _ (p : Preamble) (n : ℕ) (tail : List (List ℕ)) where
   rows-follow [] rows rs a f k = k rs (subst (Alike rs) (sym (append-nil rows)) a)
   rows-follow (row ∷ rest) rows rs a f k =
       one-line (row .line) (rowLines rest ++ tail) (inTable p n rs) [] (λ line e s.
-        let first = starts-first line s ∙ ap (columnAt 0) e in
-        let starts : startsRow (firstColumn line) ≡ true = row-starts n rows row rest (firstColumn line) first f in
-        let no-end : reads (bytes "#EOT") (firstColumn line) ≡ false = false-if-never (reads (bytes "#EOT") (firstColumn line)) (row-no-keyword (firstColumn line) (bytes "#EOT") starts refl) in
-        subst (λ (b : Bool). Through (Follows (rowLines rest ++ tail)) []
-          (pick b (next (λ m. withTable line (firstColumn line) p m rs) (tableEnded n line))
-          (pick (startsRow (firstColumn line)) (next (withRow line (firstColumn line) p n rs) (rowOf n rs line)) (cannotStand line))))
-        (sym no-end)
-        (subst (λ (b : Bool). Through (Follows (rowLines rest ++ tail)) [] (pick b (next (withRow line (firstColumn line) p n rs) (rowOf n rs line)) (cannotStand line)))
-        (sym starts)
-        (row-grants rs rows a (Follows (rowLines rest ++ tail)) [] (withRow line (firstColumn line) p n rs) line row rest (sym e) (f .at-most)
-          (λ r alike.
-            rows-follow rest (rows ++ (row ∷ [])) (rs ++ (r ∷ [])) (alike-more rs rows r row a alike) (subst (RowsFit n) (sym (append-assoc rows (row ∷ []) rest)) f)
-            (λ rs' b. k rs' (subst (Alike rs') (append-assoc rows (row ∷ []) rest) b)))
-          n f)))
+      let first = starts-first line s ∙ ap (columnAt 0) e in
+      let starts : startsRow (firstColumn line) ≡ true = row-starts n rows row rest (firstColumn line) first f in
+      let no-end : reads (bytes "#EOT") (firstColumn line) ≡ false = false-if-never (reads (bytes "#EOT") (firstColumn line)) (row-no-keyword (firstColumn line) (bytes "#EOT") starts refl) in
+      subst (λ (b : Bool). Through (Follows (rowLines rest ++ tail)) []
+      (pick b (next (λ m. withTable line (firstColumn line) p m rs) (tableEnded n line))
+      (pick (startsRow (firstColumn line)) (next (withRow line (firstColumn line) p n rs) (rowOf n rs line)) (cannotStand line))))
+      (sym no-end)
+      (subst (λ (b : Bool). Through (Follows (rowLines rest ++ tail)) [] (pick b (next (withRow line (firstColumn line) p n rs) (rowOf n rs line)) (cannotStand line)))
+      (sym starts)
+      (row-grants rs rows a (Follows (rowLines rest ++ tail)) [] (withRow line (firstColumn line) p n rs) line row rest (sym e) (f .at-most)
+      (λ r alike.
+      rows-follow rest (rows ++ (row ∷ [])) (rs ++ (r ∷ [])) (alike-more rs rows r row a alike) (subst (RowsFit n) (sym (append-assoc rows (row ∷ []) rest)) f)
+      (λ rs' b. k rs' (subst (Alike rs') (append-assoc rows (row ∷ []) rest) b)))
+      n f)))
 
 -- ---- tables
 
@@ -109,21 +109,21 @@ module _ (tail : List (List ℕ)) where
       subst (λ (ls : List (List ℕ)). Follows ls (top p) [])
       (sym (append-assoc (tableLines t) (joined (map tableLines rest)) tail ∙ append-assoc (t .bot ∷ rowLines (t .rows)) (t .eot ∷ []) behindTable))
       (one-line (t .bot) (rowLines (t .rows) ++ (t .eot ∷ behindTable)) (top p) [] (λ line e st.
-        let names : Names (bytes "#BOT") n (line .bytes) = subst (Names (bytes "#BOT") n) (sym e) bot-name in
-        subst (λ (b : Bool). Through (Follows (rowLines (t .rows) ++ (t .eot ∷ behindTable))) []
-          (pick b (next (λ n. go (inTable p n [])) (tableOpened (p .tables) line)) (behindOne line (firstColumn line) p [])))
-        (sym (keyword-reads line (bytes "#BOT") st (keyword-first line (bytes "#BOT") (getD tableNames n []) names)))
-        (opened-grants (Follows (rowLines (t .rows) ++ (t .eot ∷ behindTable))) [] line (λ n. go (inTable p n [])) (p .tables) n (f .0 .one-of-seven) names
-          (λ h. no-table t ts rest d (is-there (p .tables) ts s n .0 h))
-          (rows-follow p n (t .eot ∷ behindTable) (t .rows) [] [] none-alike (f .0 .rows-fit) (λ rs a.
-            one-line (t .eot) behindTable (inTable p n rs) [] (λ line e st.
-              let names : Names (bytes "#EOT") n (line .bytes) = subst (Names (bytes "#EOT") n) (sym e) (f .0 .ends) in
-              subst (λ (b : Bool). Through (Follows behindTable) []
-                (pick b (next (λ m. withTable line (firstColumn line) p m rs) (tableEnded n line))
-                (pick (startsRow (firstColumn line)) (next (withRow line (firstColumn line) p n rs) (rowOf n rs line)) (cannotStand line))))
-              (sym (keyword-reads line (bytes "#EOT") st (keyword-first line (bytes "#EOT") (getD tableNames n []) names)))
-              (ended-grants (Follows behindTable) [] line (λ m. withTable line (firstColumn line) p m rs) n (f .0 .one-of-seven) names
-                (tables-follow rest (ts ++ (t ∷ [])) (record { format = p .format; tables = closed n rs (p .tables) })
-                  (stand-more (p .tables) ts s t rs (f .0 .one-of-seven) (no-table t ts rest d) a)
-                  (f .1) (subst (λ (us : List TableLines). Differ (whiches us)) (sym (append-assoc ts (t ∷ []) rest)) d)
-                  (λ q u. k q (subst (Stand (q .tables)) (append-assoc ts (t ∷ []) rest) u))))))))))
+      let names : Names (bytes "#BOT") n (line .bytes) = subst (Names (bytes "#BOT") n) (sym e) bot-name in
+      subst (λ (b : Bool). Through (Follows (rowLines (t .rows) ++ (t .eot ∷ behindTable))) []
+      (pick b (next (λ n. go (inTable p n [])) (tableOpened (p .tables) line)) (behindOne line (firstColumn line) p [])))
+      (sym (keyword-reads line (bytes "#BOT") st (keyword-first line (bytes "#BOT") (getD tableNames n []) names)))
+      (opened-grants (Follows (rowLines (t .rows) ++ (t .eot ∷ behindTable))) [] line (λ n. go (inTable p n [])) (p .tables) n (f .0 .one-of-seven) names
+      (λ h. no-table t ts rest d (is-there (p .tables) ts s n .0 h))
+      (rows-follow p n (t .eot ∷ behindTable) (t .rows) [] [] none-alike (f .0 .rows-fit) (λ rs a.
+      one-line (t .eot) behindTable (inTable p n rs) [] (λ line e st.
+      let names : Names (bytes "#EOT") n (line .bytes) = subst (Names (bytes "#EOT") n) (sym e) (f .0 .ends) in
+      subst (λ (b : Bool). Through (Follows behindTable) []
+      (pick b (next (λ m. withTable line (firstColumn line) p m rs) (tableEnded n line))
+      (pick (startsRow (firstColumn line)) (next (withRow line (firstColumn line) p n rs) (rowOf n rs line)) (cannotStand line))))
+      (sym (keyword-reads line (bytes "#EOT") st (keyword-first line (bytes "#EOT") (getD tableNames n []) names)))
+      (ended-grants (Follows behindTable) [] line (λ m. withTable line (firstColumn line) p m rs) n (f .0 .one-of-seven) names
+      (tables-follow rest (ts ++ (t ∷ [])) (record { format = p .format; tables = closed n rs (p .tables) })
+      (stand-more (p .tables) ts s t rs (f .0 .one-of-seven) (no-table t ts rest d) a)
+      (f .1) (subst (λ (us : List TableLines). Differ (whiches us)) (sym (append-assoc ts (t ∷ []) rest)) d)
+      (λ q u. k q (subst (Stand (q .tables)) (append-assoc ts (t ∷ []) rest) u))))))))))

@@ -68,9 +68,10 @@ has-id i rs = (any-in (eqb i) i (eqb-is i) (λ (r : Row). r .id1) rs, in-any (eq
 
 pub has-tag : (t : Text) (rs : List Row) → (hasTag t rs ≡ true) ↔ In (t .bytes) (firstsOf rs)
 unfolding hasTag
-has-tag t rs =
-    (any-in (same (t .bytes)) (t .bytes) (same-is (t .bytes)) (λ (r : Row). r .first .bytes) rs,
-      in-any (same (t .bytes)) (t .bytes) (same-is (t .bytes)) (λ (r : Row). r .first .bytes) rs)
+has-tag t rs = (
+  any-in (same (t .bytes)) (t .bytes) (same-is (t .bytes)) (λ (r : Row). r .first .bytes) rs,
+  in-any (same (t .bytes)) (t .bytes) (same-is (t .bytes)) (λ (r : Row). r .first .bytes) rs,
+)
 
 pub is-listed : (ps : List Node) (n : ℕ) → (listed ps n ≡ true) ↔ In n (numbersOfNodes ps)
 is-listed ps n =
@@ -81,9 +82,10 @@ map-self [] = refl
 map-self (x ∷ xs) = ap (λ (ys : List ℕ). x ∷ ys) (map-self xs)
 
 pub is-member : (n : ℕ) (xs : List ℕ) → (member n xs ≡ true) ↔ In n xs
-is-member n xs =
-    (λ e. rw (map-self xs) at (any-in (eqb n) n (eqb-is n) (λ (x : ℕ). x) xs e),
-      λ i. in-any (eqb n) n (eqb-is n) (λ (x : ℕ). x) xs (rw (map-self xs) i))
+is-member n xs = (
+  λ e. rw (map-self xs) at (any-in (eqb n) n (eqb-is n) (λ (x : ℕ). x) xs e),
+  λ i. in-any (eqb n) n (eqb-is n) (λ (x : ℕ). x) xs (rw (map-self xs) i),
+)
 
 -- a test that fails where the fact does not hold
 pub not-is : {P : Type 0} (a : Bool) → (a ≡ true) ↔ P → (not a ≡ true) ↔ (P → ⊥)

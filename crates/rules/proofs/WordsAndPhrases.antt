@@ -96,13 +96,18 @@ module _ (T : Tables) (ts : List TableLines) (s : Stand T ts) (K : Phase → Lis
         let sh = columns-shaped fs node (front-columns line ∙ ap frontColumns (sym l) ∙ w .node .columns) in
         let larger : (node .parent ≡ 0) ⊎ (words < node .parent) = above (parent-range (node .parentText) (node .parent) (w .node .parent-written)) in
         let others = each-then (EdgeFits ts) (λ (e : EdgeSaid). words < e .parent) (λ e k. omega (arith, secondary-range (e .parentText) (e .parent) (k .parent-written), few)) (node .secondary) (w .node .each-secondary) in
-        held-through K used f _ _
-        (alone,
-          (sh .whole,
-            held-node T fs wordTags words own-word
-            (and-both-ways (ltb words wordLimit) (roomy edges fs) .1
-              (lt-ltb words wordLimit few, le-leb (edges + length (itsPairs fs)) edgeLimit (omega (arith, room, pairs-length (itsPairs fs) (node .secondary) (sh .at-pairs)))), tt)
-            (said-held T ts s (line .bytes) fs wordTags words node sh (w .node) larger others)))
+        held-through K used f _ _ (
+          alone,
+          (
+            sh .whole,
+            held-node T fs wordTags words own-word (
+              and-both-ways (ltb words wordLimit) (roomy edges fs) .1
+                  (lt-ltb words wordLimit few, le-leb (edges + length (itsPairs fs)) edgeLimit (omega (arith, room, pairs-length (itsPairs fs) (node .secondary) (sh .at-pairs)))),
+              tt,
+            )
+                (said-held T ts s (line .bytes) fs wordTags words node sh (w .node) larger others),
+          ),
+        )
         (goes-on _ (same-side T ts s (line .bytes) fs wordTags words node sh (w .node) larger others words (text fs 0) (comment (columns line))))
       where
         above : (node .parent ≡ 0) ⊎ (500 ≤ node .parent) → (node .parent ≡ 0) ⊎ (words < node .parent)
@@ -144,14 +149,14 @@ module _ (T : Tables) (ts : List TableLines) (s : Stand T ts) (K : Phase → Lis
           phrase = record { node = nodeSaid T ts s (line .bytes) fs nodeTags n; number = n };
           its-line = refl;
           fit =
-            λ q. record {
-              node = held-said T ts s (line .bytes) fs nodeTags n held front;
-              digits = drop 1 (text fs 0 .bytes);
-              sign = q;
-              number-written = good-some o (h .0 .1 .0);
-              parent-larger = held .rises .1;
-              secondary-larger = rise-said n (itsPairs fs) (held .secondary-rise);
-            };
+              λ q. record {
+                node = held-said T ts s (line .bytes) fs nodeTags n held front;
+                digits = drop 1 (text fs 0 .bytes);
+                sign = q;
+                number-written = good-some o (h .0 .1 .0);
+                parent-larger = held .rises .1;
+                secondary-larger = rise-said n (itsPairs fs) (held .secondary-rise);
+              };
           front = front;
           new = not-both-ways (before n) .0 (own .1 .0);
           room = room-said (own .0);
@@ -172,11 +177,15 @@ module _ (T : Tables) (ts : List TableLines) (s : Stand T ts) (K : Phase → Lis
         let v : value o ≡ p .number = some-value o (p .number) is in
         let larger : (node .parent ≡ 0) ⊎ (value o < node .parent) = rw v (w .parent-larger) in
         let others : Each (λ (e : EdgeSaid). value o < e .parent) (node .secondary) = rw v (w .secondary-larger) in
-        held-through K used f _ _
-        (sh .whole,
-          (some-good o (p .number) is,
-            held-node T fs nodeTags (value o) (own-phrase (value o))
-            (le-leb (edges + length (itsPairs fs)) edgeLimit (omega (arith, room, pairs-length (itsPairs fs) (node .secondary) (sh .at-pairs))),
-              (not-both-ways (before (value o)) .1 (rw v new), tt))
-            (said-held T ts s (line .bytes) fs nodeTags (value o) node sh (w .node) larger others)))
+        held-through K used f _ _ (
+          sh .whole,
+          (
+            some-good o (p .number) is,
+            held-node T fs nodeTags (value o) (own-phrase (value o)) (
+              le-leb (edges + length (itsPairs fs)) edgeLimit (omega (arith, room, pairs-length (itsPairs fs) (node .secondary) (sh .at-pairs))),
+              (not-both-ways (before (value o)) .1 (rw v new), tt),
+            )
+                (said-held T ts s (line .bytes) fs nodeTags (value o) node sh (w .node) larger others),
+          ),
+        )
         (goes-on _ (same-side T ts s (line .bytes) fs nodeTags (value o) node sh (w .node) larger others (value o) noText (comment (columns line))) v)
