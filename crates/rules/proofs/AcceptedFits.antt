@@ -19,7 +19,8 @@ use Rattle.rules.specs.Survey.{Survey, answered, nothingRead, surveyOf}
 use Rattle.rules.specs.Grammar.{Each, Differ, Starts}
 use Rattle.rules.specs.GrammarTables.{TableLines, TablesFit, tableLines}
 use Rattle.rules.specs.GrammarSentences.{SentenceLines, SentenceFits, FormatFits, Fits, sentenceLines, sentenceNumbers}
-use Rattle.rules.proofs.SaidOfLists.{each-more, and-both-ways}
+use Rattle.rules.proofs.BytesAsSaid.{Started, started-said, heededOf, heeded-said}
+use Rattle.rules.proofs.SaidOfLists.{each-then, each-more, and-both-ways}
 use Rattle.rules.proofs.TablesAsSaid.{is-there}
 use Rattle.rules.proofs.WhatWasRead.{WasRead, Preambled, preLines}
 use Rattle.rules.proofs.ReadSoFar.{Onward, from-start, begin-sentence, from-top, from-table}
@@ -32,7 +33,7 @@ pub record Parts (ls : List (List ℕ)) : Type 0 where
   pub tables : List TableLines
   pub sentences : List SentenceLines
   pub are : ls ≡ format ∷ joined (map tableLines tables) ++ joined (map sentenceLines sentences)
-  pub starts : Each Starts ls
+  pub starts : Each Started ls
   pub format-fits : FormatFits format
   pub tables-fit : TablesFit tables
   pub each-sentence : Each (SentenceFits tables) sentences
@@ -46,7 +47,7 @@ onward K (inTable p n rs) used done line r g = from-table K used done line p n r
 onward K (inSentence p s) used done line r g = from-sentence K used done line p s r g
 onward K (behindSentence p) used done line r g = begin-sentence K used done line p (r .prior) (r .lines) g
 
-at-end : (ph : Phase) (used : List ℕ) (done : List (List ℕ)) → WasRead ph used done → Each Starts done → Accepting ph → Parts done
+at-end : (ph : Phase) (used : List ℕ) (done : List (List ℕ)) → WasRead ph used done → Each Started done → Accepting ph → Parts done
 at-end start used done r s e = absurd (omega (arith, e))
 at-end (top p) used done r s e =
     by (present origins (p .tables) && present editors (p .tables)) refl e
@@ -94,12 +95,12 @@ at-end (behindSentence p) used done r s e =
       numbers-differ = r .prior .differ;
     }
 
-along : (ts : List Text) (ph : Phase) (used : List ℕ) (done : List (List ℕ)) → WasRead ph used done → Each Starts done → Takes Accepting ts ph used → Parts (done ++ bytesOf ts)
+along : (ts : List Text) (ph : Phase) (used : List ℕ) (done : List (List ℕ)) → WasRead ph used done → Each Started done → Takes Accepting ts ph used → Parts (done ++ bytesOf ts)
 along [] ph used done r s t = subst Parts (sym (append-nil done)) (at-end ph used done r s t)
 along (l ∷ ts) ph used done r s t =
     let o = onward (Takes Accepting ts) ph used done l r t in
     subst Parts (append-assoc done (l .bytes ∷ []) (bytesOf ts))
-    (along ts (o .phase) (o .used-then) (done ++ (l .bytes ∷ [])) (o .was-read) (each-more Starts done (l .bytes) s (o .starts)) (o .kept))
+    (along ts (o .phase) (o .used-then) (done ++ (l .bytes ∷ [])) (o .was-read) (each-more Started done (l .bytes) s (o .starts)) (o .kept))
 
 pub accepted-fits : (f : List ℕ) → surveyOf f .refusal ≡ 0 → Fits f
 unfolding surveyOf
@@ -117,7 +118,9 @@ accepted-fits f z = by (leb (length f) fileLimit) refl z
           written = a .written;
           short = leb-true (length f) fileLimit h;
           each-line = a .each;
-          each-starts = p .starts;
+          heeded = heededOf (a .lines);
+          are-heeded = heeded-said (a .lines);
+          each-starts = each-then Started Starts (λ l. started-said l .0) (heededOf (a .lines)) (p .starts);
           parts = p .are;
           format-fits = p .format-fits;
           tables-fit = p .tables-fit;

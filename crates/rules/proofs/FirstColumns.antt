@@ -16,7 +16,8 @@ use Rattle.rules.specs.Texts.{Text, reads}
 use Rattle.rules.specs.Columns.{Column, goesOn, longer, lastByte, columnsFrom, written}
 use Rattle.rules.specs.Numbers.{Kind, plain, valueFrom, decimal, within, number, plusOne, signedId, idPlusOne}
 use Rattle.rules.specs.Keywords.{hashed, startsRow, startsWord, digits, hashAndDigits, startsPhrase}
-use Rattle.rules.specs.Grammar.{Starts, columnAt}
+use Rattle.rules.specs.Grammar.{columnAt}
+use Rattle.rules.proofs.BytesAsSaid.{Started}
 use Rattle.rules.proofs.SaidOfLists.{and-both-ways, or-both-ways, not-both-ways, true-or-not, never-both}
 use Rattle.rules.proofs.TestsAsFacts.{reads-are}
 
@@ -47,7 +48,7 @@ begins a (b ∷ bs) e =
         }
     by false more g = record { first = lastByte a b bs; others = columnsFrom (suc a) bs; are = refl; given = omega arith }
 
-pub first-given : (l : List ℕ) → Starts l → 1 ≤ length (columnAt 0 l)
+pub first-given : (l : List ℕ) → Started l → 1 ≤ length (columnAt 0 l)
 first-given l s = let b = begins 0 l s in subst (λ (cs : List Column). 1 ≤ length (written cs 0 .bytes)) (sym (b .are)) (b .given)
 
 -- ---- numbers

@@ -16,11 +16,12 @@ use Rattle.rules.specs.Keywords.{firstColumn, tableOpened}
 use Rattle.rules.specs.Lines.{Preamble, Phase, start, top, inTable, inSentence, behindSentence, go, hand, next, cannotStand, behindOne, beginning, atTop, lineAt}
 use Rattle.rules.specs.Reading.{begin, read, outcome}
 use Rattle.rules.specs.Survey.{Survey, answered, nothingRead, surveyOf}
-use Rattle.rules.specs.Grammar.{In, Each, Differ, columnAt, linesWritten, heeded, Starts}
+use Rattle.rules.specs.Grammar.{In, Each, Differ, columnAt, Starts}
 use Rattle.rules.specs.GrammarTables.{TableLines, TablesFit, tableLines, whiches}
 use Rattle.rules.specs.GrammarSentences.{PhraseLine, SentenceLines, SentenceFits, EosFits, Fits, nodesOf, secondaryEdges, nodeLines, sentenceLines, sentenceNumbers}
 use Rattle.rules.proofs.Same.{same-false}
-use Rattle.rules.proofs.SaidOfLists.{differ-map-next, map-joined, and-both-ways}
+use Rattle.rules.proofs.BytesAsSaid.{Started, started-said, heededOf, heeded-only}
+use Rattle.rules.proofs.SaidOfLists.{each-then, differ-map-next, map-joined, and-both-ways}
 use Rattle.rules.proofs.TestsAsFacts.{is-member}
 use Rattle.rules.proofs.TablesAsSaid.{Stand, stand-none, is-there}
 use Rattle.rules.proofs.KeywordsAsSaid.{keyword-first}
@@ -39,7 +40,7 @@ module _ (p : Preamble) (ts : List TableLines) (stand : Stand (p .tables) ts) (i
   -- where a sentence may begin
   abbrev BeginsAt : Phase → List ℕ → Type 1
   BeginsAt ph used =
-      (K : Phase → List ℕ → Type 0) (line : Text) → Starts (line .bytes) → columnAt 0 (line .bytes) ≡ bytes "#BOS"
+      (K : Phase → List ℕ → Type 0) (line : Text) → Started (line .bytes) → columnAt 0 (line .bytes) ≡ bytes "#BOS"
       → Through K used (next (beginning line (firstColumn line) p) (headingOf (p .tables) (λ n. member n used) line)) → Through K used (lineAt ph used line (firstColumn line))
 
   begins-behind : (used : List ℕ) → BeginsAt (behindSentence p) used
@@ -76,7 +77,7 @@ module _ (p : Preamble) (ts : List TableLines) (stand : Stand (p .tables) ts) (i
       let eos = subst (EosFits itself) (sym e) (f .ends) in
       taken-end p ts stand used itself rest (Follows rest) line s
       (keyword-reads line (bytes "#EOS") st (keyword-first line (bytes "#EOS") (eos .numberText) (eos .columns)))
-      (end-grants s itself (t .words) (t .phrases) a (Follows rest) used line (hand p) eos (f .numbered .no-gap) (f .parents-of-words) (f .parents-of-phrases)
+      (end-grants s itself (t .words) (t .phrases) a (Follows rest) used line (hand p) eos (λ n l u. f .numbered .no-gap n .1 (l, u)) (f .parents-of-words) (f .parents-of-phrases)
       (subst (λ (n : ℕ). Follows rest (behindSentence p) (used ++ (n ∷ []))) (sym (a .its-number)) k)))))))))
 
   sentences-follow : (rest done : List SentenceLines) → Each (SentenceFits ts) rest → Differ (sentenceNumbers (done ++ rest)) → Follows (joined (map sentenceLines rest)) (behindSentence p) (sentenceNumbers done)
@@ -101,8 +102,9 @@ fits-accepted f t =
     (λ p e.
     tables-follow (joined (map sentenceLines (t .sentences))) (t .tables) [] p (subst (λ (T : Tables). Stand T []) (sym e) stand-none) (tables .each-table) (tables .once)
     (λ q stand. behind-tables q (t .tables) stand (tables .origin-there) (tables .editor-there) (t .sentences) (t .each-sentence) (t .numbers-differ))) in
-    let at-places : bytesOf (heededTexts (placed 0 (t .lines))) ≡ heeded (t .lines) = heeded-bytes (placed 0 (t .lines)) ∙ ap heeded (placed-bytes 0 (t .lines)) in
-    let taken = whole (heededTexts (placed 0 (t .lines))) (at-places ∙ t .parts) (subst (Each Starts) (t .parts) (t .each-starts)) in
+    let at-places : bytesOf (heededTexts (placed 0 (t .lines))) ≡ heededOf (t .lines) = heeded-bytes (placed 0 (t .lines)) ∙ ap heededOf (placed-bytes 0 (t .lines)) in
+    let taken = whole (heededTexts (placed 0 (t .lines))) (at-places ∙ sym (heeded-only (t .are-heeded)) ∙ t .parts)
+      (subst (Each Started) (t .parts) (each-then Starts Started (λ l. started-said l .1) (t .heeded) (t .each-starts))) in
     ap (λ (b : Bool). pick b (answered (read begin f)) (nothingRead 2) .refusal) (le-leb (length f) fileLimit (t .short))
     ∙ ap (λ (f : List ℕ). outcome (read begin f) .number) (t .written)
     ∙ takes-accepted (t .lines) (t .each-line) taken

@@ -18,10 +18,11 @@ use Rattle.rules.specs.Numbers.{formatNumber, sentenceNumber, number, go
 use Rattle.rules.specs.Tables.{Tables, tableNames, tableNamed, present}
 use Rattle.rules.specs.Keywords.{formatOf, fresh, tableOpened, itself, tableEnded, leadingWhite, firstColumn}
 use Rattle.rules.specs.Lines.{Phase, Answer, next}
-use Rattle.rules.specs.Grammar.{allColumns, columnAt, Starts}
+use Rattle.rules.specs.Grammar.{allColumns, columnAt}
 use Rattle.rules.specs.GrammarTables.{Names}
 use Rattle.rules.specs.GrammarSentences.{FormatFits}
 use Rattle.rules.proofs.PlaceFree.{column-there, count-columns}
+use Rattle.rules.proofs.BytesAsSaid.{Started}
 use Rattle.rules.proofs.SaidOfLists.{and-both-ways, or-both-ways, not-both-ways}
 use Rattle.rules.proofs.TestsAsFacts.{reads-are, eqb-is, good-some, some-good, some-value}
 use Rattle.rules.proofs.TablesAsSaid.{named-is, is-named}
@@ -29,11 +30,11 @@ use Rattle.rules.proofs.LineByLine.{Through, through-held, held-through
 
 -- ---- the first column
 
-pub first-starts : (line : Text) → 1 ≤ length (firstColumn line .bytes) → Starts (line .bytes)
+pub first-starts : (line : Text) → 1 ≤ length (firstColumn line .bytes) → Started (line .bytes)
 unfolding firstColumn columnsFrom
 first-starts line h = by (line .bytes) h
   where
-    by : (l : List ℕ) → 1 ≤ length (firstColumn (record { start = line .start; bytes = l }) .bytes) → Starts l
+    by : (l : List ℕ) → 1 ≤ length (firstColumn (record { start = line .start; bytes = l }) .bytes) → Started l
     by [] h = absurd (omega arith)
     by (b ∷ bs) h = white-or-not (white b) refl
       where
@@ -41,11 +42,11 @@ first-starts line h = by (line .bytes) h
         white-or-not true e = absurd (omega (arith, ap (λ (t : Bool). length (pick t (record { start = 0; bytes = [] }) (written (columnsFrom (line .start) (b ∷ bs)) 0) .bytes)) e, h))
         white-or-not false e = ap not e
 
-pub starts-first : (line : Text) → Starts (line .bytes) → firstColumn line .bytes ≡ columnAt 0 (line .bytes)
+pub starts-first : (line : Text) → Started (line .bytes) → firstColumn line .bytes ≡ columnAt 0 (line .bytes)
 unfolding firstColumn
 starts-first line s = by (line .bytes) s ∙ column-there line 0
   where
-    by : (l : List ℕ) → Starts l → pick (leadingWhite l) (record { start = 0; bytes = [] }) (written (columns line) 0) .bytes ≡ written (columns line) 0 .bytes
+    by : (l : List ℕ) → Started l → pick (leadingWhite l) (record { start = 0; bytes = [] }) (written (columns line) 0) .bytes ≡ written (columns line) 0 .bytes
     by [] e = absurd (false≢true e)
     by (b ∷ bs) e = rw (not-true (white b) e)
 

@@ -18,9 +18,10 @@ use Rattle.rules.specs.Rules.{Rule, rule, Fault, broken, unless, checked
 use Rattle.rules.specs.Keywords.{firstColumn}
 use Rattle.rules.specs.Lines.{Phase, start, behindSentence, Answer, refuse, go, hand, next, lineAt, taken, step, atEnd}
 use Rattle.rules.specs.Reading.{Handed, Reading, begin, numbers, ended, closing, read, outcome}
-use Rattle.rules.specs.Grammar.{Each, linesWritten, heeded, LineFits}
+use Rattle.rules.specs.Grammar.{Each, Legal, linesWritten, LineFits}
 use Rattle.rules.proofs.RuleLaws.{holdsOf, all-hold, none-broken}
 use Rattle.rules.proofs.ReadLines.{hasNewline, read-append, read-part, read-line, read-fault}
+use Rattle.rules.proofs.BytesAsSaid.{legal-said, every-said, heededOf}
 use Rattle.rules.proofs.SaidOfLists.{each-then, each-map, each-mapped, map-joined, every-each, each-every, or-both-ways, and-both-ways, never-both, false-if-never}
 use Rattle.rules.proofs.RefusalNumbers.{FromOne, step-from-one}
 
@@ -73,12 +74,12 @@ heededTexts [] = []
 heededTexts (l ∷ ls) = pick (ignored (l .bytes)) (heededTexts ls) (l ∷ heededTexts ls)
 
 -- what the lines are doesn't change with their places
-pub heeded-bytes : (ls : List Text) → bytesOf (heededTexts ls) ≡ heeded (bytesOf ls)
+pub heeded-bytes : (ls : List Text) → bytesOf (heededTexts ls) ≡ heededOf (bytesOf ls)
 heeded-bytes [] = refl
 heeded-bytes (l ∷ ls) = by (ignored (l .bytes)) (heeded-bytes ls)
   where
-    by : (t : Bool) → bytesOf (heededTexts ls) ≡ heeded (bytesOf ls)
-        → bytesOf (pick t (heededTexts ls) (l ∷ heededTexts ls)) ≡ pick t (heeded (bytesOf ls)) (l .bytes ∷ heeded (bytesOf ls))
+    by : (t : Bool) → bytesOf (heededTexts ls) ≡ heededOf (bytesOf ls)
+        → bytesOf (pick t (heededTexts ls) (l ∷ heededTexts ls)) ≡ pick t (heededOf (bytesOf ls)) (l .bytes ∷ heededOf (bytesOf ls))
     by true e = e
     by false e = ap (λ (xs : List (List ℕ)). l .bytes ∷ xs) e
 
@@ -99,7 +100,7 @@ module _ (E : Phase → Type 0) where
   read-takes [] ph used r = (tt, r)
   read-takes (l ∷ ls) ph used r =
       let h = through-held (Read E ls) used (taken ph used) _ l r in
-      let sound : Sound l = record { legal-bytes = h .0 .0; short = leb-true (length (l .bytes)) lineLimit (h .0 .1 .0) } in
+      let sound : Sound l = record { legal-bytes = every-said legal Legal legal-said (l .bytes) .0 (h .0 .0); short = leb-true (length (l .bytes)) lineLimit (h .0 .1 .0) } in
       by sound (ignored (l .bytes)) (h .1) (read-takes ls)
     where
       by : Sound l → (t : Bool) → Through (Read E ls) used (pick t (go ph) (lineAt ph used l (firstColumn l)))
@@ -114,7 +115,7 @@ module _ (E : Phase → Type 0) where
   unfolding step taken
   takes-read [] ph used s t = t
   takes-read (l ∷ ls) ph used s t =
-      held-through (Read E ls) used (taken ph used) _ l (s .0 .legal-bytes, (le-leb (length (l .bytes)) lineLimit (s .0 .short), tt))
+      held-through (Read E ls) used (taken ph used) _ l (every-said legal Legal legal-said (l .bytes) .1 (s .0 .legal-bytes), (le-leb (length (l .bytes)) lineLimit (s .0 .short), tt))
       (by (ignored (l .bytes)) t (λ ph used. takes-read ls ph used (s .1)))
     where
       by : (t : Bool) → Takes E (pick t (heededTexts ls) (l ∷ heededTexts ls)) ph used
@@ -276,7 +277,7 @@ pub record AcceptedLines (f : List ℕ) : Type 0 where
   pub written : f ≡ linesWritten lines
   pub each : Each LineFits lines
   pub ts : List Text
-  pub heeded-are : bytesOf ts ≡ heeded lines
+  pub heeded-are : bytesOf ts ≡ heededOf lines
   pub taken : Takes Accepting ts start []
 
 pub accepted-takes : (f : List ℕ) → outcome (read begin f) .number ≡ 0 → AcceptedLines f
@@ -291,13 +292,13 @@ accepted-takes f z =
       written = l .parts ∙ ap (λ (xs : List ℕ). linesWritten (l .lines) ++ xs) (e .0) ∙ append-nil (linesWritten (l .lines));
       each = subst (Each LineFits) b (each-map (λ (t : Text). t .bytes) LineFits (placed 0 (l .lines)) (t .0));
       ts = heededTexts (placed 0 (l .lines));
-      heeded-are = heeded-bytes (placed 0 (l .lines)) ∙ ap heeded b;
+      heeded-are = heeded-bytes (placed 0 (l .lines)) ∙ ap heededOf b;
       taken = takes-then (Ends (l .rest)) Accepting (λ ph e. e .1) (heededTexts (placed 0 (l .lines))) start [] (t .1);
     }
 
 pub takes-accepted : (ls : List (List ℕ)) → Each LineFits ls → Takes Accepting (heededTexts (placed 0 ls)) start []
     → outcome (read begin (linesWritten ls)) .number ≡ 0
 takes-accepted ls s t =
-    read-comes ls 0 start [] (each-then LineFits Unended (λ l k. legal-unended l (k .legal-bytes)) ls s)
+    read-comes ls 0 start [] (each-then LineFits Unended (λ l k. legal-unended l (every-said legal Legal legal-said l .1 (k .legal-bytes))) ls s)
     (takes-read Accepting (placed 0 ls) start []
     (each-mapped (λ (t : Text). t .bytes) LineFits (placed 0 ls) (rw (placed-bytes 0 ls) s)) t)

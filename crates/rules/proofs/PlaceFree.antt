@@ -10,6 +10,7 @@ use Rattle.rules.specs.Bytes.{white, percents}
 use Rattle.rules.specs.Texts.{Text, noText, rightTrim, trimFrom, trim, startsComment, behindFrom, behind, inFront}
 use Rattle.rules.specs.Columns.{Column, goesOn, longer, lastByte, columnsFrom, columns, column, written, texts, text, fields}
 use Rattle.rules.specs.Grammar.{allColumns, frontColumns, columnAt, restBehind, textBehind}
+use Rattle.rules.proofs.SaidOfLists.{length-map}
 
 -- ---- columns without places
 
@@ -99,10 +100,6 @@ behind-same : (t u : Text) → t .bytes ≡ u .bytes → behind t .bytes ≡ beh
 behind-same t u e = behind-free (t .start) (u .start) (t .bytes) ∙ ap (λ (xs : List ℕ). behindFrom (u .start) xs .bytes) e
 
 -- ---- of a line at its place
-
-length-map : {A B : Type 0} (f : A → B) (xs : List A) → length (map f xs) ≡ length xs
-length-map f [] = refl
-length-map f (x ∷ xs) = ap suc (length-map f xs)
 
 module _ (line : Text) where
   abbrev anywhere : map bareOf (columns line) ≡ map bareOf (columnsFrom 0 (line .bytes))

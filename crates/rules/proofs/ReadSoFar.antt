@@ -16,9 +16,10 @@ use Rattle.rules.specs.Nodes.{wordOf, phraseOf}
 use Rattle.rules.specs.Rows.{rowOf}
 use Rattle.rules.specs.Keywords.{formatOf, tableOpened, tableEnded, firstColumn, hashed, startsRow, startsWord, startsPhrase}
 use Rattle.rules.specs.Lines.{Preamble, Phase, start, top, inTable, inSentence, behindSentence, Answer, refuse, go, hand, next, cannotStand, atStart, atTop, behindOne, beginning, withTable, withRow, withWord, withPhrase, amongRows, amongNodes, lineAt}
-use Rattle.rules.specs.Grammar.{In, Each, Differ, columnAt, Starts}
+use Rattle.rules.specs.Grammar.{In, Each, Differ, columnAt}
 use Rattle.rules.specs.GrammarTables.{RowLine, TableLines, TableFits, tableLines, whiches}
 use Rattle.rules.specs.GrammarSentences.{HeadLine, NodeLine, PhraseLine, SentenceLines, WordFits, PhraseFits, SentenceFits, numbersOf, nodesOf, secondaryEdges, nodeLines, sentenceLines, sentenceNumbers}
+use Rattle.rules.proofs.BytesAsSaid.{Started}
 use Rattle.rules.proofs.SaidOfLists.{map-joined, each-more, differ-more, differ-map-more}
 use Rattle.rules.proofs.TestsAsFacts.{reads-are, is-member}
 use Rattle.rules.proofs.RowsAsSaid.{none-alike, alike-more, no-rows, row-granted}
@@ -34,7 +35,7 @@ use Rattle.rules.proofs.LineByLine.{Through}
 
 -- ---- the first column tells a keyword
 
-pub first-is : (line : Text) (xs : List ℕ) → 1 ≤ length xs → firstColumn line .bytes ≡ xs → Starts (line .bytes) × (columnAt 0 (line .bytes) ≡ xs)
+pub first-is : (line : Text) (xs : List ℕ) → 1 ≤ length xs → firstColumn line .bytes ≡ xs → Started (line .bytes) × (columnAt 0 (line .bytes) ≡ xs)
 first-is line xs h e =
     let s = first-starts line (subst (λ (xs : List ℕ). 1 ≤ length xs) (sym e) h) in
     (s, sym (starts-first line s) ∙ e)
@@ -45,10 +46,10 @@ module _ (K : Phase → List ℕ → Type 0) (used : List ℕ) (done : List (Lis
     pub phase : Phase
     pub used-then : List ℕ
     pub was-read : WasRead phase used-then (done ++ (line .bytes ∷ []))
-    pub starts : Starts (line .bytes)
+    pub starts : Started (line .bytes)
     pub kept : K phase used-then
 
-  pub keyword : (xs : List ℕ) → 1 ≤ length xs → reads xs (firstColumn line) ≡ true → Starts (line .bytes) × (columnAt 0 (line .bytes) ≡ xs)
+  pub keyword : (xs : List ℕ) → 1 ≤ length xs → reads xs (firstColumn line) ≡ true → Started (line .bytes) × (columnAt 0 (line .bytes) ≡ xs)
   keyword xs h e = first-is line xs h (reads-are xs (firstColumn line) .0 e)
 
   pub from-start : (done ≡ []) × (used ≡ []) → Through K used (atStart line (firstColumn line)) → Onward

@@ -21,7 +21,7 @@ use Rattle.rules.specs.Lines.{Phase, Answer, next}
 use Rattle.rules.specs.Grammar.{In, Each, Differ, columnAt, restBehind, textBehind, GivenUpTo}
 use Rattle.rules.specs.GrammarTables.{RowLine, ids1, firsts, OriginRow, EditorRow, TagRow, InOrder, Carries, TagTable, OriginTable, EditorTable, RowsFit}
 use Rattle.rules.proofs.PlaceFree.{column-there, text-there, name-there, note-there}
-use Rattle.rules.proofs.SaidOfLists.{map-joined, each-more, each-back, differ-map-more, differ-map-next, and-both-ways, or-both-ways, not-both-ways}
+use Rattle.rules.proofs.SaidOfLists.{length-map, map-joined, each-more, each-back, differ-map-more, differ-map-next, and-both-ways, or-both-ways, not-both-ways}
 use Rattle.rules.proofs.TestsAsFacts.{reads-are, given-are, leb-is, ltb-is, eqb-is, good-some, some-good, some-value, has-id, has-tag, idsOf, firstsOf, not-is}
 use Rattle.rules.proofs.IdsInOrder.{chained-more, chained-next, last-id, ordered-chained, chained-ordered, lastOf}
 use Rattle.rules.proofs.LineByLine.{Through, through-held, held-through}
@@ -45,10 +45,6 @@ alike-more rs rows r row a o =
       ids = map-joined (λ (r : Row). r .id1) rs (r ∷ []) ∙ ap (λ (i : ℕ). idsOf rs ++ (i ∷ [])) (o .id) ∙ ap (λ (is : List ℕ). is ++ (row .id1 ∷ [])) (a .ids) ∙ sym (map-joined (λ (r : RowLine). r .id1) rows (row ∷ []));
       texts = map-joined (λ (r : Row). r .first .bytes) rs (r ∷ []) ∙ ap (λ (i : List ℕ). firstsOf rs ++ (i ∷ [])) (o .text) ∙ ap (λ (is : List (List ℕ)). is ++ (row .first ∷ [])) (a .texts) ∙ sym (map-joined (λ (r : RowLine). r .first) rows (row ∷ []));
     }
-
-length-map : {A B : Type 0} (f : A → B) (xs : List A) → length (map f xs) ≡ length xs
-length-map f [] = refl
-length-map f (x ∷ xs) = ap suc (length-map f xs)
 
 pub alike-length : (rs : List Row) (rows : List RowLine) → Alike rs rows → length rs ≡ length rows
 alike-length rs rows a = sym (length-map (λ (r : Row). r .id1) rs) ∙ ap length (a .ids) ∙ length-map (λ (r : RowLine). r .id1) rows

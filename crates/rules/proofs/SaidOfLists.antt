@@ -1,11 +1,12 @@
 -- Laws of what the grammar says of lists: being one of a list, every one being so, no two being equal; along lists joined
 -- and mapped, and as tests. By one step along the list. Assumes nothing.
-use Prim.Native.Nat.{ℕ}
+use Prim.Native.Nat.{ℕ, suc}
 use native.Mathlib.Omega.{arith}
 use mathlib.Core.Path.{_≡_, refl, sym, ap, _∙_}
 use mathlib.Core.Logic.{_⊎_, inl, inr, _↔_}
 use mathlib.Core.Bool.{Bool, true, false, false≢true, not, _&&_, _||_}
 use mathlib.Core.List.{List, [], _∷_, _++_, map}
+use lib.ListN.{length}
 use Rattle.rules.specs.Lists.{every, any}
 use Rattle.rules.specs.Grammar.{In, Each, Differ}
 
@@ -86,6 +87,10 @@ module _ {A B : Type 0} (g : A → B) where
   pub map-joined : (xs ys : List A) → map g (xs ++ ys) ≡ map g xs ++ map g ys
   map-joined [] ys = refl
   map-joined (x ∷ xs) ys = ap (λ (zs : List B). g x ∷ zs) (map-joined xs ys)
+
+  pub length-map : (xs : List A) → length (map g xs) ≡ length xs
+  length-map [] = refl
+  length-map (x ∷ xs) = ap suc (length-map xs)
 
   pub in-map : (x : A) (xs : List A) → In x xs → In (g x) (map g xs)
   in-map x [] i = i

@@ -18,15 +18,11 @@ use Rattle.rules.specs.Sentences.{Edge, Node, Sentence, edgeCount, edges
 use Rattle.rules.specs.Lines.{Phase, Answer, next}
 use Rattle.rules.specs.Grammar.{In, Each, columnAt}
 use Rattle.rules.specs.GrammarSentences.{EdgeSaid, NodeLine, PhraseLine, EosFits, numbersOf, nodesOf, secondaryEdges, ParentsThere}
-use Rattle.rules.proofs.SaidOfLists.{and-both-ways, or-both-ways, every-each, each-every, each-then, each-map, each-mapped, each-joined, each-front, each-back, map-joined}
+use Rattle.rules.proofs.SaidOfLists.{length-map, and-both-ways, or-both-ways, every-each, each-every, each-then, each-map, each-mapped, each-joined, each-front, each-back, map-joined}
 use Rattle.rules.proofs.TestsAsFacts.{eqb-is, good-some, some-good, some-value, is-listed, numbersOfNodes}
 use Rattle.rules.proofs.KeywordsAsSaid.{two-columns, columns-two, name-second}
 use Rattle.rules.proofs.NodeColumns.{Side, sideOf, sideSaid}
 use Rattle.rules.proofs.LineByLine.{Through, through-held, held-through}
-
-length-map : {A B : Type 0} (f : A → B) (xs : List A) → length (map f xs) ≡ length xs
-length-map f [] = refl
-length-map f (x ∷ xs) = ap suc (length-map f xs)
 
 -- ---- secondary edges counted
 

@@ -15,7 +15,7 @@ use Rattle.rules.specs.Sentences.{Node, Heading, Sentence, headingOf, li
 use Rattle.rules.specs.Nodes.{wordOf, phraseOf}
 use Rattle.rules.specs.Keywords.{firstColumn, startsWord, hashAndDigits, startsPhrase}
 use Rattle.rules.specs.Lines.{Preamble, Phase, top, inSentence, behindSentence, Answer, hand, next, cannotStand, behindOne, beginning, withWord, withPhrase, amongNodes, lineAt}
-use Rattle.rules.specs.Grammar.{In, Each, Differ, columnAt, Starts}
+use Rattle.rules.specs.Grammar.{In, Each, Differ, columnAt}
 use Rattle.rules.specs.GrammarTables.{TableLines, whiches}
 use Rattle.rules.specs.GrammarSentences.{NodeLine, PhraseLine, SentenceLines, WordFits, PhraseFits, SentenceFits, EosFits, HeadFits, numbersOf, nodesOf, secondaryEdges, nodeLines, sentenceLines, sentenceNumbers}
 use Rattle.rules.proofs.SaidOfLists.{map-joined, differ-map-next, false-if-never}

@@ -13,10 +13,11 @@ use Rattle.rules.specs.Sentences.{Node, Sentence, listed, edgesOf, endOf
 use Rattle.rules.specs.Nodes.{wordOf, phraseOf}
 use Rattle.rules.specs.Keywords.{firstColumn, hashed, startsRow, startsWord, hashAndDigits, startsPhrase}
 use Rattle.rules.specs.Lines.{Preamble, Phase, inSentence, behindSentence, Answer, hand, next, cannotStand, withWord, withPhrase, amongNodes}
-use Rattle.rules.specs.Grammar.{In, Each, Differ, columnAt, Starts}
+use Rattle.rules.specs.Grammar.{In, Each, Differ, columnAt}
 use Rattle.rules.specs.GrammarTables.{TableLines}
 use Rattle.rules.specs.GrammarSentences.{EdgeSaid, NodeLine, PhraseLine, SentenceLines, WordFits, PhraseFits, SentenceFits, numbersOf, nodesOf, secondaryEdges, nodeLines, sentenceLines, sentenceNumbers}
-use Rattle.rules.proofs.SaidOfLists.{map-joined, each-more, differ-map-more, or-both-ways}
+use Rattle.rules.proofs.NoGap.{no-others}
+use Rattle.rules.proofs.SaidOfLists.{length-map, map-joined, each-more, differ-map-more, or-both-ways}
 use Rattle.rules.proofs.TestsAsFacts.{reads-are, numbersOfNodes}
 use Rattle.rules.proofs.KeywordsAsSaid.{first-starts, starts-first}
 use Rattle.rules.proofs.HeadsAsSaid.{front-first}
@@ -40,6 +41,11 @@ nodes-more ps p = map-joined (λ (p : PhraseLine). p .node) ps (p ∷ [])
 
 pub edges-more : (ns : List NodeLine) (n : NodeLine) → length (secondaryEdges (ns ++ (n ∷ []))) ≡ length (secondaryEdges ns) + length (n .secondary)
 edges-more ns n = ap length (joined-more (λ (n : NodeLine). n .secondary) ns n) ∙ length-append (secondaryEdges ns) (n .secondary)
+
+numbers-are : (ps : List PhraseLine) → ((n : ℕ) → 500 ≤ n → n < 500 + length ps → In n (numbersOf ps)) → (n : ℕ) → In n (numbersOf ps) ↔ ((500 ≤ n) × (n < 500 + length ps))
+numbers-are ps all n =
+    let count : length (numbersOf ps) ≡ length ps = length-map (λ (p : PhraseLine). p .number) ps in
+    (λ i. let h = no-others (numbersOf ps) 500 (λ m l u. all m l (omega (arith, count))) n i in (h .0, omega (arith, h .1, count)), λ h. all n (h .0) (h .1))
 
 no-phrases : (ns : List Node) (ps : List PhraseLine) → numbersOfNodes ns ≡ numbersOf ps → empty ns ≡ true → ps ≡ []
 no-phrases [] [] e h = refl
@@ -71,7 +77,7 @@ module _ (K : Phase → List ℕ → Type 0) (used : List ℕ) (done : List (Lis
         words-at-most = r .words-at-most;
         edges-at-most = r .edges-at-most;
         ends = o .eos;
-        numbered = record { differ = r .numbers-differ; no-gap = o .no-gap };
+        numbered = record { differ = r .numbers-differ; no-gap = numbers-are (r .phrases) (o .no-gap) };
         parents-of-words = o .of-words;
         parents-of-phrases = o .of-phrases;
       } in

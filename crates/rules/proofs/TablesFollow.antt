@@ -14,9 +14,10 @@ use Rattle.rules.specs.Tables.{Row, tableNames, noTables, closed}
 use Rattle.rules.specs.Rows.{rowOf}
 use Rattle.rules.specs.Keywords.{formatOf, tableOpened, tableEnded, firstColumn, startsRow}
 use Rattle.rules.specs.Lines.{Preamble, Phase, start, top, inTable, Answer, go, next, cannotStand, atStart, atTop, behindOne, withTable, withRow, amongRows, lineAt}
-use Rattle.rules.specs.Grammar.{In, Each, Differ, columnAt, Starts}
+use Rattle.rules.specs.Grammar.{In, Each, Differ, columnAt}
 use Rattle.rules.specs.GrammarTables.{RowLine, TableLines, OriginRow, EditorRow, TagRow, RowsFit, Names, TableFits, tableLines, whiches}
 use Rattle.rules.specs.GrammarSentences.{FormatFits}
+use Rattle.rules.proofs.BytesAsSaid.{Started}
 use Rattle.rules.proofs.SaidOfLists.{each-back, differ-map-next, false-if-never}
 use Rattle.rules.proofs.TestsAsFacts.{reads-are}
 use Rattle.rules.proofs.RowsAsSaid.{Alike, AlikeRow, none-alike, alike-more, row-grants}
@@ -29,22 +30,22 @@ use Rattle.rules.proofs.LineByLine.{Through, through-then, Takes, Accep
 -- ---- lines that are taken wherever they stand
 
 abbrev pub Follows : List (List ℕ) → Phase → List ℕ → Type 0
-Follows ls ph used = (ts : List Text) → bytesOf ts ≡ ls → Each Starts ls → Takes Accepting ts ph used
+Follows ls ph used = (ts : List Text) → bytesOf ts ≡ ls → Each Started ls → Takes Accepting ts ph used
 
 pub one-line : (l : List ℕ) (ls : List (List ℕ)) (ph : Phase) (used : List ℕ)
-    → ((line : Text) → line .bytes ≡ l → Starts (line .bytes) → Through (Follows ls) used (lineAt ph used line (firstColumn line))) → Follows (l ∷ ls) ph used
+    → ((line : Text) → line .bytes ≡ l → Started (line .bytes) → Through (Follows ls) used (lineAt ph used line (firstColumn line))) → Follows (l ∷ ls) ph used
 one-line l ls ph used f [] e s = absurd (let z : _≡_ {A = ℕ} 0 1 = cc in omega arith)
 one-line l ls ph used f (t ∷ ts) e s =
     let q : t .bytes ≡ l = cc in
     let r : bytesOf ts ≡ ls = cc in
-    through-then (Follows ls) (Takes Accepting ts) (λ ph used k. k ts r (s .1)) used (lineAt ph used t (firstColumn t)) (f t q (subst Starts (sym q) (s .0)))
+    through-then (Follows ls) (Takes Accepting ts) (λ ph used k. k ts r (s .1)) used (lineAt ph used t (firstColumn t)) (f t q (subst Started (sym q) (s .0)))
 
 -- a line's keyword
-pub keyword-reads : (line : Text) (keyword : List ℕ) → Starts (line .bytes) → columnAt 0 (line .bytes) ≡ keyword → reads keyword (firstColumn line) ≡ true
+pub keyword-reads : (line : Text) (keyword : List ℕ) → Started (line .bytes) → columnAt 0 (line .bytes) ≡ keyword → reads keyword (firstColumn line) ≡ true
 keyword-reads line keyword s e = reads-are keyword (firstColumn line) .1 (starts-first line s ∙ e)
 
 -- and no other
-pub other-keyword : (line : Text) (keyword other : List ℕ) → Starts (line .bytes) → columnAt 0 (line .bytes) ≡ keyword → (keyword ≡ other → ⊥) → reads other (firstColumn line) ≡ false
+pub other-keyword : (line : Text) (keyword other : List ℕ) → Started (line .bytes) → columnAt 0 (line .bytes) ≡ keyword → (keyword ≡ other → ⊥) → reads other (firstColumn line) ≡ false
 other-keyword line keyword other s e n =
     false-if-never (reads other (firstColumn line)) (λ r. n (sym e ∙ sym (starts-first line s) ∙ reads-are other (firstColumn line) .0 r))
 

@@ -23,17 +23,13 @@ use Rattle.rules.specs.Grammar.{Each, frontColumns}
 use Rattle.rules.specs.GrammarTables.{TableLines}
 use Rattle.rules.specs.GrammarSentences.{EdgeSaid, NodeLine, PhraseLine, nodeColumns, EdgeFits, NodeFits, WordFits, PhraseFits}
 use Rattle.rules.proofs.PlaceFree.{front-columns}
-use Rattle.rules.proofs.SaidOfLists.{and-both-ways, not-both-ways, each-then, each-map}
+use Rattle.rules.proofs.SaidOfLists.{length-map, and-both-ways, not-both-ways, each-then, each-map}
 use Rattle.rules.proofs.TestsAsFacts.{good-some, some-good, some-value}
 use Rattle.rules.proofs.TablesAsSaid.{Stand}
 use Rattle.rules.proofs.NodeColumns.{saidPair, PairsAre, Shaped, shaped-columns, columns-shaped, Side, sideOf, sideSaid}
 use Rattle.rules.proofs.NodesAsSaid.{NodeHeld, own-held, node-held, held-node, nodeSaid, held-said, said-held, same-side, side-said, parent-range, secondary-range}
 use Rattle.rules.proofs.FirstColumns.{WordStart, phrase-sign}
 use Rattle.rules.proofs.LineByLine.{Through, through-held, held-through, bytesOf}
-
-length-map : {A B : Type 0} (f : A → B) (xs : List A) → length (map f xs) ≡ length xs
-length-map f [] = refl
-length-map f (x ∷ xs) = ap suc (length-map f xs)
 
 pairs-length : (ps : List Pair) (es : List EdgeSaid) → PairsAre ps es → length ps ≡ length es
 pairs-length [] [] a = refl

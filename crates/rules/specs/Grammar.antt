@@ -3,13 +3,12 @@
 use Prim.Native.Nat.{ℕ, _≤_}
 use mathlib.Core.Path.{_≡_}
 use mathlib.Core.Logic.{_⊎_}
-use mathlib.Core.Bool.{Bool, true}
 use mathlib.Core.List.{List, [], _∷_, _++_, map}
 use lib.ListN.{length}
-use Rattle.rules.specs.Lists.{pick, every, joined}
-use Rattle.rules.specs.Bytes.{newline, legal, ignored}
+use Rattle.rules.specs.Lists.{joined}
+use Rattle.rules.specs.Bytes.{newline, percents}
 use Rattle.rules.specs.Texts.{Text, trim}
-use Rattle.rules.specs.Columns.{Column, goesOn, columnsFrom, column, written, texts, fields}
+use Rattle.rules.specs.Columns.{columnsFrom, column, written, texts, fields}
 use Rattle.rules.specs.Numbers.{lineLimit}
 
 -- ---- said of lists
@@ -28,6 +27,38 @@ Each P (x ∷ xs) = P x × Each P xs
 abbrev pub Differ : {A : Type 0} → List A → Type 0
 Differ [] = Unit
 Differ (x ∷ xs) = (In x xs → ⊥) × Differ xs
+
+-- ---- a file and its lines
+
+-- a line's bytes are 9, 32 to 127 or 160 to 255
+abbrev pub Legal : ℕ → Type 0
+Legal b = (b ≡ 9) ⊎ ((32 ≤ b) × (b ≤ 127)) ⊎ ((160 ≤ b) × (b ≤ 255))
+
+pub record LineFits (l : List ℕ) : Type 0 where
+  pub legal-bytes : Each Legal l
+  pub short : length l ≤ lineLimit
+
+-- every line with the newline that ends it
+abbrev pub linesWritten : List (List ℕ) → List ℕ
+linesWritten ls = joined (map (λ (l : List ℕ). l ++ (newline ∷ [])) ls)
+
+-- white is 9 and 32 only
+abbrev pub White : ℕ → Type 0
+White b = (b ≡ 9) ⊎ (b ≡ 32)
+
+-- a line of only white bytes, or one that begins with %%, is ignored wherever it stands
+abbrev pub Ignored : List ℕ → Type 0
+Ignored l = Each White l ⊎ ((rest : List ℕ) × (l ≡ percents ++ rest))
+
+-- the lines of a file that are not ignored
+pub data Heeded : List (List ℕ) → List (List ℕ) → Type 0 where
+  no-line : Heeded [] []
+  ignored-line : {l : List ℕ} {ls hs : List (List ℕ)} → Ignored l → Heeded ls hs → Heeded (l ∷ ls) hs
+  heeded-line : {l : List ℕ} {ls hs : List (List ℕ)} → (Ignored l → ⊥) → Heeded ls hs → Heeded (l ∷ ls) (l ∷ hs)
+
+-- every other line starts with its first column
+abbrev pub Starts : List ℕ → Type 0
+Starts l = (b : ℕ) × (rest : List ℕ) × (l ≡ b ∷ rest) × (White b → ⊥)
 
 -- ---- a line and its columns
 
@@ -54,23 +85,3 @@ textBehind n line = trim (restBehind n line) .bytes
 -- a text that may not be missing, and its limit
 abbrev pub GivenUpTo : ℕ → List ℕ → Type 0
 GivenUpTo limit xs = (1 ≤ length xs) × (length xs ≤ limit)
-
--- ---- a file and its lines
-
--- every line with the newline that ends it
-abbrev pub linesWritten : List (List ℕ) → List ℕ
-linesWritten ls = joined (map (λ (l : List ℕ). l ++ (newline ∷ [])) ls)
-
--- a line of only white bytes, or one that begins with %%, is ignored wherever it stands
-abbrev pub heeded : List (List ℕ) → List (List ℕ)
-heeded [] = []
-heeded (l ∷ ls) = pick (ignored l) (heeded ls) (l ∷ heeded ls)
-
--- its bytes are legal, newline is not, and it is no longer than a line may be
-pub record LineFits (l : List ℕ) : Type 0 where
-  pub legal-bytes : every legal l ≡ true
-  pub short : length l ≤ lineLimit
-
--- a line that isn't ignored starts with its first column
-abbrev pub Starts : List ℕ → Type 0
-Starts l = goesOn l ≡ true

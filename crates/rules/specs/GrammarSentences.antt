@@ -3,14 +3,14 @@
 -- tables. Assumes nothing.
 use Prim.Native.Nat.{ℕ, suc, _+_, _≤_, _<_}
 use mathlib.Core.Path.{_≡_}
-use mathlib.Core.Logic.{_⊎_}
+use mathlib.Core.Logic.{_⊎_, _↔_}
 use mathlib.Core.Option.{some}
 use mathlib.Core.List.{List, [], _∷_, _++_, map}
 use lib.ListN.{length}
 use Rattle.rules.specs.Lists.{bytes, joined}
 use Rattle.rules.specs.Numbers.{fileLimit, wordLimit, edgeLimit, sentenceNumber, originId, date, phraseNumber, formatNumber, number, signedId, parentNumber}
 use Rattle.rules.specs.Tables.{origins, editors, wordTags, morphTags, nodeTags, edgeTags, secEdgeTags, tagLimit, dashes}
-use Rattle.rules.specs.Grammar.{In, Each, Differ, allColumns, frontColumns, linesWritten, heeded, LineFits, Starts}
+use Rattle.rules.specs.Grammar.{In, Each, Differ, allColumns, frontColumns, linesWritten, Heeded, LineFits, Starts}
 use Rattle.rules.specs.GrammarTables.{TableLines, TablesFit, HasRow, Known, tableLines}
 
 -- ---- nodes
@@ -123,10 +123,10 @@ nodesOf ps = map (λ (p : PhraseLine). p .node) ps
 abbrev pub secondaryEdges : List NodeLine → List EdgeSaid
 secondaryEdges ns = joined (map (λ (n : NodeLine). n .secondary) ns)
 
--- phrases are numbered from 500 without a gap: each number from 500 to 499 + their count is the number of exactly one
+-- phrases are numbered from 500 without a gap: their numbers are those from 500 to 499 + their count, each once
 pub record Numbered (ps : List PhraseLine) : Type 0 where
   pub differ : Differ (numbersOf ps)
-  pub no-gap : (n : ℕ) → 500 ≤ n → n < 500 + length ps → In n (numbersOf ps)
+  pub no-gap : (n : ℕ) → In n (numbersOf ps) ↔ ((500 ≤ n) × (n < 500 + length ps))
 
 -- each parent other than 0 is a phrase of the sentence, secondary parents too
 pub record ParentsThere (ps : List PhraseLine) (n : NodeLine) : Type 0 where
@@ -170,8 +170,10 @@ pub record Fits (f : List ℕ) : Type 0 where
   pub written : f ≡ linesWritten lines
   pub short : length f ≤ fileLimit
   pub each-line : Each LineFits lines
-  pub each-starts : Each Starts (heeded lines)
-  pub parts : heeded lines ≡ format ∷ joined (map tableLines tables) ++ joined (map sentenceLines sentences)
+  pub heeded : List (List ℕ)
+  pub are-heeded : Heeded lines heeded
+  pub each-starts : Each Starts heeded
+  pub parts : heeded ≡ format ∷ joined (map tableLines tables) ++ joined (map sentenceLines sentences)
   pub format-fits : FormatFits format
   pub tables-fit : TablesFit tables
   pub each-sentence : Each (SentenceFits tables) sentences
