@@ -6,7 +6,7 @@ use mathlib.Core.Path.{_≡_}
 use mathlib.Core.Logic.{_↔_}
 use mathlib.Core.List.{List}
 use Rattle.rules.specs.Survey.{surveyOf}
-use Rattle.rules.specs.GrammarSentences.{Fits}
+use Rattle.rules.specs.Grammar.{Fits}
 use Rattle.rules.proofs.AcceptedFits.{accepted-fits}
 use Rattle.rules.proofs.FitsAccepted.{fits-accepted}
 

@@ -1,8 +1,8 @@
 -- A file that is accepted fits the grammar. The invariant along its lines: what was read so far is as the grammar says, up
 -- to what looks ahead. Assumes nothing.
-use Prim.Native.Nat.{ℕ, _≤_}
+use Prim.Native.Nat.{ℕ}
 use native.Mathlib.Omega.{arith}
-use mathlib.Core.Path.{_≡_, refl, sym, ap, _∙_, subst}
+use mathlib.Core.Path.{_≡_, refl, sym, _∙_, subst}
 use mathlib.Core.Bool.{Bool, true, false, _&&_}
 use mathlib.Core.List.{List, [], _∷_, _++_, map, append-assoc, append-nil}
 use lib.ListN.{length}
@@ -13,19 +13,21 @@ use Rattle.rules.specs.Texts.{Text}
 use Rattle.rules.specs.Numbers.{fileLimit}
 use Rattle.rules.specs.Tables.{origins, editors, present}
 use Rattle.rules.specs.Keywords.{firstColumn}
-use Rattle.rules.specs.Lines.{Preamble, Phase, start, top, inTable, inSentence, behindSentence, lineAt}
-use Rattle.rules.specs.Reading.{begin, read, outcome}
-use Rattle.rules.specs.Survey.{Survey, answered, nothingRead, surveyOf}
-use Rattle.rules.specs.Grammar.{Each, Differ, Starts}
+use Rattle.rules.specs.Lines.{Phase, start, top, inTable, inSentence, behindSentence, lineAt}
+use Rattle.rules.specs.Reading.{begin, read}
+use Rattle.rules.specs.Survey.{answered, nothingRead, surveyOf}
+use Rattle.rules.specs.GrammarLines.{Each, Differ, Starts}
 use Rattle.rules.specs.GrammarTables.{TableLines, TablesFit, tableLines}
-use Rattle.rules.specs.GrammarSentences.{SentenceLines, SentenceFits, FormatFits, Fits, sentenceLines, sentenceNumbers}
+use Rattle.rules.specs.GrammarSentences.{SentenceLines, SentenceFits, sentenceLines}
+use Rattle.rules.specs.Grammar.{FormatFits, Fits, sentenceNumbers}
 use Rattle.rules.proofs.BytesAsSaid.{Started, started-said, heededOf, heeded-said}
 use Rattle.rules.proofs.SaidOfLists.{each-then, each-more, and-both-ways}
 use Rattle.rules.proofs.TablesAsSaid.{is-there}
-use Rattle.rules.proofs.WhatWasRead.{WasRead, Preambled, preLines}
+use Rattle.rules.proofs.WhatWasRead.{WasRead, preLines}
 use Rattle.rules.proofs.ReadSoFar.{Onward, from-start, begin-sentence, from-top, from-table}
 use Rattle.rules.proofs.SentencesSoFar.{from-sentence}
-use Rattle.rules.proofs.LineByLine.{Through, Takes, Accepting, AcceptedLines, accepted-takes, bytesOf}
+use Rattle.rules.proofs.LineByLine.{Through, Takes, Accepting, bytesOf}
+use Rattle.rules.proofs.LinesOfFiles.{accepted-takes}
 
 -- the parts that lines are, and what the grammar says of them
 pub record Parts (ls : List (List ℕ)) : Type 0 where

@@ -4,20 +4,21 @@ use Prim.Native.Nat.{ℕ, _≤_}
 use native.Mathlib.Omega.{arith}
 use mathlib.Core.Path.{_≡_, refl, sym, ap, _∙_, subst}
 use mathlib.Core.Logic.{_⊎_, inl, inr, _↔_}
-use mathlib.Core.Bool.{Bool, true, false, false≢true, not, _&&_, _||_}
+use mathlib.Core.Bool.{Bool, true, false, false≢true, _||_}
 use mathlib.Core.List.{List, [], _∷_, _++_}
 use lib.Dec.{leb, eqb}
 use Rattle.rules.specs.Lists.{pick, between, every, same}
 use Rattle.rules.specs.Bytes.{white, legal, ignored, percents}
 use Rattle.rules.specs.Columns.{goesOn}
-use Rattle.rules.specs.Grammar.{Each, Legal, White, Ignored, Heeded, no-line, ignored-line, heeded-line, Starts}
+use Rattle.rules.specs.GrammarLines.{Each, Legal, White, Ignored, Heeded, no-line, ignored-line, heeded-line, Starts}
 use Rattle.rules.proofs.SaidOfLists.{each-then, every-each, each-every, and-both-ways, or-both-ways, not-both-ways, false-if-never}
 use Rattle.rules.proofs.TestsAsFacts.{leb-is, eqb-is, same-is}
 
 between-said : (low high b : ℕ) → (between low high b ≡ true) ↔ ((low ≤ b) × (b ≤ high))
-between-said low high b =
-    (λ e. let p = and-both-ways (leb low b) (leb b high) .0 e in (leb-is low b .0 (p .0), leb-is b high .0 (p .1)),
-      λ p. and-both-ways (leb low b) (leb b high) .1 (leb-is low b .1 (p .0), leb-is b high .1 (p .1)))
+between-said low high b = (
+  λ e. let p = and-both-ways (leb low b) (leb b high) .0 e in (leb-is low b .0 (p .0), leb-is b high .0 (p .1)),
+  λ p. and-both-ways (leb low b) (leb b high) .1 (leb-is low b .1 (p .0), leb-is b high .1 (p .1)),
+)
 
 pub legal-said : (b : ℕ) → (legal b ≡ true) ↔ Legal b
 legal-said b = (λ e. said (or-both-ways (eqb b 9 || between 32 127 b) (between 160 255 b) .0 e), λ l. tested l)
@@ -64,9 +65,10 @@ ignored-said (a ∷ []) = (λ e. inl (white-said a .0 e, tt), λ i. tested i)
     tested : Ignored (a ∷ []) → white a ≡ true
     tested (inl w) = white-said a .1 (w .0)
     tested (inr r) = absurd (let z : _≡_ {A = ℕ} 0 1 = cc in omega arith)
-ignored-said (a ∷ b ∷ bs) =
-    (λ e. said (or-both-ways (same (a ∷ b ∷ []) percents) (every white (a ∷ b ∷ bs)) .0 e),
-      λ i. or-both-ways (same (a ∷ b ∷ []) percents) (every white (a ∷ b ∷ bs)) .1 (tested i))
+ignored-said (a ∷ b ∷ bs) = (
+  λ e. said (or-both-ways (same (a ∷ b ∷ []) percents) (every white (a ∷ b ∷ bs)) .0 e),
+  λ i. or-both-ways (same (a ∷ b ∷ []) percents) (every white (a ∷ b ∷ bs)) .1 (tested i),
+)
   where
     said : (same (a ∷ b ∷ []) percents ≡ true) ⊎ (every white (a ∷ b ∷ bs) ≡ true) → Ignored (a ∷ b ∷ bs)
     said (inl e) = inr (bs, ap (λ (xs : List ℕ). xs ++ bs) (same-is (a ∷ b ∷ []) percents .0 e))
@@ -105,9 +107,10 @@ Started l = goesOn l ≡ true
 
 pub started-said : (l : List ℕ) → Started l ↔ Starts l
 started-said [] = (λ e. absurd (false≢true e), λ s. absurd (let z : _≡_ {A = ℕ} 0 1 = cc in omega arith))
-started-said (b ∷ bs) =
-    (λ e. (b, bs, refl, λ w. not-both-ways (white b) .0 e (white-said b .1 w)),
-      λ s. not-both-ways (white b) .1 (λ w. s .3 (subst White (first (s .0) (s .1) (s .2)) (white-said b .0 w))))
+started-said (b ∷ bs) = (
+  λ e. (b, bs, refl, λ w. not-both-ways (white b) .0 e (white-said b .1 w)),
+  λ s. not-both-ways (white b) .1 (λ w. s .3 (subst White (first (s .0) (s .1) (s .2)) (white-said b .0 w))),
+)
   where
     first : (c : ℕ) (cs : List ℕ) → b ∷ bs ≡ c ∷ cs → b ≡ c
     first c cs e = (cc)

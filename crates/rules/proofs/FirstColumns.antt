@@ -1,24 +1,24 @@
 -- What the first column tells of a line's kind: rows begin with a number, phrases with # and one, words with anything but
 -- another #. Assumes nothing.
-use Prim.Native.Nat.{ℕ, zero, suc, _≤_, _<_}
+use Prim.Native.Nat.{ℕ, suc, _≤_}
 use native.Mathlib.Omega.{arith}
 use mathlib.Core.Path.{_≡_, refl, sym, ap, _∙_, subst}
-use mathlib.Core.Logic.{_⊎_, inl, inr, _↔_}
-use mathlib.Core.Bool.{Bool, true, false, false≢true, not, _&&_, _||_}
+use mathlib.Core.Logic.{_⊎_, inl, inr}
+use mathlib.Core.Bool.{Bool, true, false, false≢true, not, _&&_}
 use mathlib.Core.Option.{Option, none, some}
-use mathlib.Core.List.{List, [], _∷_, _++_, map}
+use mathlib.Core.List.{List, [], _∷_, _++_}
 use lib.ListN.{length, drop}
 use lib.Dec.{eqb}
-use borrow.Author.Tests.{eqb-true, eq-eqb, not-true}
+use borrow.Author.Tests.{eqb-true, not-true}
 use Rattle.rules.specs.Lists.{pick, bytes, every, empty, same}
 use Rattle.rules.specs.Bytes.{white, digit}
 use Rattle.rules.specs.Texts.{Text, reads}
 use Rattle.rules.specs.Columns.{Column, goesOn, longer, lastByte, columnsFrom, written}
 use Rattle.rules.specs.Numbers.{Kind, plain, valueFrom, decimal, within, number, plusOne, signedId, idPlusOne}
 use Rattle.rules.specs.Keywords.{hashed, startsRow, startsWord, digits, hashAndDigits, startsPhrase}
-use Rattle.rules.specs.Grammar.{columnAt}
+use Rattle.rules.specs.GrammarLines.{columnAt}
 use Rattle.rules.proofs.BytesAsSaid.{Started}
-use Rattle.rules.proofs.SaidOfLists.{and-both-ways, or-both-ways, not-both-ways, true-or-not, never-both}
+use Rattle.rules.proofs.SaidOfLists.{and-both-ways, or-both-ways, not-both-ways, never-both}
 use Rattle.rules.proofs.TestsAsFacts.{reads-are}
 
 -- ---- a line that starts with its first column has one

@@ -1,35 +1,36 @@
 -- A file that fits the grammar is accepted. Sentence by sentence, behind the tables. Assumes nothing.
-use Prim.Native.Nat.{ℕ, _+_, _≤_, _<_}
+use Prim.Native.Nat.{ℕ, _+_}
 use native.Mathlib.Omega.{arith}
 use mathlib.Core.Path.{_≡_, refl, sym, ap, _∙_, subst}
-use mathlib.Core.Bool.{Bool, true, false, _&&_}
-use mathlib.Core.List.{List, [], _∷_, _++_, map, append-assoc, append-nil}
+use mathlib.Core.Bool.{Bool}
+use mathlib.Core.List.{List, [], _∷_, _++_, map, append-assoc}
 use lib.ListN.{length}
-use lib.Dec.{leb}
 use borrow.Author.Tests.{le-leb}
 use Rattle.rules.specs.Lists.{pick, bytes, joined, member}
 use Rattle.rules.specs.Texts.{Text}
-use Rattle.rules.specs.Numbers.{fileLimit, edgeLimit}
-use Rattle.rules.specs.Tables.{Tables, noTables, origins, editors, present}
-use Rattle.rules.specs.Sentences.{Heading, Sentence, headingOf}
-use Rattle.rules.specs.Keywords.{firstColumn, tableOpened}
-use Rattle.rules.specs.Lines.{Preamble, Phase, start, top, inTable, inSentence, behindSentence, go, hand, next, cannotStand, behindOne, beginning, atTop, lineAt}
+use Rattle.rules.specs.Numbers.{fileLimit}
+use Rattle.rules.specs.Tables.{Tables, origins, editors}
+use Rattle.rules.specs.Sentences.{headingOf}
+use Rattle.rules.specs.Keywords.{firstColumn}
+use Rattle.rules.specs.Lines.{Preamble, Phase, start, top, inSentence, behindSentence, hand, next, behindOne, beginning, atTop, lineAt}
 use Rattle.rules.specs.Reading.{begin, read, outcome}
-use Rattle.rules.specs.Survey.{Survey, answered, nothingRead, surveyOf}
-use Rattle.rules.specs.Grammar.{In, Each, Differ, columnAt, Starts}
-use Rattle.rules.specs.GrammarTables.{TableLines, TablesFit, tableLines, whiches}
-use Rattle.rules.specs.GrammarSentences.{PhraseLine, SentenceLines, SentenceFits, EosFits, Fits, nodesOf, secondaryEdges, nodeLines, sentenceLines, sentenceNumbers}
+use Rattle.rules.specs.Survey.{answered, nothingRead, surveyOf}
+use Rattle.rules.specs.GrammarLines.{In, Each, Differ, columnAt, Starts}
+use Rattle.rules.specs.GrammarTables.{TableLines, tableLines, whiches}
+use Rattle.rules.specs.GrammarSentences.{SentenceLines, SentenceFits, EosFits, nodesOf, nodeLines, sentenceLines}
+use Rattle.rules.specs.Grammar.{Fits, sentenceNumbers}
 use Rattle.rules.proofs.Same.{same-false}
 use Rattle.rules.proofs.BytesAsSaid.{Started, started-said, heededOf, heeded-only}
-use Rattle.rules.proofs.SaidOfLists.{each-then, differ-map-next, map-joined, and-both-ways}
+use Rattle.rules.proofs.SaidOfLists.{each-then, differ-map-next, map-joined}
 use Rattle.rules.proofs.TestsAsFacts.{is-member}
 use Rattle.rules.proofs.TablesAsSaid.{Stand, stand-none, is-there}
 use Rattle.rules.proofs.KeywordsAsSaid.{keyword-first}
 use Rattle.rules.proofs.HeadsAsSaid.{front-first, head-grants}
-use Rattle.rules.proofs.SentenceEnds.{SentenceAlike, end-grants}
+use Rattle.rules.proofs.SentenceEnds.{end-grants}
 use Rattle.rules.proofs.TablesFollow.{Follows, one-line, keyword-reads, other-keyword, format-follows, tables-follow}
 use Rattle.rules.proofs.SentencesFollow.{words-follow, phrases-follow, taken-end}
-use Rattle.rules.proofs.LineByLine.{Through, Accepting, bytesOf, heededTexts, heeded-bytes, placed, placed-bytes, takes-accepted}
+use Rattle.rules.proofs.LineByLine.{Through, Accepting, bytesOf, heededTexts, heeded-bytes}
+use Rattle.rules.proofs.LinesOfFiles.{placed, placed-bytes, takes-accepted}
 
 -- nothing follows where a file may end
 ends-here : (ph : Phase) (used : List ℕ) → Accepting ph → Follows [] ph used
@@ -104,7 +105,7 @@ fits-accepted f t =
     (λ q stand. behind-tables q (t .tables) stand (tables .origin-there) (tables .editor-there) (t .sentences) (t .each-sentence) (t .numbers-differ))) in
     let at-places : bytesOf (heededTexts (placed 0 (t .lines))) ≡ heededOf (t .lines) = heeded-bytes (placed 0 (t .lines)) ∙ ap heededOf (placed-bytes 0 (t .lines)) in
     let taken = whole (heededTexts (placed 0 (t .lines))) (at-places ∙ sym (heeded-only (t .are-heeded)) ∙ t .parts)
-      (subst (Each Started) (t .parts) (each-then Starts Started (λ l. started-said l .1) (t .heeded) (t .each-starts))) in
+    (subst (Each Started) (t .parts) (each-then Starts Started (λ l. started-said l .1) (t .heeded) (t .each-starts))) in
     ap (λ (b : Bool). pick b (answered (read begin f)) (nothingRead 2) .refusal) (le-leb (length f) fileLimit (t .short))
     ∙ ap (λ (f : List ℕ). outcome (read begin f) .number) (t .written)
     ∙ takes-accepted (t .lines) (t .each-line) taken

@@ -2,27 +2,27 @@
 -- the columns in front of the comment one by one. Assumes nothing.
 use Prim.Native.Nat.{ℕ, zero, suc, _≤_, _<_}
 use native.Mathlib.Omega.{arith}
-use mathlib.Core.Path.{_≡_, refl, sym, ap, _∙_, subst}
+use mathlib.Core.Path.{_≡_, refl, sym, ap, _∙_}
 use mathlib.Core.Logic.{_⊎_, inl, inr, _↔_}
-use mathlib.Core.Bool.{Bool, true, false, false≢true, not, _&&_, _||_}
+use mathlib.Core.Bool.{Bool, true, false, false≢true}
 use mathlib.Core.Option.{Option, none, some}
-use mathlib.Core.List.{List, [], _∷_, _++_, map}
+use mathlib.Core.List.{List, [], _∷_}
 use lib.ListN.{length, getD, drop}
-use lib.Dec.{leb, ltb, eqb}
-use borrow.Author.Tests.{ltb-true, lt-ltb, eqb-true, eq-eqb}
+use lib.Dec.{ltb}
+use borrow.Author.Tests.{ltb-true, lt-ltb}
 use Rattle.rules.specs.Lists.{pick, bytes, empty}
 use Rattle.rules.specs.Bytes.{percents}
 use Rattle.rules.specs.Texts.{Text, reads}
 use Rattle.rules.specs.Columns.{Column, columnsFrom, columns, written, fields}
 use Rattle.rules.specs.Numbers.{sentenceNumber, originId, date, decimal, number, signedId, good, value}
 use Rattle.rules.specs.Tables.{Tables, origins, editors, table, present, rowsOf, hasId}
-use Rattle.rules.specs.Sentences.{Heading, knownEditor, knownOrigin, headingOf}
+use Rattle.rules.specs.Sentences.{Heading, knownEditor, headingOf}
 use Rattle.rules.specs.Lines.{Phase, Answer, next}
-use Rattle.rules.specs.Grammar.{In, frontColumns, columnAt}
+use Rattle.rules.specs.GrammarLines.{In, frontColumns, columnAt}
 use Rattle.rules.specs.GrammarTables.{TableLines, whiches, HasRow}
 use Rattle.rules.specs.GrammarSentences.{HeadLine, HeadFits}
 use Rattle.rules.proofs.PlaceFree.{column-there, front-columns}
-use Rattle.rules.proofs.SaidOfLists.{and-both-ways, or-both-ways, not-both-ways, never-both, false-if-never}
+use Rattle.rules.proofs.SaidOfLists.{and-both-ways, or-both-ways, not-both-ways, false-if-never}
 use Rattle.rules.proofs.TestsAsFacts.{reads-are, good-some, some-good, some-value}
 use Rattle.rules.proofs.TablesAsSaid.{Stand, is-there, has-row}
 use Rattle.rules.proofs.LineByLine.{Through, through-held, held-through, bytesOf}

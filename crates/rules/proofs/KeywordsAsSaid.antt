@@ -3,28 +3,28 @@
 use Prim.Native.Nat.{ℕ, zero, suc, _≤_, _<_}
 use native.Mathlib.Omega.{arith}
 use mathlib.Core.Path.{_≡_, refl, sym, ap, _∙_, subst}
-use mathlib.Core.Logic.{_⊎_, inl, inr, _↔_}
-use mathlib.Core.Bool.{Bool, true, false, false≢true, not, _&&_, _||_}
+use mathlib.Core.Logic.{inr}
+use mathlib.Core.Bool.{Bool, true, false, false≢true, not, _||_}
 use mathlib.Core.Option.{Option, none, some}
-use mathlib.Core.List.{List, [], _∷_, _++_, map}
+use mathlib.Core.List.{List, [], _∷_, map}
 use lib.ListN.{length, getD}
-use lib.Dec.{leb, ltb, eqb}
-use borrow.Author.Tests.{ltb-true, lt-ltb, le-ltb, eq-eqb, ne-eqb, eqb-true, not-true}
+use lib.Dec.{ltb, eqb}
+use borrow.Author.Tests.{le-ltb, eq-eqb, eqb-true, not-true}
 use Rattle.rules.specs.Lists.{pick, bytes}
 use Rattle.rules.specs.Bytes.{white}
-use Rattle.rules.specs.Texts.{Text, reads}
-use Rattle.rules.specs.Columns.{Column, goesOn, columnsFrom, columns, column, written, texts}
-use Rattle.rules.specs.Numbers.{formatNumber, sentenceNumber, number, good, value}
+use Rattle.rules.specs.Texts.{Text}
+use Rattle.rules.specs.Columns.{Column, columnsFrom, columns, written, texts}
+use Rattle.rules.specs.Numbers.{formatNumber, number, value}
 use Rattle.rules.specs.Tables.{Tables, tableNames, tableNamed, present}
 use Rattle.rules.specs.Keywords.{formatOf, fresh, tableOpened, itself, tableEnded, leadingWhite, firstColumn}
 use Rattle.rules.specs.Lines.{Phase, Answer, next}
-use Rattle.rules.specs.Grammar.{allColumns, columnAt}
+use Rattle.rules.specs.GrammarLines.{allColumns, columnAt}
 use Rattle.rules.specs.GrammarTables.{Names}
-use Rattle.rules.specs.GrammarSentences.{FormatFits}
+use Rattle.rules.specs.Grammar.{FormatFits}
 use Rattle.rules.proofs.PlaceFree.{column-there, count-columns}
 use Rattle.rules.proofs.BytesAsSaid.{Started}
-use Rattle.rules.proofs.SaidOfLists.{and-both-ways, or-both-ways, not-both-ways}
-use Rattle.rules.proofs.TestsAsFacts.{reads-are, eqb-is, good-some, some-good, some-value}
+use Rattle.rules.proofs.SaidOfLists.{or-both-ways, not-both-ways}
+use Rattle.rules.proofs.TestsAsFacts.{good-some, some-good, some-value}
 use Rattle.rules.proofs.TablesAsSaid.{named-is, is-named}
 use Rattle.rules.proofs.LineByLine.{Through, through-held, held-through}
 

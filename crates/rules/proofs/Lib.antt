@@ -14,8 +14,12 @@ pub mod BytesAsSaid
 pub mod PlaceFree
 pub mod RefusalNumbers
 pub mod LineByLine
+pub mod LinesOfFiles
 pub mod IdsInOrder
-pub mod RowsAsSaid
+pub mod RowsAlike
+pub mod RowTests
+pub mod RowsGranted
+pub mod RowsGrant
 pub mod TablesAsSaid
 pub mod KeywordsAsSaid
 pub mod HeadsAsSaid

@@ -1,22 +1,20 @@
 -- The columns of a node's line in front of its comment, as a reading takes them and as the grammar says them: five texts,
 -- then pairs. By one step along the pairs. Assumes nothing.
-use Prim.Native.Nat.{ℕ, zero, suc, _≤_, _<_}
+use Prim.Native.Nat.{ℕ, _≤_}
 use native.Mathlib.Omega.{arith}
-use mathlib.Core.Path.{_≡_, refl, sym, ap, _∙_, subst}
-use mathlib.Core.Logic.{_⊎_, inl, inr, _↔_}
-use mathlib.Core.Bool.{Bool, true, false, false≢true, not, _&&_, _||_}
-use mathlib.Core.Option.{Option, none, some}
-use mathlib.Core.List.{List, [], _∷_, _++_, map}
+use mathlib.Core.Path.{_≡_, refl, ap}
+use mathlib.Core.Bool.{true, false, false≢true}
+use mathlib.Core.List.{List, [], _∷_, map}
 use lib.ListN.{length, drop}
-use lib.Dec.{leb, ltb, eqb}
+use lib.Dec.{leb}
 use borrow.Author.Tests.{leb-true, le-leb}
 use Rattle.rules.specs.Lists.{joined}
 use Rattle.rules.specs.Texts.{Text}
 use Rattle.rules.specs.Columns.{text}
-use Rattle.rules.specs.Numbers.{value, phraseNumber, number}
+use Rattle.rules.specs.Numbers.{value}
 use Rattle.rules.specs.Sentences.{Edge, Node}
-use Rattle.rules.specs.Nodes.{Pair, pairs, paired, secondaryParent, asEdge, shaped, itsPairs, itsParent}
-use Rattle.rules.specs.Grammar.{Each}
+use Rattle.rules.specs.Nodes.{Pair, pairs, paired, secondaryParent, shaped, itsPairs}
+use Rattle.rules.specs.GrammarLines.{Each}
 use Rattle.rules.specs.GrammarSentences.{EdgeSaid, NodeLine, pairColumns, nodeColumns}
 use Rattle.rules.proofs.SaidOfLists.{and-both-ways}
 use Rattle.rules.proofs.LineByLine.{bytesOf}

@@ -1,16 +1,16 @@
 -- The rules that words and phrases have in common hold of a line exactly if the grammar says so of its node. Rule by rule,
 -- and pair by pair. Assumes nothing.
-use Prim.Native.Nat.{ℕ, zero, suc, _≤_, _<_}
+use Prim.Native.Nat.{ℕ, _≤_, _<_}
 use native.Mathlib.Omega.{arith}
-use mathlib.Core.Path.{_≡_, refl, sym, ap, _∙_, subst}
+use mathlib.Core.Path.{_≡_, refl, ap, _∙_}
 use mathlib.Core.Logic.{_⊎_, inl, inr, _↔_}
-use mathlib.Core.Bool.{Bool, true, false, false≢true, not, _&&_, _||_}
+use mathlib.Core.Bool.{Bool, true, false, _&&_}
 use mathlib.Core.Option.{Option, none, some}
 use mathlib.Core.List.{List, [], _∷_, _++_, map}
-use lib.ListN.{length, drop}
+use lib.ListN.{length}
 use lib.Dec.{leb, ltb, eqb}
 use borrow.Author.Tests.{leb-true, ltb-true, lt-ltb, eqb-true, eqb-false}
-use Rattle.rules.specs.Lists.{pick, between, joined}
+use Rattle.rules.specs.Lists.{pick}
 use Rattle.rules.specs.Texts.{Text, reads, atMost}
 use Rattle.rules.specs.Columns.{text}
 use Rattle.rules.specs.Numbers.{Kind, phraseNumber, decimal, within, number, zeroOr, parentNumber, good, value}
@@ -18,13 +18,13 @@ use Rattle.rules.specs.Rules.{Rule, rule}
 use Rattle.rules.specs.Tables.{Tables, morphTags, edgeTags, secEdgeTags, dashes, known, tagLimit}
 use Rattle.rules.specs.Sentences.{Edge}
 use Rattle.rules.specs.Nodes.{Pair, secondaryParent, asEdge, nodeOf, itsTag, itsMorphology, itsEdge, itsParent, itsPairs, parentsWritten, tagsShort, tagsKnown, parentsRise}
-use Rattle.rules.specs.Grammar.{Each, frontColumns}
-use Rattle.rules.specs.GrammarTables.{TableLines, Known}
+use Rattle.rules.specs.GrammarLines.{Each, frontColumns}
+use Rattle.rules.specs.GrammarTables.{TableLines}
 use Rattle.rules.specs.GrammarSentences.{EdgeSaid, NodeLine, nodeColumns, EdgeFits, NodeFits}
 use Rattle.rules.proofs.SaidOfLists.{each-joined, each-front, each-back, each-map, each-mapped, each-both}
-use Rattle.rules.proofs.TestsAsFacts.{reads-are, leb-is, ltb-is, good-some, some-good, some-value}
+use Rattle.rules.proofs.TestsAsFacts.{reads-are, leb-is, good-some, some-good, some-value}
 use Rattle.rules.proofs.TablesAsSaid.{Stand, known-is}
-use Rattle.rules.proofs.NodeColumns.{saidPair, each-pair, PairsAre, Shaped, Side, sideOf, sideSaid}
+use Rattle.rules.proofs.NodeColumns.{saidPair, each-pair, PairsAre, Shaped, sideOf, sideSaid}
 use Rattle.rules.proofs.LineByLine.{Hold}
 
 abbrev Holds : Rule → Type 0

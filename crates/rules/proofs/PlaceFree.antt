@@ -4,12 +4,12 @@ use Prim.Native.Nat.{ℕ, zero, suc}
 use mathlib.Core.Path.{_≡_, refl, sym, ap, _∙_}
 use mathlib.Core.Bool.{Bool, true, false}
 use mathlib.Core.List.{List, [], _∷_, map}
-use lib.ListN.{length, getD, drop}
+use lib.ListN.{length, getD}
 use Rattle.rules.specs.Lists.{pick, same}
 use Rattle.rules.specs.Bytes.{white, percents}
-use Rattle.rules.specs.Texts.{Text, noText, rightTrim, trimFrom, trim, startsComment, behindFrom, behind, inFront}
-use Rattle.rules.specs.Columns.{Column, goesOn, longer, lastByte, columnsFrom, columns, column, written, texts, text, fields}
-use Rattle.rules.specs.Grammar.{allColumns, frontColumns, columnAt, restBehind, textBehind}
+use Rattle.rules.specs.Texts.{Text, rightTrim, trimFrom, trim, startsComment, behindFrom, behind, inFront}
+use Rattle.rules.specs.Columns.{Column, goesOn, longer, lastByte, columnsFrom, columns, column, written, texts, fields}
+use Rattle.rules.specs.GrammarLines.{allColumns, frontColumns, columnAt, restBehind, textBehind}
 use Rattle.rules.proofs.SaidOfLists.{length-map}
 
 -- ---- columns without places

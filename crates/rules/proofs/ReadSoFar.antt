@@ -1,36 +1,30 @@
 -- A line that is taken leads from what was read to what was read: whatever a reading accepts is as the grammar says. One
 -- law for each kind of line. Assumes nothing.
-use Prim.Native.Nat.{ℕ, zero, suc, _+_, _≤_, _<_}
+use Prim.Native.Nat.{ℕ, _+_, _≤_}
 use native.Mathlib.Omega.{arith}
 use mathlib.Core.Path.{_≡_, refl, sym, ap, _∙_, subst}
-use mathlib.Core.Logic.{_⊎_, inl, inr, _↔_}
-use mathlib.Core.Bool.{Bool, true, false, false≢true, not, _&&_, _||_}
-use mathlib.Core.Option.{Option, none, some}
-use mathlib.Core.List.{List, [], _∷_, _++_, map, append-assoc, append-nil}
-use lib.ListN.{length, length-append}
-use Rattle.rules.specs.Lists.{pick, bytes, joined, empty, member}
+use mathlib.Core.Bool.{Bool, true, false, false≢true, not, _&&_}
+use mathlib.Core.List.{List, [], _∷_, _++_, append-assoc, append-nil}
+use lib.ListN.{length}
+use Rattle.rules.specs.Lists.{pick, bytes, empty, member}
 use Rattle.rules.specs.Texts.{Text, reads}
-use Rattle.rules.specs.Tables.{Row, noTables, origins, editors, closed}
-use Rattle.rules.specs.Sentences.{Node, Heading, Sentence, headingOf, listed, edgesOf, endOf}
-use Rattle.rules.specs.Nodes.{wordOf, phraseOf}
+use Rattle.rules.specs.Tables.{Row, noTables, closed}
+use Rattle.rules.specs.Sentences.{headingOf}
 use Rattle.rules.specs.Rows.{rowOf}
-use Rattle.rules.specs.Keywords.{formatOf, tableOpened, tableEnded, firstColumn, hashed, startsRow, startsWord, startsPhrase}
-use Rattle.rules.specs.Lines.{Preamble, Phase, start, top, inTable, inSentence, behindSentence, Answer, refuse, go, hand, next, cannotStand, atStart, atTop, behindOne, beginning, withTable, withRow, withWord, withPhrase, amongRows, amongNodes, lineAt}
-use Rattle.rules.specs.Grammar.{In, Each, Differ, columnAt}
-use Rattle.rules.specs.GrammarTables.{RowLine, TableLines, TableFits, tableLines, whiches}
-use Rattle.rules.specs.GrammarSentences.{HeadLine, NodeLine, PhraseLine, SentenceLines, WordFits, PhraseFits, SentenceFits, numbersOf, nodesOf, secondaryEdges, nodeLines, sentenceLines, sentenceNumbers}
+use Rattle.rules.specs.Keywords.{formatOf, tableOpened, tableEnded, firstColumn, hashed, startsRow}
+use Rattle.rules.specs.Lines.{Preamble, Phase, top, inTable, inSentence, go, next, cannotStand, atStart, atTop, behindOne, beginning, withTable, withRow, amongRows}
+use Rattle.rules.specs.GrammarLines.{In, columnAt}
+use Rattle.rules.specs.GrammarTables.{RowLine, TableLines, TableFits, tableLines}
 use Rattle.rules.proofs.BytesAsSaid.{Started}
-use Rattle.rules.proofs.SaidOfLists.{map-joined, each-more, differ-more, differ-map-more}
+use Rattle.rules.proofs.SaidOfLists.{map-joined, each-more, differ-map-more}
 use Rattle.rules.proofs.TestsAsFacts.{reads-are, is-member}
-use Rattle.rules.proofs.RowsAsSaid.{none-alike, alike-more, no-rows, row-granted}
-use Rattle.rules.proofs.TablesAsSaid.{Stand, stand-none, stand-more, is-there}
+use Rattle.rules.proofs.RowsAlike.{none-alike, alike-more}
+use Rattle.rules.proofs.RowTests.{no-rows}
+use Rattle.rules.proofs.RowsGranted.{row-granted}
+use Rattle.rules.proofs.TablesAsSaid.{stand-none, stand-more, is-there}
 use Rattle.rules.proofs.KeywordsAsSaid.{first-starts, starts-first, format-granted, opened-granted, ended-granted}
-use Rattle.rules.proofs.HeadsAsSaid.{head-granted, front-first}
-use Rattle.rules.proofs.NodeColumns.{Side, sideOf, sideSaid}
-use Rattle.rules.proofs.FirstColumns.{WordStart, starts-word, phrase-sign}
-use Rattle.rules.proofs.WordsAndPhrases.{word-granted, phrase-granted}
-use Rattle.rules.proofs.SentenceEnds.{SentenceAlike, end-granted, edges-both, words-count, given-before}
-use Rattle.rules.proofs.WhatWasRead.{preLines, rowLines, Preambled, Prior, priorLines, AtTop, InTable, BothThere, Behind, InSentence, WasRead, joined-more}
+use Rattle.rules.proofs.HeadsAsSaid.{head-granted}
+use Rattle.rules.proofs.WhatWasRead.{preLines, rowLines, Prior, priorLines, AtTop, InTable, WasRead, joined-more}
 use Rattle.rules.proofs.LineByLine.{Through}
 
 -- ---- the first column tells a keyword

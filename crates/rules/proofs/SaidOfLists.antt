@@ -1,14 +1,13 @@
 -- Laws of what the grammar says of lists: being one of a list, every one being so, no two being equal; along lists joined
 -- and mapped, and as tests. By one step along the list. Assumes nothing.
-use Prim.Native.Nat.{ℕ, suc}
-use native.Mathlib.Omega.{arith}
+use Prim.Native.Nat.{suc}
 use mathlib.Core.Path.{_≡_, refl, sym, ap, _∙_}
 use mathlib.Core.Logic.{_⊎_, inl, inr, _↔_}
 use mathlib.Core.Bool.{Bool, true, false, false≢true, not, _&&_, _||_}
 use mathlib.Core.List.{List, [], _∷_, _++_, map}
 use lib.ListN.{length}
 use Rattle.rules.specs.Lists.{every, any}
-use Rattle.rules.specs.Grammar.{In, Each, Differ}
+use Rattle.rules.specs.GrammarLines.{In, Each, Differ}
 
 module _ {A : Type 0} where
   -- ---- one of a list

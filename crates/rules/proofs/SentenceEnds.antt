@@ -4,22 +4,22 @@ use Prim.Native.Nat.{ℕ, zero, suc, _+_, _≤_, _<_}
 use native.Mathlib.Omega.{arith}
 use mathlib.Core.Path.{_≡_, refl, sym, ap, _∙_, subst}
 use mathlib.Core.Logic.{_⊎_, inl, inr, _↔_}
-use mathlib.Core.Bool.{Bool, true, false, false≢true, not, _&&_, _||_}
-use mathlib.Core.Option.{Option, none, some}
+use mathlib.Core.Bool.{Bool, true, false, _||_}
+use mathlib.Core.Option.{some}
 use mathlib.Core.List.{List, [], _∷_, _++_, map}
 use lib.ListN.{length, length-append}
-use lib.Dec.{leb, ltb, eqb}
+use lib.Dec.{eqb}
 use borrow.Author.Tests.{eqb-true, eqb-false, eq-eqb}
-use Rattle.rules.specs.Lists.{bytes, every, counting, joined}
+use Rattle.rules.specs.Lists.{bytes, every, counting}
 use Rattle.rules.specs.Texts.{Text}
 use Rattle.rules.specs.Columns.{columns, written}
-use Rattle.rules.specs.Numbers.{sentenceNumber, number, good, value}
-use Rattle.rules.specs.Sentences.{Edge, Node, Sentence, edgeCount, edgesOf, listed, gapless, parented, endRules, endOf}
+use Rattle.rules.specs.Numbers.{sentenceNumber, number, value}
+use Rattle.rules.specs.Sentences.{Edge, Node, Sentence, edgeCount, edgesOf, listed, parented, endRules, endOf}
 use Rattle.rules.specs.Lines.{Phase, Answer, next}
-use Rattle.rules.specs.Grammar.{In, Each, columnAt}
+use Rattle.rules.specs.GrammarLines.{In, Each, columnAt}
 use Rattle.rules.specs.GrammarSentences.{EdgeSaid, NodeLine, PhraseLine, EosFits, numbersOf, nodesOf, secondaryEdges, ParentsThere}
-use Rattle.rules.proofs.SaidOfLists.{length-map, and-both-ways, or-both-ways, every-each, each-every, each-then, each-map, each-mapped, each-joined, each-front, each-back, map-joined}
-use Rattle.rules.proofs.TestsAsFacts.{eqb-is, good-some, some-good, some-value, is-listed, numbersOfNodes}
+use Rattle.rules.proofs.SaidOfLists.{length-map, and-both-ways, or-both-ways, every-each, each-every, each-then, each-map, each-mapped, each-joined, each-front, each-back}
+use Rattle.rules.proofs.TestsAsFacts.{good-some, some-good, some-value, is-listed, numbersOfNodes}
 use Rattle.rules.proofs.KeywordsAsSaid.{two-columns, columns-two, name-second}
 use Rattle.rules.proofs.NodeColumns.{Side, sideOf, sideSaid}
 use Rattle.rules.proofs.LineByLine.{Through, through-held, held-through}

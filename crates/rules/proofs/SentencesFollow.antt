@@ -1,34 +1,32 @@
 -- Lines of sentences that are as the grammar says are taken, whatever their places. By one step along the words, the
 -- phrases and the sentences, with what follows them handed in. Assumes nothing.
-use Prim.Native.Nat.{ℕ, zero, suc, _+_, _≤_, _<_}
+use Prim.Native.Nat.{ℕ, _+_, _≤_}
 use native.Mathlib.Omega.{arith}
 use mathlib.Core.Path.{_≡_, refl, sym, ap, _∙_, subst}
-use mathlib.Core.Logic.{_⊎_, inl, inr, _↔_}
-use mathlib.Core.Bool.{Bool, true, false, false≢true, not, _&&_, _||_}
+use mathlib.Core.Bool.{true}
 use mathlib.Core.List.{List, [], _∷_, _++_, map, append-assoc, append-nil}
 use lib.ListN.{length, length-append}
-use Rattle.rules.specs.Lists.{pick, bytes, joined, empty, member}
+use Rattle.rules.specs.Lists.{bytes, empty}
 use Rattle.rules.specs.Texts.{Text, reads}
 use Rattle.rules.specs.Numbers.{wordLimit, edgeLimit, phraseNumber}
-use Rattle.rules.specs.Tables.{origins, editors}
-use Rattle.rules.specs.Sentences.{Node, Heading, Sentence, headingOf, listed, edgesOf, endOf}
+use Rattle.rules.specs.Sentences.{Node, Sentence, listed, edgesOf, endOf}
 use Rattle.rules.specs.Nodes.{wordOf, phraseOf}
-use Rattle.rules.specs.Keywords.{firstColumn, startsWord, hashAndDigits, startsPhrase}
-use Rattle.rules.specs.Lines.{Preamble, Phase, top, inSentence, behindSentence, Answer, hand, next, cannotStand, behindOne, beginning, withWord, withPhrase, amongNodes, lineAt}
-use Rattle.rules.specs.Grammar.{In, Each, Differ, columnAt}
-use Rattle.rules.specs.GrammarTables.{TableLines, whiches}
-use Rattle.rules.specs.GrammarSentences.{NodeLine, PhraseLine, SentenceLines, WordFits, PhraseFits, SentenceFits, EosFits, HeadFits, numbersOf, nodesOf, secondaryEdges, nodeLines, sentenceLines, sentenceNumbers}
+use Rattle.rules.specs.Keywords.{firstColumn, startsPhrase}
+use Rattle.rules.specs.Lines.{Preamble, Phase, inSentence, hand, next, withWord, withPhrase, amongNodes, lineAt}
+use Rattle.rules.specs.GrammarLines.{Each, Differ, columnAt}
+use Rattle.rules.specs.GrammarTables.{TableLines}
+use Rattle.rules.specs.GrammarSentences.{NodeLine, PhraseLine, WordFits, PhraseFits, numbersOf, nodesOf, secondaryEdges, nodeLines}
 use Rattle.rules.proofs.SaidOfLists.{map-joined, differ-map-next, false-if-never}
-use Rattle.rules.proofs.TestsAsFacts.{is-member, numbersOfNodes}
+use Rattle.rules.proofs.TestsAsFacts.{numbersOfNodes}
 use Rattle.rules.proofs.TablesAsSaid.{Stand}
-use Rattle.rules.proofs.KeywordsAsSaid.{starts-first, keyword-first}
-use Rattle.rules.proofs.HeadsAsSaid.{front-first, head-grants}
-use Rattle.rules.proofs.NodeColumns.{Side, sideOf, sideSaid}
+use Rattle.rules.proofs.KeywordsAsSaid.{starts-first}
+use Rattle.rules.proofs.HeadsAsSaid.{front-first}
+use Rattle.rules.proofs.NodeColumns.{sideOf, sideSaid}
 use Rattle.rules.proofs.FirstColumns.{WordStart, first-given, number-digits, sign-phrase, word-starts, word-no-phrase, word-no-end, phrase-no-end}
 use Rattle.rules.proofs.WordsAndPhrases.{word-grants, phrase-grants}
-use Rattle.rules.proofs.SentenceEnds.{SentenceAlike, end-grants, edges-both, words-count, given-before}
-use Rattle.rules.proofs.SentencesSoFar.{maps-more, nodes-more, edges-more}
-use Rattle.rules.proofs.TablesFollow.{Follows, one-line, keyword-reads}
+use Rattle.rules.proofs.SentenceEnds.{SentenceAlike, edges-both, words-count, given-before}
+use Rattle.rules.proofs.SentencesSoFar.{maps-more, nodes-more}
+use Rattle.rules.proofs.TablesFollow.{Follows, one-line}
 use Rattle.rules.proofs.LineByLine.{Through}
 
 none-empty : (ns : List Node) → numbersOfNodes ns ≡ [] → empty ns ≡ true

@@ -1,31 +1,32 @@
 -- A word, a phrase or an end that is taken in a sentence leads from what was read to what was read. One law for each kind
 -- of line. Assumes nothing.
-use Prim.Native.Nat.{ℕ, zero, suc, _+_, _≤_, _<_}
+use Prim.Native.Nat.{ℕ, _+_, _≤_, _<_}
 use native.Mathlib.Omega.{arith}
 use mathlib.Core.Path.{_≡_, refl, sym, ap, _∙_, subst}
 use mathlib.Core.Logic.{_⊎_, inl, inr, _↔_}
-use mathlib.Core.Bool.{Bool, true, false, false≢true, not, _&&_, _||_}
+use mathlib.Core.Bool.{Bool, true, false, false≢true}
 use mathlib.Core.List.{List, [], _∷_, _++_, map, append-assoc, append-nil}
 use lib.ListN.{length, length-append, drop}
 use Rattle.rules.specs.Lists.{pick, bytes, joined, empty}
 use Rattle.rules.specs.Texts.{Text, reads}
 use Rattle.rules.specs.Sentences.{Node, Sentence, listed, edgesOf, endOf}
 use Rattle.rules.specs.Nodes.{wordOf, phraseOf}
-use Rattle.rules.specs.Keywords.{firstColumn, hashed, startsRow, startsWord, hashAndDigits, startsPhrase}
-use Rattle.rules.specs.Lines.{Preamble, Phase, inSentence, behindSentence, Answer, hand, next, cannotStand, withWord, withPhrase, amongNodes}
-use Rattle.rules.specs.Grammar.{In, Each, Differ, columnAt}
+use Rattle.rules.specs.Keywords.{firstColumn, startsRow, startsWord, hashAndDigits, startsPhrase}
+use Rattle.rules.specs.Lines.{Preamble, Phase, inSentence, behindSentence, hand, next, cannotStand, withWord, withPhrase, amongNodes}
+use Rattle.rules.specs.GrammarLines.{In}
 use Rattle.rules.specs.GrammarTables.{TableLines}
-use Rattle.rules.specs.GrammarSentences.{EdgeSaid, NodeLine, PhraseLine, SentenceLines, WordFits, PhraseFits, SentenceFits, numbersOf, nodesOf, secondaryEdges, nodeLines, sentenceLines, sentenceNumbers}
+use Rattle.rules.specs.GrammarSentences.{NodeLine, PhraseLine, SentenceLines, WordFits, PhraseFits, SentenceFits, numbersOf, nodesOf, secondaryEdges, nodeLines, sentenceLines}
+use Rattle.rules.specs.Grammar.{sentenceNumbers}
 use Rattle.rules.proofs.NoGap.{no-others}
 use Rattle.rules.proofs.SaidOfLists.{length-map, map-joined, each-more, differ-map-more, or-both-ways}
 use Rattle.rules.proofs.TestsAsFacts.{reads-are, numbersOfNodes}
 use Rattle.rules.proofs.KeywordsAsSaid.{first-starts, starts-first}
 use Rattle.rules.proofs.HeadsAsSaid.{front-first}
-use Rattle.rules.proofs.NodeColumns.{Side, sideOf, sideSaid}
+use Rattle.rules.proofs.NodeColumns.{sideOf, sideSaid}
 use Rattle.rules.proofs.FirstColumns.{WordStart, starts-word, phrase-sign}
 use Rattle.rules.proofs.WordsAndPhrases.{word-granted, phrase-granted}
-use Rattle.rules.proofs.SentenceEnds.{SentenceAlike, end-granted, edges-both, words-count, given-before}
-use Rattle.rules.proofs.WhatWasRead.{Preambled, Prior, priorLines, Behind, InSentence, joined-more, preLines}
+use Rattle.rules.proofs.SentenceEnds.{end-granted, edges-both, words-count, given-before}
+use Rattle.rules.proofs.WhatWasRead.{priorLines, InSentence, joined-more, preLines}
 use Rattle.rules.proofs.ReadSoFar.{Onward, keyword, row-given}
 use Rattle.rules.proofs.LineByLine.{Through}
 

@@ -1,25 +1,24 @@
 -- The tables closed in a reading, and those of the grammar: which are there, and whether an id or a tag stands in one.
 -- Table by table. Assumes nothing.
-use Prim.Native.Nat.{ℕ, zero, suc, _+_, _≤_, _<_}
-use native.Mathlib.Nat.{add-zero, add-suc}
+use Prim.Native.Nat.{ℕ, zero, suc, _+_, _<_}
 use native.Mathlib.Omega.{arith}
 use mathlib.Core.Path.{_≡_, refl, sym, ap, _∙_, subst}
 use mathlib.Core.Logic.{_⊎_, inl, inr, _↔_}
-use mathlib.Core.Bool.{Bool, true, false, false≢true, not, _&&_, _||_}
+use mathlib.Core.Bool.{Bool, true, false, false≢true, not, _||_}
 use mathlib.Core.Option.{Option, none, some}
-use mathlib.Core.List.{List, [], _∷_, _++_, map}
+use mathlib.Core.List.{List, [], _∷_, _++_}
 use lib.ListN.{length, getD, set, replicate, length-set}
 use lib.Seq.{getD-set-same, getD-set-other}
 use lib.Dec.{eqb}
 use borrow.Author.Tests.{eqb-true, eqb-false}
-use Rattle.rules.specs.Lists.{pick, bytes}
+use Rattle.rules.specs.Lists.{pick}
 use Rattle.rules.specs.Texts.{Text, reads}
 use Rattle.rules.specs.Tables.{Tables, Row, tableNames, placeFrom, tableNamed, noTables, table, there, present, closed, rowsOf, hasId, hasTag, dashes, unknown, reserved, known}
-use Rattle.rules.specs.Grammar.{In}
-use Rattle.rules.specs.GrammarTables.{RowLine, TableLines, ids1, firsts, whiches, HasRow, Known}
-use Rattle.rules.proofs.SaidOfLists.{in-front, in-either, in-last, in-map, in-mapped, map-joined, or-both-ways, not-both-ways, true-or-not}
+use Rattle.rules.specs.GrammarLines.{In}
+use Rattle.rules.specs.GrammarTables.{TableLines, whiches, HasRow, Known}
+use Rattle.rules.proofs.SaidOfLists.{in-front, in-either, in-last, in-map, in-mapped, map-joined, or-both-ways, true-or-not}
 use Rattle.rules.proofs.TestsAsFacts.{reads-are, has-id, has-tag}
-use Rattle.rules.proofs.RowsAsSaid.{Alike}
+use Rattle.rules.proofs.RowsAlike.{Alike}
 
 -- ---- the name of a table
 

@@ -1,26 +1,26 @@
 -- Lines that are as the grammar says are taken, whatever their places: the format line, rows and tables. By one step along
 -- the rows and the tables, with what follows them handed in. Assumes nothing.
-use Prim.Native.Nat.{ℕ, zero, suc, _+_, _≤_, _<_}
+use Prim.Native.Nat.{ℕ, zero, suc, _+_}
 use native.Mathlib.Omega.{arith}
 use mathlib.Core.Path.{_≡_, refl, sym, ap, _∙_, subst}
-use mathlib.Core.Logic.{_⊎_, inl, inr, _↔_}
-use mathlib.Core.Bool.{Bool, true, false, false≢true, not, _&&_, _||_}
+use mathlib.Core.Bool.{Bool, true, false}
 use mathlib.Core.List.{List, [], _∷_, _++_, map, append-assoc, append-nil}
-use lib.ListN.{length, getD}
+use lib.ListN.{getD}
 use Rattle.rules.specs.Lists.{pick, bytes, joined}
 use Rattle.rules.specs.Texts.{Text, reads}
 use Rattle.rules.specs.Numbers.{originId, number, signedId}
 use Rattle.rules.specs.Tables.{Row, tableNames, noTables, closed}
 use Rattle.rules.specs.Rows.{rowOf}
 use Rattle.rules.specs.Keywords.{formatOf, tableOpened, tableEnded, firstColumn, startsRow}
-use Rattle.rules.specs.Lines.{Preamble, Phase, start, top, inTable, Answer, go, next, cannotStand, atStart, atTop, behindOne, withTable, withRow, amongRows, lineAt}
-use Rattle.rules.specs.Grammar.{In, Each, Differ, columnAt}
+use Rattle.rules.specs.Lines.{Preamble, Phase, start, top, inTable, go, next, cannotStand, atStart, atTop, behindOne, withTable, withRow, amongRows, lineAt}
+use Rattle.rules.specs.GrammarLines.{In, Each, Differ, columnAt}
 use Rattle.rules.specs.GrammarTables.{RowLine, TableLines, OriginRow, EditorRow, TagRow, RowsFit, Names, TableFits, tableLines, whiches}
-use Rattle.rules.specs.GrammarSentences.{FormatFits}
+use Rattle.rules.specs.Grammar.{FormatFits}
 use Rattle.rules.proofs.BytesAsSaid.{Started}
 use Rattle.rules.proofs.SaidOfLists.{each-back, differ-map-next, false-if-never}
 use Rattle.rules.proofs.TestsAsFacts.{reads-are}
-use Rattle.rules.proofs.RowsAsSaid.{Alike, AlikeRow, none-alike, alike-more, row-grants}
+use Rattle.rules.proofs.RowsAlike.{Alike, none-alike, alike-more}
+use Rattle.rules.proofs.RowsGrant.{row-grants}
 use Rattle.rules.proofs.TablesAsSaid.{Stand, stand-more, is-there}
 use Rattle.rules.proofs.KeywordsAsSaid.{starts-first, keyword-first, format-grants, opened-grants, ended-grants}
 use Rattle.rules.proofs.FirstColumns.{number-row, id-row, row-no-keyword}

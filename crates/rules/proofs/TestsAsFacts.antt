@@ -1,21 +1,21 @@
 -- What the tests of the rules say: that a text reads so, is given, is short enough; that a number is written; that an id,
 -- a tag or a number is among others. Assumes nothing.
-use Prim.Native.Nat.{ℕ, suc, _≤_, _<_}
+use Prim.Native.Nat.{ℕ, _≤_, _<_}
 use native.Mathlib.Omega.{arith}
-use mathlib.Core.Path.{_≡_, refl, sym, ap, _∙_}
-use mathlib.Core.Logic.{_⊎_, inl, inr, _↔_}
-use mathlib.Core.Bool.{Bool, true, false, false≢true, not, _&&_, _||_}
+use mathlib.Core.Path.{_≡_, refl, ap}
+use mathlib.Core.Logic.{_↔_}
+use mathlib.Core.Bool.{Bool, true, false, false≢true, not}
 use mathlib.Core.Option.{Option, none, some}
 use mathlib.Core.List.{List, [], _∷_, map}
 use lib.ListN.{length}
 use lib.Dec.{leb, ltb, eqb}
 use borrow.Author.Tests.{le-leb, leb-true, lt-ltb, ltb-true, eqb-true, eq-eqb}
-use Rattle.rules.specs.Lists.{same, any, member}
+use Rattle.rules.specs.Lists.{same, member}
 use Rattle.rules.specs.Texts.{Text, given, reads}
 use Rattle.rules.specs.Numbers.{good, value}
 use Rattle.rules.specs.Tables.{Row, hasId, hasTag}
 use Rattle.rules.specs.Sentences.{Node, listed}
-use Rattle.rules.specs.Grammar.{In}
+use Rattle.rules.specs.GrammarLines.{In}
 use Rattle.rules.proofs.Same.{same-eq, eq-same}
 use Rattle.rules.proofs.SaidOfLists.{any-in, in-any, not-both-ways}
 

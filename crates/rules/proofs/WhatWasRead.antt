@@ -1,7 +1,7 @@
 -- What a reading has read by the time it stands in a phase: the parts of the file so far, with all that the grammar says of
 -- them and that does not look ahead. Assumes nothing.
-use Prim.Native.Nat.{ℕ, zero, suc, _+_, _≤_, _<_}
-use mathlib.Core.Path.{_≡_, refl, sym, ap, _∙_}
+use Prim.Native.Nat.{ℕ, _+_, _≤_, _<_}
+use mathlib.Core.Path.{_≡_, sym, ap, _∙_}
 use mathlib.Core.List.{List, [], _∷_, _++_, map, append-assoc, append-nil}
 use lib.ListN.{length}
 use Rattle.rules.specs.Lists.{bytes, joined}
@@ -9,10 +9,11 @@ use Rattle.rules.specs.Numbers.{wordLimit, edgeLimit}
 use Rattle.rules.specs.Tables.{Row, origins, editors}
 use Rattle.rules.specs.Sentences.{Sentence}
 use Rattle.rules.specs.Lines.{Preamble, Phase, start, top, inTable, inSentence, behindSentence}
-use Rattle.rules.specs.Grammar.{In, Each, Differ}
-use Rattle.rules.specs.GrammarTables.{RowLine, TableLines, RowsFit, Names, TableFits, TablesFit, tableLines, whiches}
-use Rattle.rules.specs.GrammarSentences.{HeadLine, NodeLine, PhraseLine, SentenceLines, HeadFits, WordFits, PhraseFits, SentenceFits, FormatFits, numbersOf, nodesOf, secondaryEdges, nodeLines, sentenceLines, sentenceNumbers}
-use Rattle.rules.proofs.RowsAsSaid.{Alike}
+use Rattle.rules.specs.GrammarLines.{In, Each, Differ}
+use Rattle.rules.specs.GrammarTables.{RowLine, TableLines, RowsFit, Names, TableFits, tableLines, whiches}
+use Rattle.rules.specs.GrammarSentences.{HeadLine, NodeLine, PhraseLine, SentenceLines, HeadFits, WordFits, PhraseFits, SentenceFits, numbersOf, nodesOf, secondaryEdges, nodeLines, sentenceLines}
+use Rattle.rules.specs.Grammar.{FormatFits, sentenceNumbers}
+use Rattle.rules.proofs.RowsAlike.{Alike}
 use Rattle.rules.proofs.TablesAsSaid.{Stand}
 use Rattle.rules.proofs.SentenceEnds.{SentenceAlike}
 

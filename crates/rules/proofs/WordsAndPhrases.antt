@@ -1,35 +1,35 @@
 -- A word's or phrase's line is granted exactly if it is as the grammar says, among what stands in front of it in its
 -- sentence. Rule by rule. Assumes nothing.
-use Prim.Native.Nat.{ℕ, zero, suc, _+_, _≤_, _<_}
+use Prim.Native.Nat.{ℕ, suc, _+_, _≤_, _<_}
 use native.Mathlib.Omega.{arith}
-use mathlib.Core.Path.{_≡_, refl, sym, ap, _∙_, subst}
-use mathlib.Core.Logic.{_⊎_, inl, inr, _↔_}
-use mathlib.Core.Bool.{Bool, true, false, false≢true, not, _&&_, _||_}
-use mathlib.Core.Option.{Option, none, some}
+use mathlib.Core.Path.{_≡_, refl, sym, ap, _∙_}
+use mathlib.Core.Logic.{_⊎_, inl, inr}
+use mathlib.Core.Bool.{Bool, true, not, _&&_}
+use mathlib.Core.Option.{some}
 use mathlib.Core.List.{List, [], _∷_, _++_, map}
 use lib.ListN.{length, drop}
-use lib.Dec.{leb, ltb, eqb}
+use lib.Dec.{ltb}
 use borrow.Author.Tests.{leb-true, le-leb, ltb-true, lt-ltb}
-use Rattle.rules.specs.Lists.{pick, bytes}
+use Rattle.rules.specs.Lists.{bytes}
 use Rattle.rules.specs.Texts.{Text, noText}
 use Rattle.rules.specs.Columns.{columns, text, fields, comment}
-use Rattle.rules.specs.Numbers.{wordLimit, edgeLimit, phraseNumber, number, good, value}
+use Rattle.rules.specs.Numbers.{wordLimit, edgeLimit, phraseNumber, number, value}
 use Rattle.rules.specs.Rules.{Rule, rule}
 use Rattle.rules.specs.Tables.{Tables, wordTags, nodeTags}
-use Rattle.rules.specs.Sentences.{Edge, Node}
-use Rattle.rules.specs.Nodes.{Pair, secondaryParent, itsParent, itsPairs, shaped, roomy, nodeOf, behindHash, wordOf, phraseOf}
+use Rattle.rules.specs.Sentences.{Node}
+use Rattle.rules.specs.Nodes.{Pair, secondaryParent, itsPairs, shaped, roomy, behindHash, wordOf, phraseOf}
 use Rattle.rules.specs.Lines.{Phase, Answer, next}
-use Rattle.rules.specs.Grammar.{Each, frontColumns}
+use Rattle.rules.specs.GrammarLines.{Each, frontColumns}
 use Rattle.rules.specs.GrammarTables.{TableLines}
-use Rattle.rules.specs.GrammarSentences.{EdgeSaid, NodeLine, PhraseLine, nodeColumns, EdgeFits, NodeFits, WordFits, PhraseFits}
+use Rattle.rules.specs.GrammarSentences.{EdgeSaid, NodeLine, PhraseLine, nodeColumns, EdgeFits, WordFits, PhraseFits}
 use Rattle.rules.proofs.PlaceFree.{front-columns}
-use Rattle.rules.proofs.SaidOfLists.{length-map, and-both-ways, not-both-ways, each-then, each-map}
+use Rattle.rules.proofs.SaidOfLists.{length-map, and-both-ways, not-both-ways, each-then}
 use Rattle.rules.proofs.TestsAsFacts.{good-some, some-good, some-value}
 use Rattle.rules.proofs.TablesAsSaid.{Stand}
-use Rattle.rules.proofs.NodeColumns.{saidPair, PairsAre, Shaped, shaped-columns, columns-shaped, Side, sideOf, sideSaid}
-use Rattle.rules.proofs.NodesAsSaid.{NodeHeld, own-held, node-held, held-node, nodeSaid, held-said, said-held, same-side, side-said, parent-range, secondary-range}
-use Rattle.rules.proofs.FirstColumns.{WordStart, phrase-sign}
-use Rattle.rules.proofs.LineByLine.{Through, through-held, held-through, bytesOf}
+use Rattle.rules.proofs.NodeColumns.{saidPair, PairsAre, shaped-columns, columns-shaped, sideOf, sideSaid}
+use Rattle.rules.proofs.NodesAsSaid.{own-held, node-held, held-node, nodeSaid, held-said, said-held, same-side, side-said, parent-range, secondary-range}
+use Rattle.rules.proofs.FirstColumns.{WordStart}
+use Rattle.rules.proofs.LineByLine.{Through, through-held, held-through}
 
 pairs-length : (ps : List Pair) (es : List EdgeSaid) → PairsAre ps es → length ps ≡ length es
 pairs-length [] [] a = refl

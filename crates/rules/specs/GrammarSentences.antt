@@ -8,10 +8,10 @@ use mathlib.Core.Option.{some}
 use mathlib.Core.List.{List, [], _∷_, _++_, map}
 use lib.ListN.{length}
 use Rattle.rules.specs.Lists.{bytes, joined}
-use Rattle.rules.specs.Numbers.{fileLimit, wordLimit, edgeLimit, sentenceNumber, originId, date, phraseNumber, formatNumber, number, signedId, parentNumber}
+use Rattle.rules.specs.Numbers.{wordLimit, edgeLimit, sentenceNumber, originId, date, phraseNumber, number, signedId, parentNumber}
 use Rattle.rules.specs.Tables.{origins, editors, wordTags, morphTags, nodeTags, edgeTags, secEdgeTags, tagLimit, dashes}
-use Rattle.rules.specs.Grammar.{In, Each, Differ, allColumns, frontColumns, linesWritten, Heeded, LineFits, Starts}
-use Rattle.rules.specs.GrammarTables.{TableLines, TablesFit, HasRow, Known, tableLines}
+use Rattle.rules.specs.GrammarLines.{In, Each, Differ, allColumns, frontColumns}
+use Rattle.rules.specs.GrammarTables.{TableLines, HasRow, Known}
 
 -- ---- nodes
 
@@ -149,32 +149,3 @@ nodeLines ns = map (λ (n : NodeLine). n .line) ns
 
 abbrev pub sentenceLines : SentenceLines → List (List ℕ)
 sentenceLines s = (s .head .line) ∷ nodeLines (s .words) ++ nodeLines (nodesOf (s .phrases)) ++ ((s .eos) ∷ [])
-
--- ---- files
-
-abbrev pub sentenceNumbers : List SentenceLines → List ℕ
-sentenceNumbers ss = map (λ (s : SentenceLines). s .head .number) ss
-
--- #FORMAT 3
-pub record FormatFits (l : List ℕ) : Type 0 where
-  pub numberText : List ℕ
-  pub columns : allColumns l ≡ bytes "#FORMAT" ∷ numberText ∷ []
-  pub number-written : number formatNumber numberText ≡ some 3
-
--- #FORMAT 3 comes first, then tables, then sentences; ignored lines stand anywhere
-pub record Fits (f : List ℕ) : Type 0 where
-  pub lines : List (List ℕ)
-  pub format : List ℕ
-  pub tables : List TableLines
-  pub sentences : List SentenceLines
-  pub written : f ≡ linesWritten lines
-  pub short : length f ≤ fileLimit
-  pub each-line : Each LineFits lines
-  pub heeded : List (List ℕ)
-  pub are-heeded : Heeded lines heeded
-  pub each-starts : Each Starts heeded
-  pub parts : heeded ≡ format ∷ joined (map tableLines tables) ++ joined (map sentenceLines sentences)
-  pub format-fits : FormatFits format
-  pub tables-fit : TablesFit tables
-  pub each-sentence : Each (SentenceFits tables) sentences
-  pub numbers-differ : Differ (sentenceNumbers sentences)

@@ -13,7 +13,7 @@ use Rattle.rules.specs.Bytes.{percents}
 use Rattle.rules.specs.Texts.{inFront, behind, trim}
 use Rattle.rules.specs.Numbers.{rowLimit, originId, number, signedId}
 use Rattle.rules.specs.Tables.{origins, editors, wordTags, tableNames, tagLimit, dashes, unknown}
-use Rattle.rules.specs.Grammar.{In, Each, Differ, allColumns, columnAt, restBehind, textBehind, GivenUpTo}
+use Rattle.rules.specs.GrammarLines.{In, Each, Differ, allColumns, columnAt, restBehind, textBehind, GivenUpTo}
 
 -- a row's line, one more than its id, and its name, login or tag
 pub record RowLine : Type 0 where

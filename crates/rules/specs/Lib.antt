@@ -17,6 +17,7 @@ pub mod Opening
 pub mod Meaning
 pub mod Tidy
 pub mod Writing
-pub mod Grammar
+pub mod GrammarLines
 pub mod GrammarTables
 pub mod GrammarSentences
+pub mod Grammar

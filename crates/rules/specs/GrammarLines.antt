@@ -1,0 +1,87 @@
+-- What a file of format 3 is, apart from how one is read. Document 01, "Lines and bytes" and "The file from top to
+-- bottom", and the words that its sentences are said in here. Assumes nothing.
+use Prim.Native.Nat.{ℕ, _≤_}
+use mathlib.Core.Path.{_≡_}
+use mathlib.Core.Logic.{_⊎_}
+use mathlib.Core.List.{List, [], _∷_, _++_, map}
+use lib.ListN.{length}
+use Rattle.rules.specs.Lists.{joined}
+use Rattle.rules.specs.Bytes.{newline, percents}
+use Rattle.rules.specs.Texts.{Text, trim}
+use Rattle.rules.specs.Columns.{columnsFrom, column, written, texts, fields}
+use Rattle.rules.specs.Numbers.{lineLimit}
+
+-- ---- said of lists
+
+-- x is one of the list
+abbrev pub In : {A : Type 0} → A → List A → Type 0
+In x [] = ⊥
+In x (y ∷ ys) = (x ≡ y) ⊎ In x ys
+
+-- every one of the list is so
+abbrev pub Each : {A : Type 0} → (A → Type 0) → List A → Type 0
+Each P [] = Unit
+Each P (x ∷ xs) = P x × Each P xs
+
+-- no two of the list are equal
+abbrev pub Differ : {A : Type 0} → List A → Type 0
+Differ [] = Unit
+Differ (x ∷ xs) = (In x xs → ⊥) × Differ xs
+
+-- ---- a file and its lines
+
+-- a line's bytes are 9, 32 to 127 or 160 to 255
+abbrev pub Legal : ℕ → Type 0
+Legal b = (b ≡ 9) ⊎ ((32 ≤ b) × (b ≤ 127)) ⊎ ((160 ≤ b) × (b ≤ 255))
+
+pub record LineFits (l : List ℕ) : Type 0 where
+  pub legal-bytes : Each Legal l
+  pub short : length l ≤ lineLimit
+
+-- every line with the newline that ends it
+abbrev pub linesWritten : List (List ℕ) → List ℕ
+linesWritten ls = joined (map (λ (l : List ℕ). l ++ (newline ∷ [])) ls)
+
+-- white is 9 and 32 only
+abbrev pub White : ℕ → Type 0
+White b = (b ≡ 9) ⊎ (b ≡ 32)
+
+-- a line of only white bytes, or one that begins with %%, is ignored wherever it stands
+abbrev pub Ignored : List ℕ → Type 0
+Ignored l = Each White l ⊎ ((rest : List ℕ) × (l ≡ percents ++ rest))
+
+-- the lines of a file that are not ignored
+pub data Heeded : List (List ℕ) → List (List ℕ) → Type 0 where
+  no-line : Heeded [] []
+  ignored-line : {l : List ℕ} {ls hs : List (List ℕ)} → Ignored l → Heeded ls hs → Heeded (l ∷ ls) hs
+  heeded-line : {l : List ℕ} {ls hs : List (List ℕ)} → (Ignored l → ⊥) → Heeded ls hs → Heeded (l ∷ ls) (l ∷ hs)
+
+-- every other line starts with its first column
+abbrev pub Starts : List ℕ → Type 0
+Starts l = (b : ℕ) × (rest : List ℕ) × (l ≡ b ∷ rest) × (White b → ⊥)
+
+-- ---- a line and its columns
+
+-- all columns of a line
+abbrev pub allColumns : List ℕ → List (List ℕ)
+allColumns line = map (λ (t : Text). t .bytes) (texts (columnsFrom 0 line))
+
+-- the columns in front of the comment, which the first column that is exactly %% begins
+abbrev pub frontColumns : List ℕ → List (List ℕ)
+frontColumns line = map (λ (t : Text). t .bytes) (fields (columnsFrom 0 line))
+
+-- a column of a line, counted from 0
+abbrev pub columnAt : ℕ → List ℕ → List ℕ
+columnAt n line = written (columnsFrom 0 line) n .bytes
+
+-- all that stands behind it
+abbrev pub restBehind : ℕ → List ℕ → Text
+restBehind n line = column (columnsFrom 0 line) n .after
+
+-- the same without the white bytes at both ends
+abbrev pub textBehind : ℕ → List ℕ → List ℕ
+textBehind n line = trim (restBehind n line) .bytes
+
+-- a text that may not be missing, and its limit
+abbrev pub GivenUpTo : ℕ → List ℕ → Type 0
+GivenUpTo limit xs = (1 ≤ length xs) × (length xs ≤ limit)
