@@ -8,7 +8,7 @@ pub mod ReadLines
 pub mod Cut
 pub mod CutRule
 pub mod SaidOfLists
-pub mod NoGap
+pub mod NoOthers
 pub mod TestsAsFacts
 pub mod BytesAsSaid
 pub mod PlaceFree
@@ -25,7 +25,7 @@ pub mod KeywordsAsSaid
 pub mod HeadsAsSaid
 pub mod NodeColumns
 pub mod NodesAsSaid
-pub mod FirstColumns
+pub mod LineKinds
 pub mod WordsAndPhrases
 pub mod SentenceEnds
 pub mod WhatWasRead

@@ -22,7 +22,7 @@ use Rattle.rules.proofs.TablesAsSaid.{Stand}
 use Rattle.rules.proofs.KeywordsAsSaid.{starts-first}
 use Rattle.rules.proofs.HeadsAsSaid.{front-first}
 use Rattle.rules.proofs.NodeColumns.{sideOf, sideSaid}
-use Rattle.rules.proofs.FirstColumns.{WordStart, first-given, number-digits, sign-phrase, word-starts, word-no-phrase, word-no-end, phrase-no-end}
+use Rattle.rules.proofs.LineKinds.{WordStart, first-given, number-digits, sign-phrase, word-starts, word-no-phrase, word-no-end, phrase-no-end}
 use Rattle.rules.proofs.WordsAndPhrases.{word-grants, phrase-grants}
 use Rattle.rules.proofs.SentenceEnds.{SentenceAlike, edges-both, words-count, given-before}
 use Rattle.rules.proofs.SentencesSoFar.{maps-more, nodes-more}

@@ -17,13 +17,13 @@ use Rattle.rules.specs.GrammarLines.{In}
 use Rattle.rules.specs.GrammarTables.{TableLines}
 use Rattle.rules.specs.GrammarSentences.{NodeLine, PhraseLine, SentenceLines, WordFits, PhraseFits, SentenceFits, numbersOf, nodesOf, secondaryEdges, nodeLines, sentenceLines}
 use Rattle.rules.specs.Grammar.{sentenceNumbers}
-use Rattle.rules.proofs.NoGap.{no-others}
+use Rattle.rules.proofs.NoOthers.{no-others}
 use Rattle.rules.proofs.SaidOfLists.{length-map, map-joined, each-more, differ-map-more, or-both-ways}
 use Rattle.rules.proofs.TestsAsFacts.{reads-are, numbersOfNodes}
 use Rattle.rules.proofs.KeywordsAsSaid.{first-starts, starts-first}
 use Rattle.rules.proofs.HeadsAsSaid.{front-first}
 use Rattle.rules.proofs.NodeColumns.{sideOf, sideSaid}
-use Rattle.rules.proofs.FirstColumns.{WordStart, starts-word, phrase-sign}
+use Rattle.rules.proofs.LineKinds.{WordStart, starts-word, phrase-sign}
 use Rattle.rules.proofs.WordsAndPhrases.{word-granted, phrase-granted}
 use Rattle.rules.proofs.SentenceEnds.{end-granted, edges-both, words-count, given-before}
 use Rattle.rules.proofs.WhatWasRead.{priorLines, InSentence, joined-more, preLines}

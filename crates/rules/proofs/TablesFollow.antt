@@ -23,7 +23,7 @@ use Rattle.rules.proofs.RowsAlike.{Alike, none-alike, alike-more}
 use Rattle.rules.proofs.RowsGrant.{row-grants}
 use Rattle.rules.proofs.TablesAsSaid.{Stand, stand-more, is-there}
 use Rattle.rules.proofs.KeywordsAsSaid.{starts-first, keyword-first, format-grants, opened-grants, ended-grants}
-use Rattle.rules.proofs.FirstColumns.{number-row, id-row, row-no-keyword}
+use Rattle.rules.proofs.LineKinds.{number-row, id-row, row-no-keyword}
 use Rattle.rules.proofs.WhatWasRead.{rowLines}
 use Rattle.rules.proofs.LineByLine.{Through, through-then, Takes, Accepting, bytesOf}
 

@@ -28,7 +28,7 @@ use Rattle.rules.proofs.TestsAsFacts.{good-some, some-good, some-value}
 use Rattle.rules.proofs.TablesAsSaid.{Stand}
 use Rattle.rules.proofs.NodeColumns.{saidPair, PairsAre, shaped-columns, columns-shaped, sideOf, sideSaid}
 use Rattle.rules.proofs.NodesAsSaid.{own-held, node-held, held-node, nodeSaid, held-said, said-held, same-side, side-said, parent-range, secondary-range}
-use Rattle.rules.proofs.FirstColumns.{WordStart}
+use Rattle.rules.proofs.LineKinds.{WordStart}
 use Rattle.rules.proofs.LineByLine.{Through, through-held, held-through}
 
 pairs-length : (ps : List Pair) (es : List EdgeSaid) → PairsAre ps es → length ps ≡ length es
