@@ -1,10 +1,10 @@
 -- What tests joined by "and" tell, of two and of every element of a list. Assumes nothing.
 use Prim.Native.Nat.{ℕ}
 use native.Mathlib.Omega.{arith}
-use mathlib.Core.Path.{_≡_, refl}
-use mathlib.Core.Bool.{Bool, true, false, not, _&&_, _||_}
+use mathlib.Core.Path.{_≡_, refl, sym, ap, _∙_}
+use mathlib.Core.Bool.{Bool, true, false, not, _&&_, _||_, and-assoc}
 use mathlib.Core.List.{List, [], _∷_, _++_, map}
-use Rattle.rules.specs.Lists.{every, any}
+use Rattle.rules.specs.Lists.{every}
 
 pub and-left : (a b : Bool) → (a && b) ≡ true → a ≡ true
 and-left true b e = refl
@@ -17,9 +17,20 @@ and-right false b e = cc
 pub and-both : (a b : Bool) → a ≡ true → b ≡ true → (a && b) ≡ true
 and-both a b p q = rw (p, q)
 
+pub both : (a b : Bool) → (a && b) ≡ true → (a ≡ true) × (b ≡ true)
+both a b e = (and-left a b e, and-right a b e)
+
 pub not-true : (a : Bool) → not a ≡ true → a ≡ false
 not-true true e = cc
 not-true false e = refl
+
+pub or-left : (a b : Bool) → (a || b) ≡ false → a ≡ false
+or-left true b e = e
+or-left false b e = refl
+
+pub or-right : (a b : Bool) → (a || b) ≡ false → b ≡ false
+or-right true b e = cc
+or-right false b e = e
 
 pub or-false : (a b : Bool) → (a || b) ≡ true → a ≡ false → b ≡ true
 or-false true b e f = absurd (let z : _≡_ {A = ℕ} 0 1 = cc in omega arith)
@@ -43,6 +54,10 @@ module _ {ℓ} {A : Type ℓ} (f : A → Bool) where
   pub every-back : (xs ys : List A) → every f (xs ++ ys) ≡ true → every f ys ≡ true
   every-back [] ys e = e
   every-back (x ∷ xs) ys e = every-back xs ys (every-rest x (xs ++ ys) e)
+
+pub every-joined {ℓ} : {A : Type ℓ} (f : A → Bool) (xs ys : List A) → every f (xs ++ ys) ≡ (every f xs && every f ys)
+every-joined f [] ys = refl
+every-joined f (x ∷ xs) ys = ap (λ (b : Bool). f x && b) (every-joined f xs ys) ∙ sym (and-assoc (f x) (every f xs) (every f ys))
 
 pub every-map {ℓ} : {A B : Type ℓ} (f : B → Bool) (g : A → B) (xs : List A) → every f (map g xs) ≡ every (λ (x : A). f (g x)) xs
 every-map f g [] = refl

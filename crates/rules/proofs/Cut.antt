@@ -17,16 +17,9 @@ use Rattle.rules.specs.Rules.{Fault}
 use Rattle.rules.specs.Lines.{Preamble, behindSentence, Answer, refuse, go, hand, step}
 use Rattle.rules.specs.Reading.{Handed, Reading, line, numbers, ended, longer, later, sound, byteUnless, byte, read}
 use Rattle.rules.specs.Survey.{lastEnd}
+use Rattle.rules.proofs.Elements.{All, all-weaker}
 
--- ---- every sentence of a list
-
-abbrev pub All : (Handed → Type 0) → List Handed → Type 0
-All P [] = Unit {0}
-All P (h ∷ hs) = P h × All P hs
-
-pub all-weaker : (P Q : Handed → Type 0) → ((h : Handed) → P h → Q h) → (hs : List Handed) → All P hs → All Q hs
-all-weaker P Q f [] a = tt
-all-weaker P Q f (h ∷ hs) a = (f h (a .0), all-weaker P Q f hs (a .1))
+-- ---- the sentences of the first bytes
 
 -- the sentences whose end line, newline included, lies in the first n bytes
 abbrev pub within : ℕ → List Handed → List Handed

@@ -1,19 +1,19 @@
 -- Demand 3, the cut rule: a file cut anywhere, with nothing or any bytes behind the cut. Assumes nothing.
-use Prim.Native.Nat.{ℕ, _+_, _≤_, _<_}
+use Prim.Native.Nat.{ℕ, _≤_, _<_}
 use native.Mathlib.Nat.{zero-add}
 use native.Mathlib.Omega.{arith}
-use mathlib.Core.Path.{_≡_, refl, sym, ap, _∙_, subst}
+use mathlib.Core.Path.{_≡_, sym, ap, _∙_, subst}
 use mathlib.Core.Logic.{_⊎_, inl, inr}
-use mathlib.Core.Option.{none}
-use mathlib.Core.List.{List, [], _∷_, _++_, append-nil}
+use mathlib.Core.List.{List, [], _++_, append-nil}
 use lib.ListN.{length, take, drop, length-append, take-append-drop}
 use lib.Seq.{take-at, length-take-le}
 use borrow.Author.Tests.{le-leb}
 use Rattle.rules.specs.Numbers.{fileLimit}
-use Rattle.rules.specs.Reading.{Handed, Reading, begin, read, outcome}
+use Rattle.rules.specs.Reading.{Handed, Reading, begin, read}
 use Rattle.rules.specs.Survey.{lastEnd, surveyOf}
 use Rattle.rules.proofs.ReadLines.{read-append}
-use Rattle.rules.proofs.Cut.{All, all-weaker, within, within-all, within-none, within-append, Rested, grow, nothing-more, Last, last}
+use Rattle.rules.proofs.Elements.{All, all-weaker}
+use Rattle.rules.proofs.Cut.{within, within-all, within-none, within-append, Rested, grow, nothing-more, Last, last}
 
 module _ (f : List ℕ) (fits : length f ≤ fileLimit) where
   handed-read : surveyOf f .handed ≡ read begin f .handed

@@ -2,16 +2,15 @@
 -- that don't, however the rules are put together. Assumes nothing.
 use Prim.Native.Nat.{ℕ, zero, suc, _≤_, _<_}
 use native.Mathlib.Omega.{arith}
-use mathlib.Core.Path.{_≡_, refl, sym, ap, _∙_}
+use mathlib.Core.Path.{_≡_, refl, ap, _∙_}
 use mathlib.Core.Bool.{Bool, true, false, _&&_}
 use mathlib.Core.Option.{Option, none, some}
 use mathlib.Core.List.{List, [], _∷_, _++_}
 use lib.Dec.{leb, eqb}
 use borrow.Author.Tests.{le-leb, lt-leb, leb-true, leb-false, ne-eqb}
 use Rattle.rules.specs.Lists.{pick, every}
-use Rattle.rules.specs.Texts.{Text}
 use Rattle.rules.proofs.Conjunctions.{and-left, and-right}
-use Rattle.rules.specs.Rules.{Rule, rule, Verdict, refused, granted, sooner, broken, unless, checked}
+use Rattle.rules.specs.Rules.{Rule, Verdict, refused, granted, sooner, broken, unless, checked}
 
 abbrev pub holdsOf : Rule → Bool
 holdsOf r = r .holds
@@ -183,3 +182,29 @@ told-checked f g rs a h = by (broken rs) refl
     by : (o : Option Rule) → broken rs ≡ o → told f g (unless o a) ≡ pick (eqb (numberOf o) 0) (g a) (f (numberOf o))
     by none q = refl
     by (some r) q = let k : 1 ≤ r .number = reaches 1 rs h r q in rw (ne-eqb (r .number) 0 (λ z. omega (arith, z)))
+
+-- ---- rules in rising order of their numbers: the first that is broken decides
+
+abbrev pub rising : List Rule → Bool
+rising [] = true
+rising (r ∷ rs) = every (λ (q : Rule). leb (r .number) (q .number)) rs && rising rs
+
+unfoldable pub inOrder : {A : Type 0} → List Rule → A → Verdict A
+inOrder [] a = granted a
+inOrder (r ∷ rs) a = pick (r .holds) (inOrder rs a) (refused r)
+
+pub in-order : {A : Type 0} (rs : List Rule) (a : A) → rising rs ≡ true → checked rs a ≡ inOrder rs a
+unfolding checked broken inOrder
+in-order [] a e = refl
+in-order (r ∷ rs) a e =
+    by (r .holds) (in-order rs a (and-right (every (λ (q : Rule). leb (r .number) (q .number)) rs) (rising rs) e))
+    (and-left (every (λ (q : Rule). leb (r .number) (q .number)) rs) (rising rs) e)
+  where
+    first : (o : Option Rule) → broken rs ≡ o → every (λ (q : Rule). leb (r .number) (q .number)) rs ≡ true → sooner r o ≡ r
+    first none q h = refl
+    first (some p) q h = rw (le-leb (r .number) (p .number) (reaches (r .number) rs h p q))
+
+    by : (t : Bool) → checked rs a ≡ inOrder rs a → every (λ (q : Rule). leb (r .number) (q .number)) rs ≡ true
+        → unless (pick t (broken rs) (some (sooner r (broken rs)))) a ≡ pick t (inOrder rs a) (refused r)
+    by true more h = more
+    by false more h = ap (λ (q : Rule). refused q) (first (broken rs) refl h)

@@ -1,0 +1,24 @@
+-- What a cursor finds. Document 01, "Lines and bytes": a column place is a value, and each step hands back the advanced
+-- place; "The numbers of refusal": 7, a column is missing. Assumes nothing.
+use Prim.Native.Nat.{ℕ, _+_}
+use mathlib.Core.List.{List, [], _∷_}
+use lib.ListN.{length, drop}
+use Rattle.rules.specs.Columns as lines
+use Rattle.columns.specs.declared.Column.{Column}
+use Rattle.columns.specs.declared.Column.the-variants.{Found, Missing}
+
+-- the first of a line's columns, from its first byte to behind its last, and a cursor there
+abbrev pub firstOf : List lines.Column → Column
+firstOf [] = Missing
+firstOf (c ∷ cs) =
+    let end = c .text .start + length (c .text .bytes) in
+    Found (c .text .start) end (record { at = end })
+
+-- the next column from a place on, in the file up to the line's end
+unfoldable pub columnAt : List ℕ → ℕ → Column
+columnAt head at = firstOf (lines.columnsFrom at (drop at head))
+
+-- the number of refusal; 0 is none
+abbrev pub refusalOf : Column → ℕ
+refusalOf (Found start end next) = 0
+refusalOf Missing = 7

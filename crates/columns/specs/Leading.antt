@@ -1,0 +1,16 @@
+-- How far a run of like bytes goes. Document 01, "Lines and bytes": a column is a run of bytes that aren't white.
+-- Assumes nothing.
+use Prim.Native.Nat.{ℕ, suc}
+use mathlib.Core.Bool.{Bool, not}
+use mathlib.Core.List.{List, [], _∷_}
+use Rattle.rules.specs.Lists.{pick}
+use Rattle.rules.specs.Bytes.{white}
+
+-- a byte of a column
+abbrev pub solid : ℕ → Bool
+solid b = not (white b)
+
+-- how many of the first bytes pass the test, up to the first that doesn't
+unfoldable pub leading : (ℕ → Bool) → List ℕ → ℕ
+leading f [] = 0
+leading f (b ∷ bs) = let more = suc (leading f bs) in pick (f b) more 0

@@ -1,0 +1,5 @@
+pub mod Hashes
+pub mod FirstColumns
+pub mod SecondColumns
+pub mod KeywordLines
+pub mod KindTests

@@ -1,0 +1,144 @@
+-- Each line of a sentence keeps what holds in it: a word or a phrase is one more node that is fit, and the last line hands
+-- out a sentence that is. By the line's first column. Assumes nothing.
+use Prim.Native.Nat.{ℕ, _+_, _≤_}
+use native.Mathlib.Omega.{arith}
+use mathlib.Core.Path.{_≡_, refl, sym, ap, _∙_, subst}
+use mathlib.Core.Bool.{true, false}
+use mathlib.Core.Option.{some}
+use mathlib.Core.List.{List, [], _∷_, _++_, map}
+use lib.ListN.{length, drop, length-map}
+use Rattle.rules.specs.Lists.{empty, every, same, bytes}
+use Rattle.rules.specs.Texts.{Text, noText, given, bare, reads}
+use Rattle.rules.specs.Columns.{columns, text, fields}
+use Rattle.rules.specs.Numbers.{phraseNumber, number}
+use Rattle.rules.specs.Rules.{Rule}
+use Rattle.rules.specs.Tables.{Tables, wordTags, nodeTags}
+use Rattle.rules.specs.Sentences.{Node, Sentence, listed, edgesOf, gapless, parented, endRules, endOf}
+use Rattle.rules.specs.Nodes.{itsPairs, asEdge, wordOf, phraseOf}
+use Rattle.rules.specs.Keywords.{firstColumn, startsWord, startsPhrase}
+use Rattle.rules.specs.Lines.{Preamble, Answer, refuse, hand, next, withWord, withPhrase, amongNodes}
+use Rattle.rules.specs.Meaning.{bareEdge, bareNode, bareHeading, sentenceNumberOf}
+use Rattle.rules.specs.Tidy.{nodeName}
+use Rattle.rules.proofs.Conjunctions.{and-left}
+use Rattle.rules.proofs.RulesHeld.{held}
+use Rattle.rules.proofs.Elements.{all-last, map-append}
+use Rattle.rules.proofs.Sorting.{distinct-last}
+use Rattle.rules.proofs.PrintedLines.{plain, solid}
+use Rattle.rules.proofs.LineFit.{LineFit}
+use Rattle.rules.proofs.NumbersAgain.{number-again}
+use Rattle.rules.proofs.Steps.{either, next-checked, opened}
+use Rattle.rules.proofs.NodesKept.{NodeKept, node-kept, WordKept, PhraseKept}
+use Rattle.rules.proofs.NodeLines.{wordRead, word-cases, phraseRead, phrase-cases}
+use Rattle.rules.proofs.SentencesKept.{bareSentence, PartKept, SentenceKept, part-word, part-phrase, edges-bare, listed-bare, gapless-bare, parents-bare}
+use Rattle.rules.proofs.Kept.{PreambleKept, both, means, InSentence, KeptAnswer}
+use Rattle.rules.proofs.FirstColumns.{phrase-given, word-given, hash-form}
+
+module _ (ss : List Sentence) (line : Text) (f : LineFit (line .bytes)) (p : Preamble) (k : PreambleKept p) (s : Sentence) (t : InSentence p s ss) where
+  abbrev first : Text
+  first = firstColumn line
+
+  abbrev P : Answer → Type 0
+  P a = KeptAnswer ss a
+
+  bad : (r : Rule) → 1 ≤ r .number → P (refuse r)
+  bad r h = h
+
+  abbrev ts : Tables
+  ts = p .tables
+
+  end-kept : P (next (hand p) (endOf s line))
+  unfolding endOf endRules
+  end-kept =
+      let rules = endRules (s .heading .number) (gapless (s .phrases)) (every (parented (s .phrases)) (s .words ++ s .phrases)) line in
+      next-checked P bad (hand p) rules s refl
+      (λ h.
+      let r = held rules h in
+      let b = bareSentence s in
+      let kept : SentenceKept (means p) b = record {
+        part = t .part;
+        whole = gapless-bare (s .phrases) ∙ r .1 .1 .1 .0;
+        parents =
+            ap (every (parented (b .phrases))) (sym (map-append bareNode (s .words) (s .phrases))) ∙ parents-bare (s .phrases) (s .words ++ s .phrases)
+            ∙ r .1 .1 .1 .1 .0;
+      } in
+      record {
+        preamble = k;
+        sentences =
+            record {
+              each = all-last (SentenceKept (means p)) ss b (t .sentences .each) kept;
+              distinct = distinct-last sentenceNumberOf ss b (t .sentences .distinct) (t .new);
+            };
+        both = t .part .heading .both;
+      })
+
+  -- as many edges as are counted
+  room-bare : (n : Node) (x : ℕ) → length (n .secondary) ≡ x → edgesOf s + x ≤ 512 → edgesOf (bareSentence s) + length (bareNode n .secondary) ≤ 512
+  room-bare n x e h = omega (arith, edges-bare (s .words), edges-bare (s .phrases), length-map (n .secondary) bareEdge, e)
+
+  words-kept : reads (bytes "#EOS") first ≡ false → startsPhrase first ≡ false → startsWord first ≡ true
+      → P (next (withWord line first p s) (wordOf ts (length (s .words)) (empty (s .phrases)) (edgesOf s) line))
+  words-kept no-end no-phrase begins =
+      let o = opened line f (word-given first begins) in
+      let w = length (s .words) in
+      word-cases ts w (empty (s .phrases)) (edgesOf s) line P bad (withWord line first p s)
+      (λ h.
+      let fs = fields (columns line) in
+      let n = wordRead ts w (empty (s .phrases)) (edgesOf s) line in
+      let field : text fs 0 ≡ o .first .text = ap (λ (l : List Text). text l 0) (o .fields) in
+      let there : given (text fs 0) ≡ true = ap given field ∙ and-left (given (o .first .text)) _ (o .solid) in
+      let is : nodeName n ≡ o .first .text .bytes = rw there (ap (λ (t : Text). t .bytes) field) in
+      let word : plain (nodeName (bareNode n)) ≡ bare (text fs 0) = ap plain (is ∙ ap (λ (t : Text). t .bytes) (sym field)) in
+      let kept : WordKept (means p) (bareNode n) = record {
+        node = subst (λ (x : Text). NodeKept (means p) wordTags x (bareNode n)) (sym word) (node-kept line f o ts wordTags w (text fs 0) (h .own) is);
+        no-end = ap (λ (x : List ℕ). same x (bytes "#EOS")) is ∙ ap (reads (bytes "#EOS")) (sym (o .column)) ∙ no-end;
+        no-phrase = ap (λ (x : List ℕ). startsPhrase (plain x)) is ∙ ap startsPhrase (sym (o .column)) ∙ no-phrase;
+        begins = ap (λ (x : List ℕ). startsWord (plain x)) is ∙ ap startsWord (sym (o .column)) ∙ begins;
+      } in
+      let few = length-map (s .words) bareNode in
+      record {
+        preamble = k;
+        part =
+            subst (λ (ws : List Node). PartKept (means p) (record { heading = bareHeading (s .heading); words = ws; phrases = map bareNode (s .phrases) }))
+            (sym (map-append bareNode (s .words) (n ∷ [])))
+            (part-word (means p) (bareSentence s) (t .part) (bareNode n) (room-bare n (length (itsPairs fs)) (length-map (itsPairs fs) asEdge) (h .room)) kept (sym few) (omega (arith, few, h .few)));
+        sentences = t .sentences;
+        new = t .new;
+      })
+
+  phrases-kept : reads (bytes "#EOS") first ≡ false → startsPhrase first ≡ true
+      → P (next (withPhrase line first p s) (phraseOf ts (listed (s .phrases)) (edgesOf s) line))
+  phrases-kept no-end begins =
+      let o = opened line f (phrase-given first begins) in
+      phrase-cases ts (listed (s .phrases)) (edgesOf s) line P bad (withPhrase line first p s)
+      (λ i h.
+      let fs = fields (columns line) in
+      let n = phraseRead ts (listed (s .phrases)) (edgesOf s) line i in
+      let c = o .first .text .bytes in
+      let field : text fs 0 .bytes ≡ c = ap (λ (l : List Text). text l 0 .bytes) (o .fields) in
+      let numbered : number phraseNumber (drop 1 c) ≡ some i = ap (λ (x : List ℕ). number phraseNumber (drop 1 x)) (sym field) ∙ h .number in
+      let starts : startsPhrase (o .first .text) ≡ true = ap startsPhrase (sym (o .column)) ∙ begins in
+      let is : nodeName n ≡ c = ap (λ (x : List ℕ). 35 ∷ x) (number-again phraseNumber (drop 1 c) i numbered) ∙ sym (hash-form c starts) in
+      let kept : PhraseKept (means p) (bareNode n) = record {
+        node = node-kept line f o ts nodeTags i noText (h .own) is;
+        number = ap (λ (x : List ℕ). number phraseNumber (drop 1 x)) is ∙ numbered;
+        no-end = ap (λ (x : List ℕ). same x (bytes "#EOS")) is ∙ ap (reads (bytes "#EOS")) (sym (o .column)) ∙ no-end;
+        begins = ap (λ (x : List ℕ). startsPhrase (plain x)) is ∙ starts;
+      } in
+      record {
+        preamble = k;
+        part =
+            subst (λ (ps : List Node). PartKept (means p) (record { heading = bareHeading (s .heading); words = map bareNode (s .words); phrases = ps }))
+            (sym (map-append bareNode (s .phrases) (n ∷ [])))
+            (part-phrase (means p) (bareSentence s) (t .part) (bareNode n) (room-bare n (length (itsPairs fs)) (length-map (itsPairs fs) asEdge) (h .room)) kept
+            (listed-bare (s .phrases) i ∙ h .new));
+        sentences = t .sentences;
+        new = t .new;
+      })
+
+  pub nodes-kept : P (amongNodes line first p s)
+  unfolding amongNodes
+  nodes-kept =
+      either P (reads (bytes "#EOS") first) _ _ (λ e. end-kept)
+      (λ e.
+      either P (startsPhrase first) _ _ (λ q. phrases-kept e q)
+      (λ q. either P (startsWord first) _ _ (λ w. words-kept e q w) (λ w. omega arith)))

@@ -1,0 +1,3 @@
+pub mod Weights
+pub mod Members
+pub mod SeenSets

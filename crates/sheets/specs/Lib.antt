@@ -1,0 +1,4 @@
+pub mod Splices
+pub mod SheetRows
+pub mod OpenSheets
+pub mod Standing

@@ -1,0 +1,78 @@
+// The texts of a line: compared, without the white bytes at their ends, and cut at two percent signs.
+ghost use mathlib.Core.Path.{_≡_};
+ghost use Prim.Native.Nat.{_+_, _≤_};
+ghost use lib.ListN.{length, drop};
+ghost use Rattle.rules.specs.Lists.{same};
+ghost use Rattle.rules.specs.Bytes.{classTable};
+ghost use Rattle.rules.specs.Texts.{rightTrim, trimFrom, frontBytes};
+ghost use Rattle.texts.specs.Spans.{spanOf};
+
+pub fn same_text(a: &[u8], b: &[u8]) -> bool
+    ensures { λ r. ⌜ r ≡ same (now (a .entry)) (now (b .entry)) ⌝ }
+{
+    if a.len() != b.len() {
+        return false;
+    }
+    let mut i = 0;
+    while i < a.len() {
+        if a[i] != b[i] {
+            return false;
+        }
+        i += 1;
+    }
+    true
+}
+
+// Where a text lies in the file; an absent one is 0, 0.
+pub struct Span {
+    pub start: usize,
+    pub len: usize,
+}
+
+// The place behind the last byte from `start` on that isn't white, or `start`.
+pub fn trimmed_end(head: &[u8], start: usize, classes: &[u8; 256]) -> usize
+    requires { ⌜ (now classes ≡ classTable) × (start ≤ length (now head)) ⌝ }
+    ensures { λ r. ⌜ r ≡ start + length (rightTrim (drop start (now (head .entry)))) ⌝ }
+{
+    let mut end = head.len();
+    while start < end {
+        if !columns::is_white(head[end - 1], classes) {
+            return end;
+        }
+        end -= 1;
+    }
+    end
+}
+
+// The bytes from `at` on, without the white ones at both ends.
+pub fn trim(head: &[u8], at: usize, classes: &[u8; 256]) -> Span
+    requires { ⌜ now classes ≡ classTable ⌝ }
+    ensures { λ r. ⌜ r ≡ spanOf (trimFrom at (drop at (now (head .entry)))) ⌝ }
+{
+    let start = columns::skip_white(head, at, classes);
+    if head.len() <= start {
+        return Span { start: 0, len: 0 };
+    }
+    let end = trimmed_end(head, start, classes);
+    Span {
+        start,
+        len: end - start,
+    }
+}
+
+// The place of the first two adjacent percent signs from `at` on, or the end of `head`.
+pub fn percents_from(head: &[u8], at: usize) -> usize
+    requires { ⌜ at ≤ length (now head) ⌝ }
+    ensures { λ r. ⌜ r ≡ at + length (frontBytes (drop at (now (head .entry)))) ⌝ }
+{
+    let mut i = at;
+    while i + 1 < head.len() {
+        if head[i] == b'%' {
+            if head[i + 1] == b'%' {
+                return i;
+            }
+        }
+        i += 1;
+    }
+    head.len()
+}
