@@ -51,6 +51,7 @@ pub mod NoOthers
 pub mod TestsAsFacts
 pub mod BytesAsSaid
 pub mod PlaceFree
+pub mod ColumnsAreRuns
 pub mod RefusalNumbers
 pub mod LineByLine
 pub mod LinesOfFiles
