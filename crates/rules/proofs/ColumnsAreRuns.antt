@@ -28,7 +28,7 @@ parted-stops : (rest : List ℕ) → Parted rest → goesOn rest ≡ false
 parted-stops rest (inl e) = ap goesOn e
 parted-stops rest (inr w) = ap goesOn (w .2) ∙ ap not (white-said (w .0) .1 (w .3))
 
-one-run : (a : ℕ) (l gap c more : List ℕ) → l ≡ gap ++ (c ++ more) → Each White gap → Run c → Parted more
+pub one-run : (a : ℕ) (l gap c more : List ℕ) → l ≡ gap ++ (c ++ more) → Each White gap → Run c → Parted more
     → columnsFrom a l ≡ columnOf (a + length gap) c more ∷ columnsFrom (a + length gap + length c) more
 one-run a l gap c more e w r p =
     ap (columnsFrom a) e
@@ -41,7 +41,7 @@ moved a l = map (λ (t : Text). t .bytes) (texts (columnsFrom a l))
 moved-all : (a : ℕ) (l : List ℕ) → moved a l ≡ allColumns l
 moved-all a l = all-columns (record { start = a; bytes = l })
 
-white-none : (a : ℕ) (l : List ℕ) → Each White l → columnsFrom a l ≡ []
+pub white-none : (a : ℕ) (l : List ℕ) → Each White l → columnsFrom a l ≡ []
 unfolding columnsFrom
 white-none a [] w = refl
 white-none a (b ∷ bs) w = rw (white-said b .1 (w .0)) (white-none (suc a) bs (w .1))

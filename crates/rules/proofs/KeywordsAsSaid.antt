@@ -52,7 +52,7 @@ starts-first line s = by (line .bytes) s ∙ column-there line 0
 
 -- ---- two columns
 
-column-of-all : (cs : List Column) (n : ℕ) → getD (map (λ (t : Text). t .bytes) (texts cs)) n [] ≡ written cs n .bytes
+pub column-of-all : (cs : List Column) (n : ℕ) → getD (map (λ (t : Text). t .bytes) (texts cs)) n [] ≡ written cs n .bytes
 column-of-all [] n = refl
 column-of-all (c ∷ cs) zero = refl
 column-of-all (c ∷ cs) (suc n) = column-of-all cs n

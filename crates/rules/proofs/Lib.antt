@@ -52,6 +52,7 @@ pub mod TestsAsFacts
 pub mod BytesAsSaid
 pub mod PlaceFree
 pub mod ColumnsAreRuns
+pub mod ColumnsSaid
 pub mod RefusalNumbers
 pub mod LineByLine
 pub mod LinesOfFiles

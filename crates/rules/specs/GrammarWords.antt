@@ -27,6 +27,17 @@ pub data Begins : List ℕ → List (List ℕ) → List ℕ → Type 0 where
   one-column : {l c more rest : List ℕ} {cs : List (List ℕ)} (gap : List ℕ) → l ≡ gap ++ (c ++ more) → Each White gap → Run c → Parted more → Begins more cs rest
       → Begins l (c ∷ cs) rest
 
+-- these are all its columns
+abbrev pub Columns : List ℕ → List (List ℕ) → Type 0
+Columns l cs = (rest : List ℕ) × Begins l cs rest × Each White rest
+
+-- these are its columns in front of the comment, which the first column that is exactly %% begins
+pub record Front (l : List ℕ) (cs : List (List ℕ)) : Type 0 where
+  pub rest : List ℕ
+  pub begins : Begins l cs rest
+  pub no-sign : Each (λ (c : List ℕ). c ≡ percents → ⊥) cs
+  pub then-comment : Each White rest ⊎ ((comment : List ℕ) × Begins rest (percents ∷ []) comment)
+
 -- ---- texts
 
 -- a text loses white bytes at both ends
