@@ -53,6 +53,7 @@ pub mod BytesAsSaid
 pub mod PlaceFree
 pub mod ColumnsAreRuns
 pub mod ColumnsSaid
+pub mod StrippedTexts
 pub mod RefusalNumbers
 pub mod LineByLine
 pub mod LinesOfFiles
