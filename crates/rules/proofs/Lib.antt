@@ -54,6 +54,7 @@ pub mod PlaceFree
 pub mod ColumnsAreRuns
 pub mod ColumnsSaid
 pub mod StrippedTexts
+pub mod NamesAndNotes
 pub mod RefusalNumbers
 pub mod LineByLine
 pub mod LinesOfFiles
