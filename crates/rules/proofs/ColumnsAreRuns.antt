@@ -1,20 +1,21 @@
 -- The columns of a line are the runs of its bytes that aren't white, all of them and no others, and behind each stands the
 -- rest of the line. By one step along the columns. Assumes nothing.
-use Prim.Native.Nat.{ℕ, zero, suc, _+_, _≤_, _<_}
+use Prim.Native.Nat.{ℕ, zero, suc, _+_, _≤_}
 use native.Mathlib.Omega.{arith}
 use mathlib.Core.Path.{_≡_, refl, sym, ap, _∙_, subst}
 use mathlib.Core.Logic.{_⊎_, inl, inr}
-use mathlib.Core.Bool.{Bool, true, false, not, _||_}
+use mathlib.Core.Bool.{true, false, not}
 use mathlib.Core.List.{List, [], _∷_, _++_, map, append-nil}
 use lib.ListN.{length, length-append}
-use Rattle.rules.specs.Lists.{every, any}
+use Rattle.rules.specs.Lists.{any}
 use Rattle.rules.specs.Bytes.{white}
 use Rattle.rules.specs.Texts.{Text}
-use Rattle.rules.specs.Columns.{Column, goesOn, columnsFrom, column, written, texts}
-use Rattle.rules.specs.GrammarLines.{Each, White, allColumns, columnAt, restBehind}
-use Rattle.rules.specs.GrammarWords.{Run, Parted, Begins, no-column, one-column}
+use Rattle.rules.specs.Columns.{Column, goesOn, columnsFrom, texts}
+use Rattle.rules.specs.GrammarLines.{Each, White}
+use Rattle.rules.proofs.BareColumns.{allColumns}
+use Rattle.rules.specs.GrammarColumns.{Run, Parted, Begins, no-column, one-column}
 use Rattle.rules.proofs.ColumnLaws.{columnOf, columns-skip, columns-run}
-use Rattle.rules.proofs.PlaceFree.{all-columns, rest-there}
+use Rattle.rules.proofs.PlaceFree.{all-columns}
 use Rattle.rules.proofs.SaidOfLists.{true-or-not, never-both, false-if-never}
 use Rattle.rules.proofs.BytesAsSaid.{white-said, every-said}
 
@@ -133,7 +134,7 @@ whole-within (suc n) l h = by (split l) (whole-within n)
     by (inl w) shorter = record { cs = []; rest = l; begins = no-column; ends-white = w }
     by (inr s) shorter =
         let less : length (s .more) ≤ n =
-          omega (arith, ap length (s .are), length-append (s .gap) (s .c ++ s .more), length-append (s .c) (s .more), s .run .given, h) in
+        omega (arith, ap length (s .are), length-append (s .gap) (s .c ++ s .more), length-append (s .c) (s .more), s .run .given, h) in
         let w = shorter (s .more) less in
         record { cs = s .c ∷ w .cs; rest = w .rest; begins = one-column (s .gap) (s .are) (s .white-gap) (s .run) (s .parted) (w .begins); ends-white = w .ends-white }
 

@@ -15,7 +15,8 @@ use Rattle.rules.specs.Keywords.{firstColumn}
 use Rattle.rules.specs.Lines.{Preamble, Phase, start, top, inSentence, behindSentence, hand, next, behindOne, beginning, atTop, lineAt}
 use Rattle.rules.specs.Reading.{begin, read, outcome}
 use Rattle.rules.specs.Survey.{answered, nothingRead, surveyOf}
-use Rattle.rules.specs.GrammarLines.{In, Each, Differ, columnAt, Starts}
+use Rattle.rules.specs.GrammarLines.{In, Each, Differ, Starts}
+use Rattle.rules.proofs.BareColumns.{columnAt}
 use Rattle.rules.specs.GrammarTables.{TableLines, tableLines, whiches}
 use Rattle.rules.specs.GrammarSentences.{SentenceLines, SentenceFits, EosFits, nodesOf, nodeLines, sentenceLines}
 use Rattle.rules.specs.Grammar.{Fits, sentenceNumbers}
@@ -25,7 +26,7 @@ use Rattle.rules.proofs.SaidOfLists.{each-then, differ-map-next, map-jo
 use Rattle.rules.proofs.TestsAsFacts.{is-member}
 use Rattle.rules.proofs.TablesAsSaid.{Stand, stand-none, is-there}
 use Rattle.rules.proofs.KeywordsAsSaid.{keyword-first}
-use Rattle.rules.proofs.HeadsAsSaid.{front-first, head-grants}
+use Rattle.rules.proofs.HeadsAsSaid.{front-column, head-grants}
 use Rattle.rules.proofs.SentenceEnds.{end-grants}
 use Rattle.rules.proofs.TablesFollow.{Follows, one-line, keyword-reads, other-keyword, format-follows, tables-follow}
 use Rattle.rules.proofs.SentencesFollow.{words-follow, phrases-follow, taken-end}
@@ -63,7 +64,7 @@ module _ (p : Preamble) (ts : List TableLines) (stand : Stand (p .tables) ts) (i
       subst (λ (ls : List (List ℕ)). Follows ls ph used)
       (sym (append-assoc (t .head .line ∷ words ++ phrases) (t .eos ∷ []) rest ∙ append-assoc (t .head .line ∷ words) phrases ends))
       (one-line (t .head .line) (words ++ (phrases ++ ends)) ph used (λ line e st.
-      let keyword = ap (columnAt 0) e ∙ front-first (t .head .line) (bytes "#BOS") _ (f .begins .columns) in
+      let keyword = ap (columnAt 0) e ∙ front-column (t .head .line) (bytes "#BOS") _ (f .begins .columns) in
       b (Follows (words ++ (phrases ++ ends))) line st keyword
       (head-grants (p .tables) ts stand (Follows (words ++ (phrases ++ ends))) used line (λ n. member n used) (beginning line (firstColumn line) p) (t .head) (sym e) (f .begins) io ie
       (λ h. new (is-member itself used .0 h))

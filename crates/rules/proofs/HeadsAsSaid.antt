@@ -18,7 +18,10 @@ use Rattle.rules.specs.Numbers.{sentenceNumber, originId, date, decimal,
 use Rattle.rules.specs.Tables.{Tables, origins, editors, table, present, rowsOf, hasId}
 use Rattle.rules.specs.Sentences.{Heading, knownEditor, headingOf}
 use Rattle.rules.specs.Lines.{Phase, Answer, next}
-use Rattle.rules.specs.GrammarLines.{In, frontColumns, columnAt}
+use Rattle.rules.specs.GrammarLines.{In}
+use Rattle.rules.specs.GrammarColumns.{Front}
+use Rattle.rules.proofs.ColumnsSaid.{front-said, said-front}
+use Rattle.rules.proofs.BareColumns.{frontColumns, columnAt}
 use Rattle.rules.specs.GrammarTables.{TableLines, whiches, HasRow}
 use Rattle.rules.specs.GrammarSentences.{HeadLine, HeadFits}
 use Rattle.rules.proofs.PlaceFree.{column-there, front-columns}
@@ -54,6 +57,9 @@ pub front-first : (line : List ℕ) (x : List ℕ) (xs : List (List ℕ)) → fr
 front-first line x xs e =
     let p = peel (columnsFrom 0 line) x xs e in
     ap (λ (cs : List Column). written cs 0 .bytes) (p .are) ∙ p .its
+
+pub front-column : (line : List ℕ) (x : List ℕ) (xs : List (List ℕ)) → Front line (x ∷ xs) → columnAt 0 line ≡ x
+front-column line x xs f = front-first line x xs (said-front line (x ∷ xs) f)
 
 no-fields : (ts : List Text) → empty ts ≡ true → bytesOf ts ≡ []
 no-fields [] e = refl
@@ -155,7 +161,8 @@ module _ (T : Tables) (ts : List TableLines) (s : Stand T ts) where
                 dateText = written cs 3 .bytes;
                 originText = written cs 4 .bytes;
                 columns =
-                    sym (front-columns line)
+                    front-said (line .bytes) (bytes "#BOS" ∷ written cs 1 .bytes ∷ written cs 2 .bytes ∷ written cs 3 .bytes ∷ written cs 4 .bytes ∷ [])
+                    (sym (front-columns line)
                     ∙ five cs (ltb-true 4 (length cs) (seven .0)) (λ z. let c : _≡_ {A = ℕ} 0 1 = cc in omega arith)
                     (not-sign (number sentenceNumber) (written cs 1 .bytes) refl (h .0 .1 .0))
                     (not-sign signedId (written cs 2 .bytes) refl (h .0 .1 .1 .0))
@@ -163,7 +170,7 @@ module _ (T : Tables) (ts : List TableLines) (s : Stand T ts) where
                     (not-sign (number originId) (written cs 4 .bytes) refl (h .0 .1 .1 .1 .1 .0))
                     ∙ ap (λ (xs : List (List ℕ)). written cs 0 .bytes ∷ written cs 1 .bytes ∷ written cs 2 .bytes ∷ written cs 3 .bytes ∷ written cs 4 .bytes ∷ xs)
                     (no-fields (fields (drop 5 cs)) (seven .1))
-                    ∙ ap (λ (x : List ℕ). x ∷ written cs 1 .bytes ∷ written cs 2 .bytes ∷ written cs 3 .bytes ∷ written cs 4 .bytes ∷ []) keyword;
+                    ∙ ap (λ (x : List ℕ). x ∷ written cs 1 .bytes ∷ written cs 2 .bytes ∷ written cs 3 .bytes ∷ written cs 4 .bytes ∷ []) keyword);
                 number-written = good-some n (h .0 .1 .0);
                 editor-written = good-some e (h .0 .1 .1 .0);
                 day = value d;
@@ -185,7 +192,7 @@ module _ (T : Tables) (ts : List TableLines) (s : Stand T ts) where
     unfolding headingOf
     head-grants f head l t io ie new goes-on =
         let cs = columns line in
-        let are = fronted (bytes "#BOS" ∷ t .numberText ∷ t .editorText ∷ t .dateText ∷ t .originText ∷ []) cs (front-columns line ∙ ap frontColumns (sym l) ∙ t .columns) in
+        let are = fronted (bytes "#BOS" ∷ t .numberText ∷ t .editorText ∷ t .dateText ∷ t .originText ∷ []) cs (front-columns line ∙ ap frontColumns (sym l) ∙ said-front (head .line) _ (t .columns)) in
         let n = number sentenceNumber (written cs 1 .bytes) in
         let e = signedId (written cs 2 .bytes) in
         let d = number date (written cs 3 .bytes) in

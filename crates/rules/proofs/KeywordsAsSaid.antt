@@ -18,7 +18,9 @@ use Rattle.rules.specs.Numbers.{formatNumber, number, value}
 use Rattle.rules.specs.Tables.{Tables, tableNames, tableNamed, present}
 use Rattle.rules.specs.Keywords.{formatOf, fresh, tableOpened, itself, tableEnded, leadingWhite, firstColumn}
 use Rattle.rules.specs.Lines.{Phase, Answer, next}
-use Rattle.rules.specs.GrammarLines.{allColumns, columnAt}
+use Rattle.rules.specs.GrammarColumns.{Columns}
+use Rattle.rules.proofs.ColumnsSaid.{columns-said, said-columns}
+use Rattle.rules.proofs.BareColumns.{allColumns, columnAt}
 use Rattle.rules.specs.GrammarTables.{Names}
 use Rattle.rules.specs.Grammar.{FormatFits}
 use Rattle.rules.proofs.PlaceFree.{column-there, count-columns}
@@ -73,7 +75,10 @@ module _ (line : Text) where
       ∙ ap (λ (x : List ℕ). x ∷ getD all 1 [] ∷ []) (column-of-all (columnsFrom 0 (line .bytes)) 0)
       ∙ ap (λ (x : List ℕ). columnAt 0 (line .bytes) ∷ x ∷ []) (column-of-all (columnsFrom 0 (line .bytes)) 1 ∙ sym (column-there line 1))
 
-  module _ (keyword name : List ℕ) (e : allColumns (line .bytes) ≡ keyword ∷ name ∷ []) where
+  module _ (keyword name : List ℕ) (c : Columns (line .bytes) (keyword ∷ name ∷ [])) where
+    e : allColumns (line .bytes) ≡ keyword ∷ name ∷ []
+    e = said-columns (line .bytes) (keyword ∷ name ∷ []) c
+
     pub columns-two : length (columns line) ≡ 2
     columns-two = count-columns line ∙ ap length e
 
@@ -93,7 +98,7 @@ module _ (K : Phase → List ℕ → Type 0) (used : List ℕ) (line : Text) whe
       let n = number formatNumber (written (columns line) 1 .bytes) in (
         record {
           numberText = written (columns line) 1 .bytes;
-          columns = two-columns line (h .0 .0) ∙ ap (λ (x : List ℕ). x ∷ written (columns line) 1 .bytes ∷ []) q;
+          columns = columns-said (line .bytes) (bytes "#FORMAT" ∷ written (columns line) 1 .bytes ∷ []) (two-columns line (h .0 .0) ∙ ap (λ (x : List ℕ). x ∷ written (columns line) 1 .bytes ∷ []) q);
           number-written = good-some n (h .0 .1 .0) ∙ ap some (eqb-true (value n) 3 (h .0 .1 .1 .0));
         },
         (value n, h .1),
@@ -138,7 +143,7 @@ module _ (K : Phase → List ℕ → Type 0) (used : List ℕ) (line : Text) whe
           record {
             which = n;
             one-of-seven = m .0;
-            names = c ∙ ap (λ (x : List ℕ). x ∷ written (columns line) 1 .bytes ∷ []) q ∙ ap (λ (x : List ℕ). bytes "#BOT" ∷ x ∷ []) (m .1);
+            names = columns-said (line .bytes) (bytes "#BOT" ∷ getD tableNames n [] ∷ []) (c ∙ ap (λ (x : List ℕ). x ∷ written (columns line) 1 .bytes ∷ []) q ∙ ap (λ (x : List ℕ). bytes "#BOT" ∷ x ∷ []) (m .1));
             new = not-both-ways (present n T) .0 h;
             goes-on = g;
           }
@@ -164,8 +169,9 @@ module _ (K : Phase → List ℕ → Type 0) (used : List ℕ) (line : Text) whe
       by none e h c = absurd (false≢true h)
       by (some m) e h c =
           let s = named-is (written (columns line) 1) m e in
-          c ∙ ap (λ (x : List ℕ). x ∷ written (columns line) 1 .bytes ∷ []) q
-          ∙ ap (λ (x : List ℕ). bytes "#EOT" ∷ x ∷ []) (s .1 ∙ ap (λ (k : ℕ). getD tableNames k []) (sym (eqb-true n m h)))
+          columns-said (line .bytes) (bytes "#EOT" ∷ getD tableNames n [] ∷ [])
+          (c ∙ ap (λ (x : List ℕ). x ∷ written (columns line) 1 .bytes ∷ []) q
+          ∙ ap (λ (x : List ℕ). bytes "#EOT" ∷ x ∷ []) (s .1 ∙ ap (λ (k : ℕ). getD tableNames k []) (sym (eqb-true n m h))))
 
   pub ended-grants : (f : ℕ → Answer) (n : ℕ) → n < 7 → Names (bytes "#EOT") n (line .bytes) → Through K used (f n) → Through K used (next f (tableEnded n line))
   unfolding tableEnded

@@ -50,6 +50,7 @@ pub mod SaidOfLists
 pub mod NoOthers
 pub mod TestsAsFacts
 pub mod BytesAsSaid
+pub mod BareColumns
 pub mod PlaceFree
 pub mod ColumnsAreRuns
 pub mod ColumnsSaid
@@ -59,6 +60,7 @@ pub mod RefusalNumbers
 pub mod LineByLine
 pub mod LinesOfFiles
 pub mod IdsInOrder
+pub mod RowsAsRead
 pub mod RowsAlike
 pub mod RowTests
 pub mod RowsGranted

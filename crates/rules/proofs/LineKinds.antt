@@ -16,7 +16,7 @@ use Rattle.rules.specs.Texts.{Text, reads}
 use Rattle.rules.specs.Columns.{Column, goesOn, longer, lastByte, columnsFrom, written}
 use Rattle.rules.specs.Numbers.{Kind, plain, valueFrom, decimal, within, number, plusOne, signedId, idPlusOne}
 use Rattle.rules.specs.Keywords.{hashed, startsRow, startsWord, digits, hashAndDigits, startsPhrase}
-use Rattle.rules.specs.GrammarLines.{columnAt}
+use Rattle.rules.proofs.BareColumns.{columnAt}
 use Rattle.rules.proofs.BytesAsSaid.{Started}
 use Rattle.rules.proofs.SaidOfLists.{and-both-ways, or-both-ways, not-both-ways, never-both}
 use Rattle.rules.proofs.TestsAsFacts.{reads-are}

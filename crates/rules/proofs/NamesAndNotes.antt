@@ -2,15 +2,15 @@
 -- and nothing else is. By one step along the bytes. Assumes nothing.
 use Prim.Native.Nat.{ℕ, suc, _≤_}
 use native.Mathlib.Omega.{arith}
-use mathlib.Core.Path.{_≡_, refl, sym, ap, _∙_, subst}
-use mathlib.Core.Logic.{_⊎_, inl, inr}
+use mathlib.Core.Path.{_≡_, refl, sym, ap, _∙_}
+use mathlib.Core.Logic.{inl, inr}
 use mathlib.Core.Bool.{Bool, true, false}
 use mathlib.Core.List.{List, [], _∷_, _++_}
 use lib.ListN.{length, length-append, take, drop, getD}
 use Rattle.rules.specs.Lists.{pick}
 use Rattle.rules.specs.Bytes.{percents}
 use Rattle.rules.specs.Texts.{Text, startsComment, frontBytes, behindFrom, behind}
-use Rattle.rules.specs.GrammarWords.{NoPair, NameAndNote}
+use Rattle.rules.specs.GrammarColumns.{NoPair, NameAndNote}
 use Rattle.rules.proofs.SaidOfLists.{never-both, false-if-never}
 use Rattle.rules.proofs.TestsAsFacts.{same-is}
 
@@ -69,22 +69,25 @@ whole-front at [] f = (refl, refl)
 whole-front at (a ∷ []) f = (refl, refl)
 whole-front at (a ∷ b ∷ bs) f =
     let n = no-pair-first a b bs f in
-    let more = whole-front (suc at) (b ∷ bs) (no-pair-less a (b ∷ bs) f) in
-    (ap (λ (t : Bool). pick t [] (a ∷ frontBytes (b ∷ bs))) n ∙ ap (λ (xs : List ℕ). a ∷ xs) (more .0),
-      ap (λ (t : Bool). pick t (record { start = suc (suc at); bytes = bs }) (behindFrom (suc at) (b ∷ bs)) .bytes) n ∙ more .1)
+    let more = whole-front (suc at) (b ∷ bs) (no-pair-less a (b ∷ bs) f) in (
+      ap (λ (t : Bool). pick t [] (a ∷ frontBytes (b ∷ bs))) n ∙ ap (λ (xs : List ℕ). a ∷ xs) (more .0),
+      ap (λ (t : Bool). pick t (record { start = suc (suc at); bytes = bs }) (behindFrom (suc at) (b ∷ bs)) .bytes) n ∙ more .1,
+    )
 
 cut-front : (at : ℕ) (name note : List ℕ) → NoPair (name ++ (37 ∷ [])) → (frontBytes (name ++ (percents ++ note)) ≡ name) × (behindFrom at (name ++ (percents ++ note)) .bytes ≡ note)
 unfolding frontBytes behindFrom
 cut-front at [] note f = (refl, refl)
 cut-front at (a ∷ []) note f =
-    let n = no-pair-first a 37 [] f in
-    (ap (λ (t : Bool). pick t [] (a ∷ frontBytes (percents ++ note))) n,
-      ap (λ (t : Bool). pick t (record { start = suc (suc at); bytes = 37 ∷ note }) (behindFrom (suc at) (percents ++ note)) .bytes) n)
+    let n = no-pair-first a 37 [] f in (
+      ap (λ (t : Bool). pick t [] (a ∷ frontBytes (percents ++ note))) n,
+      ap (λ (t : Bool). pick t (record { start = suc (suc at); bytes = 37 ∷ note }) (behindFrom (suc at) (percents ++ note)) .bytes) n,
+    )
 cut-front at (a ∷ b ∷ name) note f =
     let n = no-pair-first a b (name ++ (37 ∷ [])) f in
-    let more = cut-front (suc at) (b ∷ name) note (no-pair-less a (b ∷ (name ++ (37 ∷ []))) f) in
-    (ap (λ (t : Bool). pick t [] (a ∷ frontBytes (b ∷ (name ++ (percents ++ note))))) n ∙ ap (λ (xs : List ℕ). a ∷ xs) (more .0),
-      ap (λ (t : Bool). pick t (record { start = suc (suc at); bytes = name ++ (percents ++ note) }) (behindFrom (suc at) (b ∷ (name ++ (percents ++ note)))) .bytes) n ∙ more .1)
+    let more = cut-front (suc at) (b ∷ name) note (no-pair-less a (b ∷ (name ++ (37 ∷ []))) f) in (
+      ap (λ (t : Bool). pick t [] (a ∷ frontBytes (b ∷ (name ++ (percents ++ note))))) n ∙ ap (λ (xs : List ℕ). a ∷ xs) (more .0),
+      ap (λ (t : Bool). pick t (record { start = suc (suc at); bytes = name ++ (percents ++ note) }) (behindFrom (suc at) (b ∷ (name ++ (percents ++ note)))) .bytes) n ∙ more .1,
+    )
 
 pub said-note : (t : Text) (name note : List ℕ) → NameAndNote (t .bytes) name note → (frontBytes (t .bytes) ≡ name) × (behind t .bytes ≡ note)
 said-note t name note (inl p) = let w = whole-front (t .start) (t .bytes) (p .0) in (w .0 ∙ sym (p .1), w .1 ∙ sym (p .2))

@@ -18,7 +18,9 @@ use Rattle.rules.specs.Rules.{Rule, rule}
 use Rattle.rules.specs.Tables.{Tables, morphTags, edgeTags, secEdgeTags, dashes, known, tagLimit}
 use Rattle.rules.specs.Sentences.{Edge}
 use Rattle.rules.specs.Nodes.{Pair, secondaryParent, asEdge, nodeOf, itsTag, itsMorphology, itsEdge, itsParent, itsPairs, parentsWritten, tagsShort, tagsKnown, parentsRise}
-use Rattle.rules.specs.GrammarLines.{Each, frontColumns}
+use Rattle.rules.specs.GrammarLines.{Each}
+use Rattle.rules.proofs.ColumnsSaid.{front-said}
+use Rattle.rules.proofs.BareColumns.{frontColumns}
 use Rattle.rules.specs.GrammarTables.{TableLines}
 use Rattle.rules.specs.GrammarSentences.{EdgeSaid, NodeLine, nodeColumns, EdgeFits, NodeFits}
 use Rattle.rules.proofs.SaidOfLists.{each-joined, each-front, each-back, each-map, each-mapped, each-both}
@@ -183,7 +185,7 @@ module _ (T : Tables) (ts : List TableLines) (s : Stand T ts) (line : List ℕ) 
   pub held-said : NodeHeld T fs tags n → frontColumns line ≡ nodeColumns nodeSaid → NodeFits ts tags nodeSaid
   held-said h c =
       record {
-        columns = c;
+        columns = front-said line (nodeColumns nodeSaid) c;
         parent-written = good-some (itsParent fs) (h .parent-good);
         parent-zero = h .rises .0;
         tag-short = leb-is (length (itsTag fs .bytes)) (tagLimit tags) .0 (h .tag-short);

@@ -9,7 +9,7 @@ use Rattle.rules.specs.Lists.{pick, same}
 use Rattle.rules.specs.Bytes.{white, percents}
 use Rattle.rules.specs.Texts.{Text, rightTrim, trimFrom, trim, startsComment, behindFrom, behind, inFront}
 use Rattle.rules.specs.Columns.{Column, goesOn, longer, lastByte, columnsFrom, columns, column, written, texts, fields}
-use Rattle.rules.specs.GrammarLines.{allColumns, frontColumns, columnAt, restBehind, textBehind}
+use Rattle.rules.proofs.BareColumns.{allColumns, frontColumns, columnAt, restBehind, textBehind}
 use Rattle.rules.proofs.SaidOfLists.{length-map}
 
 -- ---- columns without places

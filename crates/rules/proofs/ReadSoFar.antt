@@ -13,7 +13,8 @@ use Rattle.rules.specs.Sentences.{headingOf}
 use Rattle.rules.specs.Rows.{rowOf}
 use Rattle.rules.specs.Keywords.{formatOf, tableOpened, tableEnded, firstColumn, hashed, startsRow}
 use Rattle.rules.specs.Lines.{Preamble, Phase, top, inTable, inSentence, go, next, cannotStand, atStart, atTop, behindOne, beginning, withTable, withRow, amongRows}
-use Rattle.rules.specs.GrammarLines.{In, columnAt}
+use Rattle.rules.specs.GrammarLines.{In}
+use Rattle.rules.proofs.BareColumns.{columnAt}
 use Rattle.rules.specs.GrammarTables.{RowLine, TableLines, TableFits, tableLines}
 use Rattle.rules.proofs.BytesAsSaid.{Started}
 use Rattle.rules.proofs.SaidOfLists.{map-joined, each-more, differ-map-more}

@@ -15,12 +15,13 @@ use Rattle.rules.specs.Numbers.{rowLimit, originId, number, signedId, va
 use Rattle.rules.specs.Tables.{wordTags, Row, hasId, hasTag, tagLimit}
 use Rattle.rules.specs.Rows.{originRow, editorRow, tagRow, rowOf, lastId, follows, ownTag}
 use Rattle.rules.specs.Lines.{Phase, Answer, next}
-use Rattle.rules.specs.GrammarLines.{columnAt, restBehind, textBehind}
+use Rattle.rules.proofs.BareColumns.{columnAt, restBehind, textBehind}
 use Rattle.rules.specs.GrammarTables.{RowLine, OriginRow, EditorRow, TagRow, Carries, TagTable, OriginTable, EditorTable, RowsFit}
 use Rattle.rules.proofs.PlaceFree.{column-there, text-there, name-there, note-there}
 use Rattle.rules.proofs.SaidOfLists.{each-back, differ-map-next, and-both-ways}
 use Rattle.rules.proofs.TestsAsFacts.{reads-are, given-are, leb-is, some-good, some-value, not-is}
 use Rattle.rules.proofs.LineByLine.{Through, held-through}
+use Rattle.rules.proofs.RowsAsRead.{OriginRead, said-origin, EditorRead, said-editor, TagRead, said-tag}
 use Rattle.rules.proofs.RowsAlike.{Alike, AlikeRow, has-id-alike, has-tag-alike, next-room, in-order-next}
 use Rattle.rules.proofs.RowTests.{carries-own, flag-held, described, tags-row}
 
@@ -36,7 +37,7 @@ module _ (rs : List Row) (rows : List RowLine) (a : Alike rs rows) (K : Phase �
     pub origin-grants : OriginTable (rows ++ (row ∷ more)) → Through K used (next f (originRow rs line))
     unfolding originRow
     origin-grants t =
-        let one : OriginRow row = each-back OriginRow rows (row ∷ more) (t .each-row) .0 in
+        let one : OriginRead row = said-origin row (each-back OriginRow rows (row ∷ more) (t .each-row) .0) in
         let id = number originId (column (columns line) 0 .text .bytes) in
         let is : id ≡ some (one .id) = ap (number originId) (at-column 0) ∙ one .id-written in
         let same-id : suc (value id) ≡ row .id1 = ap suc (some-value id (one .id) is) ∙ sym (one .one-more) in
@@ -66,7 +67,7 @@ module _ (rs : List Row) (rows : List RowLine) (a : Alike rs rows) (K : Phase �
     pub editor-grants : EditorTable (rows ++ (row ∷ more)) → Through K used (next f (editorRow rs line))
     unfolding editorRow
     editor-grants t =
-        let one : EditorRow row = each-back EditorRow rows (row ∷ more) (t .each-row) .0 in
+        let one : EditorRead row = said-editor row (each-back EditorRow rows (row ∷ more) (t .each-row) .0) in
         let id = signedId (column (columns line) 0 .text .bytes) in
         let is : id ≡ some (row .id1) = ap signedId (at-column 0) ∙ one .id-written in
         let same-id : value id ≡ row .id1 = some-value id (row .id1) is in
@@ -95,7 +96,7 @@ module _ (rs : List Row) (rows : List RowLine) (a : Alike rs rows) (K : Phase �
     pub tag-grants : (n : ℕ) → TagTable n (rows ++ (row ∷ more)) → Through K used (next f (tagRow n rs line))
     unfolding tagRow
     tag-grants n t =
-        let one : TagRow n row = each-back (TagRow n) rows (row ∷ more) (t .each-row) .0 in
+        let one : TagRead n row = said-tag n row (each-back (TagRow n) rows (row ∷ more) (t .each-row) .0) in
         let own : Carries row = each-back Carries rows (row ∷ more) (t .carried) .0 in
         let id = signedId (column (columns line) 0 .text .bytes) in
         let is : id ≡ some (row .id1) = ap signedId (at-column 0) ∙ one .id-written in

@@ -16,12 +16,14 @@ use Rattle.rules.specs.Numbers.{rowLimit, originId, number, signedId, va
 use Rattle.rules.specs.Tables.{wordTags, Row, hasId, hasTag, tagLimit}
 use Rattle.rules.specs.Rows.{originRow, editorRow, tagRow, rowOf, lastId, follows, ownTag}
 use Rattle.rules.specs.Lines.{Phase, Answer, next}
-use Rattle.rules.specs.GrammarLines.{columnAt, GivenUpTo}
+use Rattle.rules.specs.GrammarColumns.{GivenUpTo}
+use Rattle.rules.proofs.BareColumns.{columnAt}
 use Rattle.rules.specs.GrammarTables.{RowLine, OriginRow, EditorRow, TagRow, Carries, TagTable, OriginTable, EditorTable, RowsFit}
 use Rattle.rules.proofs.PlaceFree.{column-there, text-there, name-there, note-there}
 use Rattle.rules.proofs.SaidOfLists.{each-more, differ-map-more, and-both-ways}
 use Rattle.rules.proofs.TestsAsFacts.{reads-are, given-are, leb-is, good-some, not-is}
 use Rattle.rules.proofs.LineByLine.{Through, through-held}
+use Rattle.rules.proofs.RowsAsRead.{OriginRead, origin-said, EditorRead, editor-said, TagRead, tag-said}
 use Rattle.rules.proofs.RowsAlike.{Alike, AlikeRow, has-id-alike, has-tag-alike, room-next, next-in-order}
 use Rattle.rules.proofs.RowTests.{own-carries, flagged, described, tags-row, rows-of-origins, rows-of-editors, rows-of-tags}
 
@@ -43,7 +45,7 @@ module _ (rs : List Row) (rows : List RowLine) (a : Alike rs rows) where
         let h = through-held K used f _ _ g in
         let id = number originId (column (columns line) 0 .text .bytes) in
         let row : RowLine = record { line = line .bytes; id1 = suc (value id); first = trim (inFront (column (columns line) 0 .after)) .bytes } in
-        let one : OriginRow row =
+        let one : OriginRead row =
         record {
           id = value id;
           id-written = ap (number originId) (sym (column-there line 0)) ∙ good-some id (h .0 .1 .0);
@@ -58,7 +60,7 @@ module _ (rs : List Row) (rows : List RowLine) (a : Alike rs rows) where
           few = room-next rs rows a row (h .0 .1 .1 .1 .1 .1 .0);
           fit =
               record {
-                each-row = each-more OriginRow rows row (t .each-row) one;
+                each-row = each-more OriginRow rows row (t .each-row) (origin-said row one);
                 ids-differ =
                     differ-map-more (λ (r : RowLine). r .id1) rows row (t .ids-differ)
                     (not-is (hasId (suc (value id)) rs) (has-id-alike rs rows a (suc (value id))) .0 (h .0 .1 .1 .1 .1 .0));
@@ -76,7 +78,7 @@ module _ (rs : List Row) (rows : List RowLine) (a : Alike rs rows) where
         let login = column (columns line) 1 in
         let name = trim (login .after) in
         let row : RowLine = record { line = line .bytes; id1 = value id; first = login .text .bytes } in
-        let one : EditorRow row =
+        let one : EditorRead row =
         record {
           id-written = ap signedId (sym (column-there line 0)) ∙ good-some id (h .0 .1 .0);
           login-is = column-there line 1;
@@ -89,7 +91,7 @@ module _ (rs : List Row) (rows : List RowLine) (a : Alike rs rows) where
           few = room-next rs rows a row (h .0 .1 .1 .1 .1 .1 .0);
           fit =
               record {
-                each-row = each-more EditorRow rows row (t .each-row) one;
+                each-row = each-more EditorRow rows row (t .each-row) (editor-said row one);
                 ids-differ =
                     differ-map-more (λ (r : RowLine). r .id1) rows row (t .ids-differ)
                     (not-is (hasId (value id) rs) (has-id-alike rs rows a (value id)) .0 (h .0 .1 .1 .1 .1 .0));
@@ -111,7 +113,7 @@ module _ (rs : List Row) (rows : List RowLine) (a : Alike rs rows) where
         let short = and-both-ways (atMost (tagLimit n) tag) (not (reads percents tag)) .0 (h .0 .1 .1 .0) in
         let eleven = and-both-ways (follows (lastId rs) (value id) && ownTag (value id) tag) (not (hasTag tag rs)) .0 (h .0 .1 .1 .1 .1 .1 .0) in
         let ordered = and-both-ways (follows (lastId rs) (value id)) (ownTag (value id) tag) .0 (eleven .0) in
-        let one : TagRow n row =
+        let one : TagRead n row =
         record {
           id-written = ap signedId (sym (column-there line 0)) ∙ good-some id (h .0 .1 .0);
           tag-is = column-there line 1;
@@ -128,7 +130,7 @@ module _ (rs : List Row) (rows : List RowLine) (a : Alike rs rows) where
           few = room-next rs rows a row (h .0 .1 .1 .1 .1 .1 .1 .0);
           fit =
               record {
-                each-row = each-more (TagRow n) rows row (t .each-row) one;
+                each-row = each-more (TagRow n) rows row (t .each-row) (tag-said n row one);
                 in-order = next-in-order rs rows a (value id) row refl (t .in-order) (ordered .0);
                 carried = each-more Carries rows row (t .carried) (own-carries (value id) tag row refl refl (ordered .1));
                 tags-differ =

@@ -16,7 +16,9 @@ use Rattle.rules.specs.Columns.{columns, written}
 use Rattle.rules.specs.Numbers.{sentenceNumber, number, value}
 use Rattle.rules.specs.Sentences.{Edge, Node, Sentence, edgeCount, edgesOf, listed, parented, endRules, endOf}
 use Rattle.rules.specs.Lines.{Phase, Answer, next}
-use Rattle.rules.specs.GrammarLines.{In, Each, columnAt}
+use Rattle.rules.specs.GrammarLines.{In, Each}
+use Rattle.rules.proofs.ColumnsSaid.{columns-said}
+use Rattle.rules.proofs.BareColumns.{columnAt}
 use Rattle.rules.specs.GrammarSentences.{EdgeSaid, NodeLine, PhraseLine, EosFits, numbersOf, nodesOf, secondaryEdges, ParentsThere}
 use Rattle.rules.proofs.SaidOfLists.{length-map, and-both-ways, or-both-ways, every-each, each-every, each-then, each-map, each-mapped, each-joined, each-front, each-back}
 use Rattle.rules.proofs.TestsAsFacts.{good-some, some-good, some-value, is-listed, numbersOfNodes}
@@ -157,7 +159,7 @@ module _ (s : Sentence) (itself : ℕ) (words : List NodeLine) (phrases : List P
           eos =
               record {
                 numberText = written (columns line) 1 .bytes;
-                columns = two-columns line (h .0 .0) ∙ ap (λ (x : List ℕ). x ∷ written (columns line) 1 .bytes ∷ []) q;
+                columns = columns-said (line .bytes) (bytes "#EOS" ∷ written (columns line) 1 .bytes ∷ []) (two-columns line (h .0 .0) ∙ ap (λ (x : List ℕ). x ∷ written (columns line) 1 .bytes ∷ []) q);
                 number-written = good-some o (h .0 .1 .0) ∙ ap some (eqb-true (value o) (s .heading .number) (h .0 .1 .1 .0) ∙ a .its-number);
               };
           no-gap = λ n l u. given-before n .0 (every-counted (listed (s .phrases)) 500 (length (s .phrases)) (h .0 .1 .1 .1 .0) n l (omega (arith, phrases-count)));

@@ -13,14 +13,15 @@ use Rattle.rules.specs.Sentences.{Node, Sentence, listed, edgesOf, endOf
 use Rattle.rules.specs.Nodes.{wordOf, phraseOf}
 use Rattle.rules.specs.Keywords.{firstColumn, startsPhrase}
 use Rattle.rules.specs.Lines.{Preamble, Phase, inSentence, hand, next, withWord, withPhrase, amongNodes, lineAt}
-use Rattle.rules.specs.GrammarLines.{Each, Differ, columnAt}
+use Rattle.rules.specs.GrammarLines.{Each, Differ}
+use Rattle.rules.proofs.BareColumns.{columnAt}
 use Rattle.rules.specs.GrammarTables.{TableLines}
 use Rattle.rules.specs.GrammarSentences.{NodeLine, PhraseLine, WordFits, PhraseFits, numbersOf, nodesOf, secondaryEdges, nodeLines}
 use Rattle.rules.proofs.SaidOfLists.{map-joined, differ-map-next, false-if-never}
 use Rattle.rules.proofs.TestsAsFacts.{numbersOfNodes}
 use Rattle.rules.proofs.TablesAsSaid.{Stand}
 use Rattle.rules.proofs.KeywordsAsSaid.{starts-first}
-use Rattle.rules.proofs.HeadsAsSaid.{front-first}
+use Rattle.rules.proofs.HeadsAsSaid.{front-column}
 use Rattle.rules.proofs.NodeColumns.{sideOf, sideSaid}
 use Rattle.rules.proofs.LineKinds.{WordStart, first-given, number-digits, sign-phrase, word-starts, word-no-phrase, word-no-end, phrase-no-end}
 use Rattle.rules.proofs.WordsAndPhrases.{word-grants, phrase-grants}
@@ -69,7 +70,7 @@ module _ (p : Preamble) (ts : List TableLines) (stand : Stand (p .tables) ts) (u
       let ls = nodeLines rest ++ tail in
       let again = append-assoc words (w ∷ []) rest in
       one-line (w .line) ls (inSentence p s) used (λ line e st.
-      let at-first : firstColumn line .bytes ≡ w .first = starts-first line st ∙ ap (columnAt 0) e ∙ front-first (w .line) (w .first) _ (f .0 .node .columns) in
+      let at-first : firstColumn line .bytes ≡ w .first = starts-first line st ∙ ap (columnAt 0) e ∙ front-column (w .line) (w .first) _ (f .0 .node .columns) in
       taken-word (Follows ls) line s (subst WordStart (sym at-first) (f .0 .word))
       (subst (λ (xs : List ℕ). 1 ≤ length xs) (sym (starts-first line st)) (first-given (line .bytes) st))
       (word-grants (p .tables) ts stand (Follows ls) used line (edgesOf s) (length (s .words)) (empty (s .phrases)) (withWord line (firstColumn line) p s) w (sym e) (f .0)
@@ -97,7 +98,7 @@ module _ (p : Preamble) (ts : List TableLines) (stand : Stand (p .tables) ts) (u
       let again = append-assoc phrases (q ∷ []) rest in
       let nodes : nodesOf (phrases ++ (q ∷ rest)) ≡ nodesOf phrases ++ (q .node ∷ nodesOf rest) = map-joined (λ (p : PhraseLine). p .node) phrases (q ∷ rest) in
       one-line (q .node .line) ls (inSentence p s) used (λ line e st.
-      let at-first : firstColumn line .bytes ≡ q .node .first = starts-first line st ∙ ap (columnAt 0) e ∙ front-first (q .node .line) (q .node .first) _ (f .0 .node .columns) in
+      let at-first : firstColumn line .bytes ≡ q .node .first = starts-first line st ∙ ap (columnAt 0) e ∙ front-column (q .node .line) (q .node .first) _ (f .0 .node .columns) in
       taken-phrase (Follows ls) line s
       (sign-phrase (firstColumn line .bytes) (f .0 .digits) (at-first ∙ f .0 .sign) (number-digits phraseNumber (f .0 .digits) (q .number) (f .0 .number-written)))
       (phrase-grants (p .tables) ts stand (Follows ls) used line (edgesOf s) (listed (s .phrases)) (withPhrase line (firstColumn line) p s) q (sym e) (f .0)

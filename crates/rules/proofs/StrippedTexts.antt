@@ -1,17 +1,17 @@
 -- A trimmed text is what its bytes are without the white ones at both ends, and nothing else is. By one step along the bytes.
 -- Assumes nothing.
-use Prim.Native.Nat.{ℕ, suc, _+_, _≤_}
+use Prim.Native.Nat.{ℕ, suc, _+_}
 use native.Mathlib.Omega.{arith}
 use mathlib.Core.Path.{_≡_, refl, sym, ap, _∙_, subst}
 use mathlib.Core.Logic.{_⊎_, inl, inr}
 use mathlib.Core.Bool.{Bool, true, false}
-use mathlib.Core.List.{List, [], _∷_, _++_, append-assoc, append-nil}
+use mathlib.Core.List.{List, [], _∷_, _++_, append-nil}
 use lib.ListN.{length, length-append}
 use Rattle.rules.specs.Lists.{pick}
 use Rattle.rules.specs.Bytes.{white}
 use Rattle.rules.specs.Texts.{Text, unlessWhite, rightTrim, trimFrom, trim}
 use Rattle.rules.specs.GrammarLines.{Each, White, Starts}
-use Rattle.rules.specs.GrammarWords.{Stripped}
+use Rattle.rules.specs.GrammarColumns.{Stripped}
 use Rattle.rules.proofs.SaidOfLists.{never-both, false-if-never}
 use Rattle.rules.proofs.PlaceFree.{trim-free}
 use Rattle.rules.proofs.BytesAsSaid.{white-said}

@@ -13,12 +13,14 @@ use Rattle.rules.specs.Tables.{Row, tableNames, noTables, closed}
 use Rattle.rules.specs.Rows.{rowOf}
 use Rattle.rules.specs.Keywords.{formatOf, tableOpened, tableEnded, firstColumn, startsRow}
 use Rattle.rules.specs.Lines.{Preamble, Phase, start, top, inTable, go, next, cannotStand, atStart, atTop, behindOne, withTable, withRow, amongRows, lineAt}
-use Rattle.rules.specs.GrammarLines.{In, Each, Differ, columnAt}
+use Rattle.rules.specs.GrammarLines.{In, Each, Differ}
+use Rattle.rules.proofs.BareColumns.{columnAt}
 use Rattle.rules.specs.GrammarTables.{RowLine, TableLines, OriginRow, EditorRow, TagRow, RowsFit, Names, TableFits, tableLines, whiches}
 use Rattle.rules.specs.Grammar.{FormatFits}
 use Rattle.rules.proofs.BytesAsSaid.{Started}
 use Rattle.rules.proofs.SaidOfLists.{each-back, differ-map-next, false-if-never}
 use Rattle.rules.proofs.TestsAsFacts.{reads-are}
+use Rattle.rules.proofs.RowsAsRead.{said-origin, said-editor, said-tag}
 use Rattle.rules.proofs.RowsAlike.{Alike, none-alike, alike-more}
 use Rattle.rules.proofs.RowsGrant.{row-grants}
 use Rattle.rules.proofs.TablesAsSaid.{Stand, stand-more, is-there}
@@ -62,13 +64,13 @@ format-follows l ls t k =
 
 row-starts : (n : ℕ) (rows : List RowLine) (row : RowLine) (more : List RowLine) (t : Text) → t .bytes ≡ columnAt 0 (row .line) → RowsFit n (rows ++ (row ∷ more)) → startsRow t ≡ true
 row-starts zero rows row more t e f =
-    let one = each-back OriginRow rows (row ∷ more) (f .of-origins refl .each-row) .0 in
+    let one = said-origin row (each-back OriginRow rows (row ∷ more) (f .of-origins refl .each-row) .0) in
     number-row originId t (one .id) (ap (number originId) e ∙ one .id-written)
 row-starts (suc zero) rows row more t e f =
-    let one = each-back EditorRow rows (row ∷ more) (f .of-editors refl .each-row) .0 in
+    let one = said-editor row (each-back EditorRow rows (row ∷ more) (f .of-editors refl .each-row) .0) in
     id-row t (row .id1) (ap signedId e ∙ one .id-written)
 row-starts (suc (suc n)) rows row more t e f =
-    let one = each-back (TagRow (suc (suc n))) rows (row ∷ more) (f .of-tags (omega arith) .each-row) .0 in
+    let one = said-tag (suc (suc n)) row (each-back (TagRow (suc (suc n))) rows (row ∷ more) (f .of-tags (omega arith) .each-row) .0) in
     id-row t (row .id1) (ap signedId e ∙ one .id-written)
 
 module _ (p : Preamble) (n : ℕ) (tail : List (List ℕ)) where

@@ -19,7 +19,9 @@ use Rattle.rules.specs.Tables.{Tables, wordTags, nodeTags}
 use Rattle.rules.specs.Sentences.{Node}
 use Rattle.rules.specs.Nodes.{Pair, secondaryParent, itsPairs, shaped, roomy, behindHash, wordOf, phraseOf}
 use Rattle.rules.specs.Lines.{Phase, Answer, next}
-use Rattle.rules.specs.GrammarLines.{Each, frontColumns}
+use Rattle.rules.specs.GrammarLines.{Each}
+use Rattle.rules.proofs.ColumnsSaid.{said-front}
+use Rattle.rules.proofs.BareColumns.{frontColumns}
 use Rattle.rules.specs.GrammarTables.{TableLines}
 use Rattle.rules.specs.GrammarSentences.{EdgeSaid, NodeLine, PhraseLine, nodeColumns, EdgeFits, WordFits, PhraseFits}
 use Rattle.rules.proofs.PlaceFree.{front-columns}
@@ -89,7 +91,7 @@ module _ (T : Tables) (ts : List TableLines) (s : Stand T ts) (K : Phase → Lis
         → ((r : Node) → sideOf r ≡ sideSaid node → Through K used (f r)) → Through K used (next f (wordOf T words no-phrase edges line))
     unfolding wordOf
     word-grants node l w alone few room goes-on =
-        let sh = columns-shaped fs node (front-columns line ∙ ap frontColumns (sym l) ∙ w .node .columns) in
+        let sh = columns-shaped fs node (front-columns line ∙ ap frontColumns (sym l) ∙ said-front (node .line) (nodeColumns node) (w .node .columns)) in
         let larger : (node .parent ≡ 0) ⊎ (words < node .parent) = above (parent-range (node .parentText) (node .parent) (w .node .parent-written)) in
         let others = each-then (EdgeFits ts) (λ (e : EdgeSaid). words < e .parent) (λ e k. omega (arith, secondary-range (e .parentText) (e .parent) (k .parent-written), few)) (node .secondary) (w .node .each-secondary) in
         held-through K used f _ _ (
@@ -167,7 +169,7 @@ module _ (T : Tables) (ts : List TableLines) (s : Stand T ts) (K : Phase → Lis
     unfolding phraseOf
     phrase-grants p l w new room goes-on =
         let node = p .node in
-        let sh = columns-shaped fs node (front-columns line ∙ ap frontColumns (sym l) ∙ w .node .columns) in
+        let sh = columns-shaped fs node (front-columns line ∙ ap frontColumns (sym l) ∙ said-front (node .line) (nodeColumns node) (w .node .columns)) in
         let o = number phraseNumber (behindHash (text fs 0) .bytes) in
         let is : o ≡ some (p .number) = ap (λ (xs : List ℕ). number phraseNumber (drop 1 xs)) (sh .at-first ∙ w .sign) ∙ w .number-written in
         let v : value o ≡ p .number = some-value o (p .number) is in

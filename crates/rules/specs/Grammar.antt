@@ -1,6 +1,6 @@
 -- What a file of format 3 is, apart from how one is read. Document 01, "The file from top to bottom": `#FORMAT 3` comes
 -- first, then tables, then sentences; "Lines and bytes": each line ends with byte 10, and some are ignored wherever they
--- stand. What lines, tables and sentences are stands in the three files beside this one. Assumes nothing.
+-- stand. What lines, columns, tables and sentences are stands in the four files beside this one. Assumes nothing.
 use Prim.Native.Nat.{ℕ, _≤_}
 use mathlib.Core.Path.{_≡_}
 use mathlib.Core.Option.{some}
@@ -8,14 +8,15 @@ use mathlib.Core.List.{List, [], _∷_, _++_, map}
 use lib.ListN.{length}
 use Rattle.rules.specs.Lists.{bytes, joined}
 use Rattle.rules.specs.Numbers.{fileLimit, formatNumber, number}
-use Rattle.rules.specs.GrammarLines.{Each, Differ, LineFits, linesWritten, Heeded, Starts, allColumns}
+use Rattle.rules.specs.GrammarLines.{Each, Differ, LineFits, linesWritten, Heeded, Starts}
+use Rattle.rules.specs.GrammarColumns.{Columns}
 use Rattle.rules.specs.GrammarTables.{TableLines, TablesFit, tableLines}
 use Rattle.rules.specs.GrammarSentences.{SentenceLines, SentenceFits, sentenceLines}
 
 -- #FORMAT 3
 pub record FormatFits (l : List ℕ) : Type 0 where
   pub numberText : List ℕ
-  pub columns : allColumns l ≡ bytes "#FORMAT" ∷ numberText ∷ []
+  pub columns : Columns l (bytes "#FORMAT" ∷ numberText ∷ [])
   pub number-written : number formatNumber numberText ≡ some 3
 
 abbrev pub sentenceNumbers : List SentenceLines → List ℕ

@@ -7,8 +7,6 @@ use mathlib.Core.List.{List, [], _∷_, _++_, map}
 use lib.ListN.{length}
 use Rattle.rules.specs.Lists.{joined}
 use Rattle.rules.specs.Bytes.{newline, percents}
-use Rattle.rules.specs.Texts.{Text, trim}
-use Rattle.rules.specs.Columns.{columnsFrom, column, written, texts, fields}
 use Rattle.rules.specs.Numbers.{lineLimit}
 
 -- ---- said of lists
@@ -59,29 +57,3 @@ pub data Heeded : List (List ℕ) → List (List ℕ) → Type 0 where
 -- every other line starts with its first column
 abbrev pub Starts : List ℕ → Type 0
 Starts l = (b : ℕ) × (rest : List ℕ) × (l ≡ b ∷ rest) × (White b → ⊥)
-
--- ---- a line and its columns
-
--- all columns of a line
-abbrev pub allColumns : List ℕ → List (List ℕ)
-allColumns line = map (λ (t : Text). t .bytes) (texts (columnsFrom 0 line))
-
--- the columns in front of the comment, which the first column that is exactly %% begins
-abbrev pub frontColumns : List ℕ → List (List ℕ)
-frontColumns line = map (λ (t : Text). t .bytes) (fields (columnsFrom 0 line))
-
--- a column of a line, counted from 0
-abbrev pub columnAt : ℕ → List ℕ → List ℕ
-columnAt n line = written (columnsFrom 0 line) n .bytes
-
--- all that stands behind it
-abbrev pub restBehind : ℕ → List ℕ → Text
-restBehind n line = column (columnsFrom 0 line) n .after
-
--- the same without the white bytes at both ends
-abbrev pub textBehind : ℕ → List ℕ → List ℕ
-textBehind n line = trim (restBehind n line) .bytes
-
--- a text that may not be missing, and its limit
-abbrev pub GivenUpTo : ℕ → List ℕ → Type 0
-GivenUpTo limit xs = (1 ≤ length xs) × (length xs ≤ limit)

@@ -1,4 +1,4 @@
--- What a sentence of a file is, and what a file is. Document 01, "The file from top to bottom": `#BOS number editor date
+-- What a sentence of a file is. Document 01, "The file from top to bottom": `#BOS number editor date
 -- origin`, word lines, phrase lines, `#EOS number`; references are resolved against the whole sentence and the file's
 -- tables. Assumes nothing.
 use Prim.Native.Nat.{ℕ, suc, _+_, _≤_, _<_}
@@ -10,7 +10,8 @@ use lib.ListN.{length}
 use Rattle.rules.specs.Lists.{bytes, joined}
 use Rattle.rules.specs.Numbers.{wordLimit, edgeLimit, sentenceNumber, originId, date, phraseNumber, number, signedId, parentNumber}
 use Rattle.rules.specs.Tables.{origins, editors, wordTags, morphTags, nodeTags, edgeTags, secEdgeTags, tagLimit, dashes}
-use Rattle.rules.specs.GrammarLines.{In, Each, Differ, allColumns, frontColumns}
+use Rattle.rules.specs.GrammarLines.{In, Each, Differ}
+use Rattle.rules.specs.GrammarColumns.{Columns, Front}
 use Rattle.rules.specs.GrammarTables.{TableLines, HasRow, Known}
 
 -- ---- nodes
@@ -47,7 +48,7 @@ pub record EdgeFits (ts : List TableLines) (e : EdgeSaid) : Type 0 where
 
 -- what words and phrases have in common; tags is the table of the node's own tag
 pub record NodeFits (ts : List TableLines) (tags : ℕ) (n : NodeLine) : Type 0 where
-  pub columns : frontColumns (n .line) ≡ nodeColumns n
+  pub columns : Front (n .line) (nodeColumns n)
   pub parent-written : parentNumber (n .parentText) ≡ some (n .parent)
   pub parent-zero : n .parent ≡ 0 → n .edge ≡ dashes
   pub tag-short : length (n .tag) ≤ tagLimit tags
@@ -98,7 +99,7 @@ pub record HeadFits (ts : List TableLines) (h : HeadLine) : Type 0 where
   pub editorText : List ℕ
   pub dateText : List ℕ
   pub originText : List ℕ
-  pub columns : frontColumns (h .line) ≡ bytes "#BOS" ∷ numberText ∷ editorText ∷ dateText ∷ originText ∷ []
+  pub columns : Front (h .line) (bytes "#BOS" ∷ numberText ∷ editorText ∷ dateText ∷ originText ∷ [])
   pub number-written : number sentenceNumber numberText ≡ some (h .number)
   pub editor-written : signedId editorText ≡ some (h .editor1)
   pub day : ℕ
@@ -110,7 +111,7 @@ pub record HeadFits (ts : List TableLines) (h : HeadLine) : Type 0 where
 -- #EOS number
 pub record EosFits (itself : ℕ) (eos : List ℕ) : Type 0 where
   pub numberText : List ℕ
-  pub columns : allColumns eos ≡ bytes "#EOS" ∷ numberText ∷ []
+  pub columns : Columns eos (bytes "#EOS" ∷ numberText ∷ [])
   pub number-written : number sentenceNumber numberText ≡ some itself
 
 -- the numbers of phrases, their nodes, and the secondary edges of nodes

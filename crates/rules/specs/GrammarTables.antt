@@ -7,13 +7,12 @@ use mathlib.Core.Bool.{Bool}
 use mathlib.Core.Option.{some}
 use mathlib.Core.List.{List, [], _∷_, _++_, map}
 use lib.ListN.{length, getD}
-use lib.Dec.{eqb}
 use Rattle.rules.specs.Lists.{pick, bytes, counting}
 use Rattle.rules.specs.Bytes.{percents}
-use Rattle.rules.specs.Texts.{inFront, behind, trim}
 use Rattle.rules.specs.Numbers.{rowLimit, originId, number, signedId}
 use Rattle.rules.specs.Tables.{origins, editors, wordTags, tableNames, tagLimit, dashes, unknown}
-use Rattle.rules.specs.GrammarLines.{In, Each, Differ, allColumns, columnAt, restBehind, textBehind, GivenUpTo}
+use Rattle.rules.specs.GrammarLines.{In, Each, Differ}
+use Rattle.rules.specs.GrammarColumns.{Begins, Columns, Stripped, NameAndNote, GivenUpTo}
 
 -- a row's line, one more than its id, and its name, login or tag
 pub record RowLine : Type 0 where
@@ -39,28 +38,50 @@ pub record TableLines : Type 0 where
 -- ORIGIN row: id, name (at most 128 bytes), optional comment (at most 160); the name ends at the first two adjacent
 -- percent signs
 pub record OriginRow (r : RowLine) : Type 0 where
+  pub idText : List ℕ
+  pub rest : List ℕ
+  pub columns : Begins (r .line) (idText ∷ []) rest
   pub id : ℕ
-  pub id-written : number originId (columnAt 0 (r .line)) ≡ some id
+  pub id-written : number originId idText ≡ some id
   pub one-more : r .id1 ≡ suc id
-  pub name-is : r .first ≡ trim (inFront (restBehind 0 (r .line))) .bytes
+  pub nameText : List ℕ
+  pub noteText : List ℕ
+  pub name-ends : NameAndNote rest nameText noteText
+  pub name-is : Stripped nameText (r .first)
   pub name : GivenUpTo 128 (r .first)
-  pub comment : length (trim (behind (restBehind 0 (r .line))) .bytes) ≤ 160
+  pub note : List ℕ
+  pub note-is : Stripped noteText note
+  pub comment : length note ≤ 160
 
--- EDITOR row: id, login (16), full name (40), the rest of the line; where a full name stands, no column is missing
+-- EDITOR row: id, login (16), full name (40), the rest of the line
 pub record EditorRow (r : RowLine) : Type 0 where
-  pub id-written : signedId (columnAt 0 (r .line)) ≡ some (r .id1)
-  pub login-is : r .first ≡ columnAt 1 (r .line)
+  pub idText : List ℕ
+  pub rest : List ℕ
+  pub columns : Begins (r .line) (idText ∷ r .first ∷ []) rest
+  pub id-written : signedId idText ≡ some (r .id1)
   pub login : length (r .first) ≤ 16
-  pub full-name : GivenUpTo 40 (textBehind 1 (r .line))
+  pub fullName : List ℕ
+  pub full-name-is : Stripped rest fullName
+  pub full-name : GivenUpTo 40 fullName
 
--- Tag row: id, tag, for WORDTAG a flag Y or N, description (80), the rest of the line
+-- for WORDTAG a flag Y or N, for other tables none
+abbrev pub Flagged : ℕ → List (List ℕ) → Type 0
+Flagged which flags =
+    ((which ≡ wordTags) × ((flags ≡ bytes "Y" ∷ []) ⊎ (flags ≡ bytes "N" ∷ []))) ⊎ ((which ≡ wordTags → ⊥) × (flags ≡ []))
+
+-- Tag row: id, tag, the flag, description (80), the rest of the line; a tag is never %%
 pub record TagRow (which : ℕ) (r : RowLine) : Type 0 where
-  pub id-written : signedId (columnAt 0 (r .line)) ≡ some (r .id1)
-  pub tag-is : r .first ≡ columnAt 1 (r .line)
+  pub idText : List ℕ
+  pub flags : List (List ℕ)
+  pub rest : List ℕ
+  pub columns : Begins (r .line) (idText ∷ r .first ∷ flags) rest
+  pub id-written : signedId idText ≡ some (r .id1)
   pub tag : length (r .first) ≤ tagLimit which
   pub no-comment-sign : r .first ≡ percents → ⊥
-  pub flag : which ≡ wordTags → (columnAt 2 (r .line) ≡ bytes "Y") ⊎ (columnAt 2 (r .line) ≡ bytes "N")
-  pub description : GivenUpTo 80 (textBehind (pick (eqb which wordTags) 2 1) (r .line))
+  pub flag : Flagged which flags
+  pub text : List ℕ
+  pub description-is : Stripped rest text
+  pub description : GivenUpTo 80 text
 
 -- ---- a table's rows together
 
@@ -98,7 +119,7 @@ pub record RowsFit (which : ℕ) (rows : List RowLine) : Type 0 where
 
 -- a keyword and the name of a table, and nothing else
 abbrev pub Names : List ℕ → ℕ → List ℕ → Type 0
-Names keyword which line = allColumns line ≡ keyword ∷ getD tableNames which [] ∷ []
+Names keyword which line = Columns line (keyword ∷ getD tableNames which [] ∷ [])
 
 pub record TableFits (t : TableLines) : Type 0 where
   pub one-of-seven : t .which < 7

@@ -18,7 +18,7 @@ pub mod Meaning
 pub mod Tidy
 pub mod Writing
 pub mod GrammarLines
-pub mod GrammarWords
+pub mod GrammarColumns
 pub mod GrammarTables
 pub mod GrammarSentences
 pub mod Grammar

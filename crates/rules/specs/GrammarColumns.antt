@@ -1,5 +1,4 @@
--- What the words of the grammar mean that are computed elsewhere: the columns of a line, a text without the white bytes at
--- both ends, a name that ends at two percent signs. Document 01, "Lines and bytes": a column is a run of bytes that aren't
+-- What the columns of a line are, and the texts in them. Document 01, "Lines and bytes": a column is a run of bytes that aren't
 -- white; "The file from top to bottom": names, comments and descriptions lose white bytes at both ends, an origin's name
 -- ends at the first two adjacent percent signs. Assumes nothing.
 use Prim.Native.Nat.{ℕ, _≤_}
@@ -39,6 +38,10 @@ pub record Front (l : List ℕ) (cs : List (List ℕ)) : Type 0 where
   pub then-comment : Each White rest ⊎ ((comment : List ℕ) × Begins rest (percents ∷ []) comment)
 
 -- ---- texts
+
+-- a text that may not be missing, and its limit
+abbrev pub GivenUpTo : ℕ → List ℕ → Type 0
+GivenUpTo limit xs = (1 ≤ length xs) × (length xs ≤ limit)
 
 -- a text loses white bytes at both ends
 pub record Stripped (whole text : List ℕ) : Type 0 where
