@@ -15,7 +15,7 @@ use Rattle.rules.specs.Numbers.{value}
 use Rattle.rules.specs.Sentences.{Edge, Node}
 use Rattle.rules.specs.Nodes.{Pair, pairs, paired, secondaryParent, shaped, itsPairs}
 use Rattle.rules.specs.GrammarLines.{Each}
-use Rattle.rules.specs.GrammarSentences.{EdgeSaid, NodeLine, pairColumns, nodeColumns}
+use Rattle.rules.specs.GrammarNodes.{EdgeSaid, NodeLine, pairColumns, nodeColumns}
 use Rattle.rules.proofs.SaidOfLists.{and-both-ways}
 use Rattle.rules.proofs.LineByLine.{bytesOf}
 

@@ -22,7 +22,7 @@ use Rattle.rules.specs.GrammarLines.{Each}
 use Rattle.rules.proofs.ColumnsSaid.{front-said}
 use Rattle.rules.proofs.BareColumns.{frontColumns}
 use Rattle.rules.specs.GrammarTables.{TableLines}
-use Rattle.rules.specs.GrammarSentences.{EdgeSaid, NodeLine, nodeColumns, EdgeFits, NodeFits}
+use Rattle.rules.specs.GrammarNodes.{EdgeSaid, NodeLine, nodeColumns, EdgeFits, NodeFits}
 use Rattle.rules.proofs.SaidOfLists.{each-joined, each-front, each-back, each-map, each-mapped, each-both}
 use Rattle.rules.proofs.TestsAsFacts.{reads-are, leb-is, good-some, some-good, some-value}
 use Rattle.rules.proofs.TablesAsSaid.{Stand, known-is}

@@ -15,7 +15,8 @@ use Rattle.rules.specs.Keywords.{formatOf, tableOpened, tableEnded, firs
 use Rattle.rules.specs.Lines.{Preamble, Phase, top, inTable, inSentence, go, next, cannotStand, atStart, atTop, behindOne, beginning, withTable, withRow, amongRows}
 use Rattle.rules.specs.GrammarLines.{In}
 use Rattle.rules.proofs.BareColumns.{columnAt}
-use Rattle.rules.specs.GrammarTables.{RowLine, TableLines, TableFits, tableLines}
+use Rattle.rules.specs.GrammarRows.{RowLine}
+use Rattle.rules.specs.GrammarTables.{TableLines, TableFits, tableLines}
 use Rattle.rules.proofs.BytesAsSaid.{Started}
 use Rattle.rules.proofs.SaidOfLists.{map-joined, each-more, differ-map-more}
 use Rattle.rules.proofs.TestsAsFacts.{reads-are, is-member}

@@ -15,7 +15,8 @@ use Rattle.rules.specs.Numbers.{rowLimit}
 use Rattle.rules.specs.Tables.{origins, editors, wordTags, Row, dashes, unknown, reserved}
 use Rattle.rules.specs.Rows.{tagRow, rowOf, ownTag, isFlag}
 use Rattle.rules.proofs.BareColumns.{textBehind}
-use Rattle.rules.specs.GrammarTables.{RowLine, Carries, TagTable, OriginTable, EditorTable, RowsFit}
+use Rattle.rules.specs.GrammarRows.{RowLine}
+use Rattle.rules.specs.GrammarTables.{Carries, TagTable, OriginTable, EditorTable, RowsFit}
 use Rattle.rules.proofs.PlaceFree.{text-there}
 use Rattle.rules.proofs.SaidOfLists.{or-both-ways, not-both-ways}
 use Rattle.rules.proofs.TestsAsFacts.{reads-are}

@@ -15,7 +15,8 @@ use Rattle.rules.specs.Numbers.{rowLimit}
 use Rattle.rules.specs.Tables.{Row, hasId, hasTag}
 use Rattle.rules.specs.Rows.{lastId, follows}
 use Rattle.rules.specs.GrammarLines.{In}
-use Rattle.rules.specs.GrammarTables.{RowLine, ids1, firsts, InOrder}
+use Rattle.rules.specs.GrammarRows.{RowLine, ids1, firsts}
+use Rattle.rules.specs.GrammarTables.{InOrder}
 use Rattle.rules.proofs.SaidOfLists.{length-map, map-joined}
 use Rattle.rules.proofs.TestsAsFacts.{has-id, has-tag, idsOf, firstsOf}
 use Rattle.rules.proofs.IdsInOrder.{chained-more, chained-next, last-id, ordered-chained, chained-ordered, lastOf}

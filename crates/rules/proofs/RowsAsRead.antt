@@ -17,7 +17,7 @@ use Rattle.rules.specs.Columns.{columnsFrom}
 use Rattle.rules.specs.Numbers.{originId, number, signedId}
 use Rattle.rules.specs.Tables.{wordTags, tagLimit}
 use Rattle.rules.specs.GrammarColumns.{Begins, Stripped, NameAndNote, GivenUpTo}
-use Rattle.rules.specs.GrammarTables.{RowLine, OriginRow, EditorRow, Flagged, TagRow}
+use Rattle.rules.specs.GrammarRows.{RowLine, OriginRow, EditorRow, Flagged, TagRow}
 use Rattle.rules.proofs.BareColumns.{allColumns, columnAt, restBehind, textBehind}
 use Rattle.rules.proofs.KeywordsAsSaid.{column-of-all}
 use Rattle.rules.proofs.ColumnsSaid.{begins-at, rest-said, begins-said, text-behind}

@@ -16,7 +16,8 @@ use Rattle.rules.specs.Tables.{wordTags, Row, hasId, hasTag, tagLimit}
 use Rattle.rules.specs.Rows.{originRow, editorRow, tagRow, rowOf, lastId, follows, ownTag}
 use Rattle.rules.specs.Lines.{Phase, Answer, next}
 use Rattle.rules.proofs.BareColumns.{columnAt, restBehind, textBehind}
-use Rattle.rules.specs.GrammarTables.{RowLine, OriginRow, EditorRow, TagRow, Carries, TagTable, OriginTable, EditorTable, RowsFit}
+use Rattle.rules.specs.GrammarRows.{RowLine, OriginRow, EditorRow, TagRow}
+use Rattle.rules.specs.GrammarTables.{Carries, TagTable, OriginTable, EditorTable, RowsFit}
 use Rattle.rules.proofs.PlaceFree.{column-there, text-there, name-there, note-there}
 use Rattle.rules.proofs.SaidOfLists.{each-back, differ-map-next, and-both-ways}
 use Rattle.rules.proofs.TestsAsFacts.{reads-are, given-are, leb-is, some-good, some-value, not-is}

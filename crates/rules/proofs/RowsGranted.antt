@@ -18,7 +18,8 @@ use Rattle.rules.specs.Rows.{originRow, editorRow, tagRow, rowOf, lastId
 use Rattle.rules.specs.Lines.{Phase, Answer, next}
 use Rattle.rules.specs.GrammarColumns.{GivenUpTo}
 use Rattle.rules.proofs.BareColumns.{columnAt}
-use Rattle.rules.specs.GrammarTables.{RowLine, OriginRow, EditorRow, TagRow, Carries, TagTable, OriginTable, EditorTable, RowsFit}
+use Rattle.rules.specs.GrammarRows.{RowLine, OriginRow, EditorRow, TagRow}
+use Rattle.rules.specs.GrammarTables.{Carries, TagTable, OriginTable, EditorTable, RowsFit}
 use Rattle.rules.proofs.PlaceFree.{column-there, text-there, name-there, note-there}
 use Rattle.rules.proofs.SaidOfLists.{each-more, differ-map-more, and-both-ways}
 use Rattle.rules.proofs.TestsAsFacts.{reads-are, given-are, leb-is, good-some, not-is}

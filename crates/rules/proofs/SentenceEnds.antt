@@ -19,7 +19,8 @@ use Rattle.rules.specs.Lines.{Phase, Answer, next}
 use Rattle.rules.specs.GrammarLines.{In, Each}
 use Rattle.rules.proofs.ColumnsSaid.{columns-said}
 use Rattle.rules.proofs.BareColumns.{columnAt}
-use Rattle.rules.specs.GrammarSentences.{EdgeSaid, NodeLine, PhraseLine, EosFits, numbersOf, nodesOf, secondaryEdges, ParentsThere}
+use Rattle.rules.specs.GrammarNodes.{EdgeSaid, NodeLine, PhraseLine}
+use Rattle.rules.specs.GrammarSentences.{EosFits, numbersOf, nodesOf, secondaryEdges, ParentsThere}
 use Rattle.rules.proofs.SaidOfLists.{length-map, and-both-ways, or-both-ways, every-each, each-every, each-then, each-map, each-mapped, each-joined, each-front, each-back}
 use Rattle.rules.proofs.TestsAsFacts.{good-some, some-good, some-value, is-listed, numbersOfNodes}
 use Rattle.rules.proofs.KeywordsAsSaid.{two-columns, columns-two, name-second}

@@ -16,7 +16,8 @@ use Rattle.rules.specs.Lines.{Preamble, Phase, inSentence, hand, next, w
 use Rattle.rules.specs.GrammarLines.{Each, Differ}
 use Rattle.rules.proofs.BareColumns.{columnAt}
 use Rattle.rules.specs.GrammarTables.{TableLines}
-use Rattle.rules.specs.GrammarSentences.{NodeLine, PhraseLine, WordFits, PhraseFits, numbersOf, nodesOf, secondaryEdges, nodeLines}
+use Rattle.rules.specs.GrammarNodes.{NodeLine, PhraseLine, WordFits, PhraseFits}
+use Rattle.rules.specs.GrammarSentences.{numbersOf, nodesOf, secondaryEdges, nodeLines}
 use Rattle.rules.proofs.SaidOfLists.{map-joined, differ-map-next, false-if-never}
 use Rattle.rules.proofs.TestsAsFacts.{numbersOfNodes}
 use Rattle.rules.proofs.TablesAsSaid.{Stand}

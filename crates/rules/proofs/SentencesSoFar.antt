@@ -15,7 +15,8 @@ use Rattle.rules.specs.Keywords.{firstColumn, startsRow, startsWord, has
 use Rattle.rules.specs.Lines.{Preamble, Phase, inSentence, behindSentence, hand, next, cannotStand, withWord, withPhrase, amongNodes}
 use Rattle.rules.specs.GrammarLines.{In}
 use Rattle.rules.specs.GrammarTables.{TableLines}
-use Rattle.rules.specs.GrammarSentences.{NodeLine, PhraseLine, SentenceLines, WordFits, PhraseFits, SentenceFits, numbersOf, nodesOf, secondaryEdges, nodeLines, sentenceLines}
+use Rattle.rules.specs.GrammarNodes.{NodeLine, PhraseLine, WordFits, PhraseFits}
+use Rattle.rules.specs.GrammarSentences.{SentenceLines, SentenceFits, numbersOf, nodesOf, secondaryEdges, nodeLines, sentenceLines}
 use Rattle.rules.specs.Grammar.{sentenceNumbers}
 use Rattle.rules.proofs.NoOthers.{no-others}
 use Rattle.rules.proofs.SaidOfLists.{length-map, map-joined, each-more, differ-map-more, or-both-ways}

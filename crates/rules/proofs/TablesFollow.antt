@@ -15,7 +15,8 @@ use Rattle.rules.specs.Keywords.{formatOf, tableOpened, tableEnded, firs
 use Rattle.rules.specs.Lines.{Preamble, Phase, start, top, inTable, go, next, cannotStand, atStart, atTop, behindOne, withTable, withRow, amongRows, lineAt}
 use Rattle.rules.specs.GrammarLines.{In, Each, Differ}
 use Rattle.rules.proofs.BareColumns.{columnAt}
-use Rattle.rules.specs.GrammarTables.{RowLine, TableLines, OriginRow, EditorRow, TagRow, RowsFit, Names, TableFits, tableLines, whiches}
+use Rattle.rules.specs.GrammarRows.{RowLine, OriginRow, EditorRow, TagRow}
+use Rattle.rules.specs.GrammarTables.{TableLines, RowsFit, Names, TableFits, tableLines, whiches}
 use Rattle.rules.specs.Grammar.{FormatFits}
 use Rattle.rules.proofs.BytesAsSaid.{Started}
 use Rattle.rules.proofs.SaidOfLists.{each-back, differ-map-next, false-if-never}

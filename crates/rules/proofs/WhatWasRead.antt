@@ -10,8 +10,10 @@ use Rattle.rules.specs.Tables.{Row, origins, editors}
 use Rattle.rules.specs.Sentences.{Sentence}
 use Rattle.rules.specs.Lines.{Preamble, Phase, start, top, inTable, inSentence, behindSentence}
 use Rattle.rules.specs.GrammarLines.{In, Each, Differ}
-use Rattle.rules.specs.GrammarTables.{RowLine, TableLines, RowsFit, Names, TableFits, tableLines, whiches}
-use Rattle.rules.specs.GrammarSentences.{HeadLine, NodeLine, PhraseLine, SentenceLines, HeadFits, WordFits, PhraseFits, SentenceFits, numbersOf, nodesOf, secondaryEdges, nodeLines, sentenceLines}
+use Rattle.rules.specs.GrammarRows.{RowLine}
+use Rattle.rules.specs.GrammarTables.{TableLines, RowsFit, Names, TableFits, tableLines, whiches}
+use Rattle.rules.specs.GrammarNodes.{NodeLine, PhraseLine, WordFits, PhraseFits}
+use Rattle.rules.specs.GrammarSentences.{HeadLine, SentenceLines, HeadFits, SentenceFits, numbersOf, nodesOf, secondaryEdges, nodeLines, sentenceLines}
 use Rattle.rules.specs.Grammar.{FormatFits, sentenceNumbers}
 use Rattle.rules.proofs.RowsAlike.{Alike}
 use Rattle.rules.proofs.TablesAsSaid.{Stand}

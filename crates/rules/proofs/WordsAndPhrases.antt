@@ -23,7 +23,7 @@ use Rattle.rules.specs.GrammarLines.{Each}
 use Rattle.rules.proofs.ColumnsSaid.{said-front}
 use Rattle.rules.proofs.BareColumns.{frontColumns}
 use Rattle.rules.specs.GrammarTables.{TableLines}
-use Rattle.rules.specs.GrammarSentences.{EdgeSaid, NodeLine, PhraseLine, nodeColumns, EdgeFits, WordFits, PhraseFits}
+use Rattle.rules.specs.GrammarNodes.{EdgeSaid, NodeLine, PhraseLine, nodeColumns, EdgeFits, WordFits, PhraseFits}
 use Rattle.rules.proofs.PlaceFree.{front-columns}
 use Rattle.rules.proofs.SaidOfLists.{length-map, and-both-ways, not-both-ways, each-then}
 use Rattle.rules.proofs.TestsAsFacts.{good-some, some-good, some-value}

@@ -1,6 +1,6 @@
 -- What a file of format 3 is, apart from how one is read. Document 01, "The file from top to bottom": `#FORMAT 3` comes
 -- first, then tables, then sentences; "Lines and bytes": each line ends with byte 10, and some are ignored wherever they
--- stand. What lines, columns, tables and sentences are stands in the four files beside this one. Assumes nothing.
+-- stand. What lines, columns, rows, tables, nodes and sentences are stands in the files beside this one. Assumes nothing.
 use Prim.Native.Nat.{ℕ, _≤_}
 use mathlib.Core.Path.{_≡_}
 use mathlib.Core.Option.{some}

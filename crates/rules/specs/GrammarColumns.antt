@@ -1,11 +1,12 @@
--- What the columns of a line are, and the texts in them. Document 01, "Lines and bytes": a column is a run of bytes that aren't
--- white; "The file from top to bottom": names, comments and descriptions lose white bytes at both ends, an origin's name
--- ends at the first two adjacent percent signs. Assumes nothing.
+-- What the columns of a line are, and the texts in them. Document 01, "Lines and bytes": a column is a run of bytes that
+-- aren't white; "The file from top to bottom": names, comments and descriptions lose white bytes at both ends, an origin's
+-- name ends at the first two adjacent percent signs. Assumes nothing.
 use Prim.Native.Nat.{ℕ, _≤_}
 use mathlib.Core.Path.{_≡_}
 use mathlib.Core.Logic.{_⊎_}
 use mathlib.Core.List.{List, [], _∷_, _++_}
 use lib.ListN.{length}
+use Rattle.rules.specs.Lists.{bytes}
 use Rattle.rules.specs.Bytes.{percents}
 use Rattle.rules.specs.GrammarLines.{Each, White, Starts}
 
@@ -60,4 +61,4 @@ NoPair xs = (front behind : List ℕ) → xs ≡ front ++ (percents ++ behind) �
 -- the name is all, and there is no note; or the name ends at the first two adjacent percent signs, and the note follows
 abbrev pub NameAndNote : List ℕ → List ℕ → List ℕ → Type 0
 NameAndNote whole name note =
-    (NoPair whole × (name ≡ whole) × (note ≡ [])) ⊎ ((whole ≡ name ++ (percents ++ note)) × NoPair (name ++ (37 ∷ [])))
+    (NoPair whole × (name ≡ whole) × (note ≡ [])) ⊎ ((whole ≡ name ++ (percents ++ note)) × NoPair (name ++ bytes "%"))

@@ -1,5 +1,5 @@
--- What a file of format 3 is, apart from how one is read. Document 01, "Lines and bytes" and "The file from top to
--- bottom", and the words that its sentences are said in here. Assumes nothing.
+-- What the lines of a file are, and what the grammar says of lists. Document 01, "Lines and bytes": a line ends with byte
+-- 10; its other bytes are 9, 32 to 127 or 160 to 255. Assumes nothing.
 use Prim.Native.Nat.{ℕ, _≤_}
 use mathlib.Core.Path.{_≡_}
 use mathlib.Core.Logic.{_⊎_}

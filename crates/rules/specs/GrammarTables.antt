@@ -1,30 +1,17 @@
--- What a table of a file is. Document 01, "The file from top to bottom": `#BOT NAME`, rows, `#EOT NAME`, and the rules of
--- the rows of ORIGIN, EDITOR and the five tables of tags. Assumes nothing.
-use Prim.Native.Nat.{ℕ, suc, _≤_, _<_}
+-- What a table of a file is. Document 01, "The file from top to bottom": `#BOT NAME`, rows, `#EOT NAME`; what its rows are
+-- together, and which of them can be cited. Assumes nothing.
+use Prim.Native.Nat.{ℕ, _≤_, _<_}
 use mathlib.Core.Path.{_≡_}
 use mathlib.Core.Logic.{_⊎_, _↔_}
 use mathlib.Core.Bool.{Bool}
-use mathlib.Core.Option.{some}
 use mathlib.Core.List.{List, [], _∷_, _++_, map}
 use lib.ListN.{length, getD}
 use Rattle.rules.specs.Lists.{pick, bytes, counting}
-use Rattle.rules.specs.Bytes.{percents}
-use Rattle.rules.specs.Numbers.{rowLimit, originId, number, signedId}
-use Rattle.rules.specs.Tables.{origins, editors, wordTags, tableNames, tagLimit, dashes, unknown}
+use Rattle.rules.specs.Numbers.{rowLimit}
+use Rattle.rules.specs.Tables.{origins, editors, wordTags, tableNames, dashes, unknown}
 use Rattle.rules.specs.GrammarLines.{In, Each, Differ}
-use Rattle.rules.specs.GrammarColumns.{Begins, Columns, Stripped, NameAndNote, GivenUpTo}
-
--- a row's line, one more than its id, and its name, login or tag
-pub record RowLine : Type 0 where
-  pub line : List ℕ
-  pub id1 : ℕ
-  pub first : List ℕ
-
-abbrev pub ids1 : List RowLine → List ℕ
-ids1 rs = map (λ (r : RowLine). r .id1) rs
-
-abbrev pub firsts : List RowLine → List (List ℕ)
-firsts rs = map (λ (r : RowLine). r .first) rs
+use Rattle.rules.specs.GrammarColumns.{Columns}
+use Rattle.rules.specs.GrammarRows.{RowLine, ids1, firsts, OriginRow, EditorRow, TagRow}
 
 -- which of the seven tables it is, from ORIGIN, 0, to SECEDGETAG, 6; its lines
 pub record TableLines : Type 0 where
@@ -32,56 +19,6 @@ pub record TableLines : Type 0 where
   pub bot : List ℕ
   pub rows : List RowLine
   pub eot : List ℕ
-
--- ---- rows
-
--- ORIGIN row: id, name (at most 128 bytes), optional comment (at most 160); the name ends at the first two adjacent
--- percent signs
-pub record OriginRow (r : RowLine) : Type 0 where
-  pub idText : List ℕ
-  pub rest : List ℕ
-  pub columns : Begins (r .line) (idText ∷ []) rest
-  pub id : ℕ
-  pub id-written : number originId idText ≡ some id
-  pub one-more : r .id1 ≡ suc id
-  pub nameText : List ℕ
-  pub noteText : List ℕ
-  pub name-ends : NameAndNote rest nameText noteText
-  pub name-is : Stripped nameText (r .first)
-  pub name : GivenUpTo 128 (r .first)
-  pub note : List ℕ
-  pub note-is : Stripped noteText note
-  pub comment : length note ≤ 160
-
--- EDITOR row: id, login (16), full name (40), the rest of the line
-pub record EditorRow (r : RowLine) : Type 0 where
-  pub idText : List ℕ
-  pub rest : List ℕ
-  pub columns : Begins (r .line) (idText ∷ r .first ∷ []) rest
-  pub id-written : signedId idText ≡ some (r .id1)
-  pub login : length (r .first) ≤ 16
-  pub fullName : List ℕ
-  pub full-name-is : Stripped rest fullName
-  pub full-name : GivenUpTo 40 fullName
-
--- for WORDTAG a flag Y or N, for other tables none
-abbrev pub Flagged : ℕ → List (List ℕ) → Type 0
-Flagged which flags =
-    ((which ≡ wordTags) × ((flags ≡ bytes "Y" ∷ []) ⊎ (flags ≡ bytes "N" ∷ []))) ⊎ ((which ≡ wordTags → ⊥) × (flags ≡ []))
-
--- Tag row: id, tag, the flag, description (80), the rest of the line; a tag is never %%
-pub record TagRow (which : ℕ) (r : RowLine) : Type 0 where
-  pub idText : List ℕ
-  pub flags : List (List ℕ)
-  pub rest : List ℕ
-  pub columns : Begins (r .line) (idText ∷ r .first ∷ flags) rest
-  pub id-written : signedId idText ≡ some (r .id1)
-  pub tag : length (r .first) ≤ tagLimit which
-  pub no-comment-sign : r .first ≡ percents → ⊥
-  pub flag : Flagged which flags
-  pub text : List ℕ
-  pub description-is : Stripped rest text
-  pub description : GivenUpTo 80 text
 
 -- ---- a table's rows together
 

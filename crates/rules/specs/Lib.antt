@@ -19,6 +19,8 @@ pub mod Tidy
 pub mod Writing
 pub mod GrammarLines
 pub mod GrammarColumns
+pub mod GrammarRows
 pub mod GrammarTables
+pub mod GrammarNodes
 pub mod GrammarSentences
 pub mod Grammar
