@@ -24,8 +24,8 @@ Parted rest = (rest ≡ []) ⊎ ((b : ℕ) × (more : List ℕ) × (rest ≡ b �
 -- a line begins with these columns, each behind white bytes or none; behind the last of them stands the rest
 pub data Begins : List ℕ → List (List ℕ) → List ℕ → Type 0 where
   no-column : {l : List ℕ} → Begins l [] l
-  one-column : {l c more rest : List ℕ} {cs : List (List ℕ)} (gap : List ℕ) → l ≡ gap ++ (c ++ more) → Each White gap → Run c → Parted more → Begins more cs rest
-      → Begins l (c ∷ cs) rest
+  one-column : {l c more rest : List ℕ} {cs : List (List ℕ)} (gap : List ℕ) → l ≡ gap ++ (c ++ more) → Each White gap
+      → Run c → Parted more → Begins more cs rest → Begins l (c ∷ cs) rest
 
 -- these are all its columns
 abbrev pub Columns : List ℕ → List (List ℕ) → Type 0
