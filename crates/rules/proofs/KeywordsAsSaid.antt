@@ -76,17 +76,17 @@ module _ (line : Text) where
       ∙ ap (λ (x : List ℕ). columnAt 0 (line .bytes) ∷ x ∷ []) (column-of-all (columnsFrom 0 (line .bytes)) 1 ∙ sym (column-there line 1))
 
   module _ (keyword name : List ℕ) (c : Columns (line .bytes) (keyword ∷ name ∷ [])) where
-    e : allColumns (line .bytes) ≡ keyword ∷ name ∷ []
-    e = said-columns (line .bytes) (keyword ∷ name ∷ []) c
+    its-columns : allColumns (line .bytes) ≡ keyword ∷ name ∷ []
+    its-columns = said-columns (line .bytes) (keyword ∷ name ∷ []) c
 
     pub columns-two : length (columns line) ≡ 2
-    columns-two = count-columns line ∙ ap length e
+    columns-two = count-columns line ∙ ap length its-columns
 
     pub keyword-first : columnAt 0 (line .bytes) ≡ keyword
-    keyword-first = sym (column-of-all (columnsFrom 0 (line .bytes)) 0) ∙ ap (λ (xs : List (List ℕ)). getD xs 0 []) e
+    keyword-first = sym (column-of-all (columnsFrom 0 (line .bytes)) 0) ∙ ap (λ (xs : List (List ℕ)). getD xs 0 []) its-columns
 
     pub name-second : written (columns line) 1 .bytes ≡ name
-    name-second = column-there line 1 ∙ sym (column-of-all (columnsFrom 0 (line .bytes)) 1) ∙ ap (λ (xs : List (List ℕ)). getD xs 1 []) e
+    name-second = column-there line 1 ∙ sym (column-of-all (columnsFrom 0 (line .bytes)) 1) ∙ ap (λ (xs : List (List ℕ)). getD xs 1 []) its-columns
 
 -- ---- lines
 
