@@ -134,7 +134,7 @@ pub record Last (r : Reading) (bs : List ℕ) : Type 0 where
   pub handed : read r front .handed ≡ read r bs .handed
   pub ends : lastEnd (read r bs .handed) ≡ r .at + length front
 
-last-end : (hs : List Handed) (h : Handed) → lastEnd (hs ++ (h ∷ [])) ≡ h .end
+pub last-end : (hs : List Handed) (h : Handed) → lastEnd (hs ++ (h ∷ [])) ≡ h .end
 last-end [] h = refl
 last-end (g ∷ []) h = refl
 last-end (g ∷ i ∷ hs) h = last-end (i ∷ hs) h

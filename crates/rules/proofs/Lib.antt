@@ -46,6 +46,13 @@ pub mod Largest
 pub mod DifferentNumbers
 pub mod NoGap
 pub mod NoAbsent
+pub mod EachElement
+pub mod HandedKept
+pub mod References
+pub mod NodeNumbers
+pub mod Chains
+pub mod ParentsClimb
+pub mod ParentsOnSheet
 pub mod SaidOfLists
 pub mod NoOthers
 pub mod TestsAsFacts

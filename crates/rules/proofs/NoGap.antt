@@ -121,7 +121,7 @@ pub record Numbered (ps : List Node) : Type 0 where
   pub low : fromPhrases (numbersOf ps) ≡ true
   pub apart : distinct (numbersOf ps) ≡ true
 
-listed-member : (ps : List Node) (n : ℕ) → listed ps n ≡ member n (numbersOf ps)
+pub listed-member : (ps : List Node) (n : ℕ) → listed ps n ≡ member n (numbersOf ps)
 listed-member [] n = refl
 listed-member (p ∷ ps) n = ap (λ (b : Bool). eqb n (p .number) || b) (listed-member ps n)
 

@@ -93,7 +93,7 @@ part-begun ts h k = record { heading = k; words = tt; counted = tt; few = omega 
 
 -- ---- which phrases are listed is all that its end asks
 
-every-same : {A : Type 0} (f g : A → Bool) → ((x : A) → f x ≡ g x) → (xs : List A) → every f xs ≡ every g xs
+pub every-same : {A : Type 0} (f g : A → Bool) → ((x : A) → f x ≡ g x) → (xs : List A) → every f xs ≡ every g xs
 every-same f g e [] = refl
 every-same f g e (x ∷ xs) = ap₂ _&&_ (e x) (every-same f g e xs)
 

@@ -13,6 +13,7 @@ pub mod Lines
 pub mod Reading
 pub mod Sheets
 pub mod Survey
+pub mod Climbing
 pub mod Opening
 pub mod Meaning
 pub mod Tidy

@@ -1,0 +1,106 @@
+-- The parent field of a node on a sentence's sheet is the node's parent in the sentence, so chains of parents climb on the
+-- sheet too. By the widths of the records in front of the node's own. Assumes nothing.
+use Prim.Native.Nat.{ℕ, zero, suc, _+_, _*_, _<_}
+use native.Mathlib.Nat.{zero-add, add-zero, mul-zero, mul-suc, suc-add, add-suc, le-of-suc-le-suc, not-suc-le-zero}
+use native.Mathlib.Omega.{arith}
+use mathlib.Core.Path.{_≡_, refl, sym, ap, _∙_}
+use mathlib.Core.Logic.{inl, inr}
+use mathlib.Core.Bool.{Bool, true, false}
+use mathlib.Core.List.{List, [], _∷_, _++_, map}
+use lib.ListN.{length, getD, List·getD-append}
+use lib.Seq.{getD-append-add}
+use lib.Dec.{eqb}
+use Rattle.rules.specs.Lists.{pick, counting, joined}
+use Rattle.rules.specs.Tables.{Tables}
+use Rattle.rules.specs.Sentences.{Node, Sentence}
+use Rattle.rules.specs.Reading.{Handed}
+use Rattle.rules.specs.Sheets.{nodeRoom, nodeWidth, nodes, leading, nodeNumbers, recordAt, sentenceSheet}
+use Rattle.rules.specs.Survey.{Survey, surveyOf}
+use Rattle.rules.specs.Meaning.{meantTables}
+use Rattle.rules.specs.Climbing.{Each, parentAmong, parentIn, parentOffset, parentOn, climbed, Climbs, EveryChainClimbs}
+use Rattle.rules.proofs.EachElement.{each-then}
+use Rattle.rules.proofs.SentencesKept.{bareSentence, SentenceKept}
+use Rattle.rules.proofs.HandedKept.{handed-kept}
+use Rattle.rules.proofs.NodeNumbers.{InRoom, each-in-room}
+use Rattle.rules.proofs.Chains.{ZeroOrAbove, climbed-same, climbs-same}
+use Rattle.rules.proofs.ParentsClimb.{parent-above, sentence-climbs}
+
+-- ---- records of one width, one behind the other, for each number counted
+
+module _ (f : ℕ → List ℕ) (width : ℕ) (wide : (k : ℕ) → length (f k) ≡ width) where
+  pub at-joined : (from count n at : ℕ) → n < count → at < width → getD (joined (map f (counting from count))) (width * n + at) 0 ≡ getD (f (from + n)) at 0
+  at-joined from zero n at h l = absurd (not-suc-le-zero h)
+  at-joined from (suc count) zero at h l =
+      let w = wide from in
+      let place : width * 0 + at ≡ at = omega (arith, mul-zero width) in
+      ap (λ (m : ℕ). getD (f from ++ joined (map f (counting (suc from) count))) m 0) place
+      ∙ List·getD-append (f from) (joined (map f (counting (suc from) count))) 0 at (omega arith)
+      ∙ ap (λ (m : ℕ). getD (f m) at 0) (sym (add-zero from))
+  at-joined from (suc count) (suc n) at h l =
+      let w = wide from in
+      let m : width * suc n ≡ width * n + width = mul-suc width n in
+      let place : width * suc n + at ≡ length (f from) + (width * n + at) = omega arith in
+      ap (λ (m : ℕ). getD (f from ++ joined (map f (counting (suc from) count))) m 0) place
+      ∙ getD-append-add (f from) (joined (map f (counting (suc from) count))) (width * n + at) 0
+      ∙ at-joined (suc from) count n at (le-of-suc-le-suc h) l
+      ∙ ap (λ (m : ℕ). getD (f m) at 0) (suc-add from n ∙ sym (add-suc from n))
+
+-- ---- the record of a number
+
+record-wide : (ns : List Node) (k : ℕ) → length (recordAt ns k) ≡ nodeWidth
+record-wide [] k = refl
+record-wide (n ∷ ns) k = by (eqb (n .number) k) (record-wide ns k)
+  where
+    by : (t : Bool) → length (recordAt ns k) ≡ nodeWidth → length (pick t (nodeNumbers n) (recordAt ns k)) ≡ nodeWidth
+    by true more = refl
+    by false more = more
+
+record-parent : (ns : List Node) (k : ℕ) → getD (recordAt ns k) parentOffset 0 ≡ parentAmong ns k
+record-parent [] k = refl
+record-parent (n ∷ ns) k = by (eqb (n .number) k) (record-parent ns k)
+  where
+    by : (t : Bool) → getD (recordAt ns k) parentOffset 0 ≡ parentAmong ns k
+        → getD (pick t (nodeNumbers n) (recordAt ns k)) parentOffset 0 ≡ pick t (n .parent) (parentAmong ns k)
+    by true more = refl
+    by false more = more
+
+-- of any sentence, at each number that a node may have
+pub parent-on-sheet : (s : Sentence) (n : ℕ) → n < nodeRoom → parentOn (sentenceSheet s) n ≡ parentIn s n
+unfolding sentenceSheet
+parent-on-sheet s n h =
+    getD-append-add (leading s) (joined (map (recordAt (nodes s)) (counting 0 nodeRoom))) (nodeWidth * n + parentOffset) 0
+    ∙ at-joined (recordAt (nodes s)) nodeWidth (record-wide (nodes s)) 0 nodeRoom n parentOffset h (omega arith)
+    ∙ ap (λ (m : ℕ). getD (recordAt (nodes s) m) parentOffset 0) (zero-add n)
+    ∙ record-parent (nodes s) n
+
+-- ---- a sentence handed out
+
+module _ (ts : Tables) (s : Sentence) (k : SentenceKept (meantTables ts) (bareSentence s)) where
+  parent-in-room : (n : ℕ) → parentIn s n < nodeRoom
+  parent-in-room n = by (parent-above ts s k n)
+    where
+      by : ZeroOrAbove (length (s .phrases)) n (parentIn s n) → parentIn s n < nodeRoom
+      by (inl e) = omega (arith, e)
+      by (inr a) = omega (arith, a .highest)
+
+  on-sheet-same : (steps n : ℕ) → n < nodeRoom → climbed (parentOn (sentenceSheet s)) steps n ≡ climbed (parentIn s) steps n
+  on-sheet-same steps n h = climbed-same (parentIn s) (parentOn (sentenceSheet s)) nodeRoom (parent-on-sheet s) (λ m l. parent-in-room m) steps n h
+
+  climbs-from : (n : ℕ) → n < nodeRoom → Climbs (parentOn (sentenceSheet s)) (suc (length (s .phrases))) n
+  climbs-from n h = climbs-same (parentIn s) (parentOn (sentenceSheet s)) (suc (length (s .phrases))) n (λ j. on-sheet-same j n h) (sentence-climbs ts s k n)
+
+-- steps on the sheet are steps in the sentence
+pub climbed-on-sheet : (f : List ℕ)
+    → Each (λ (h : Handed). (k n : ℕ) → n < nodeRoom → climbed (parentOn (sentenceSheet (h .sentence))) k n ≡ climbed (parentIn (h .sentence)) k n) (surveyOf f .handed)
+climbed-on-sheet f =
+    handed-kept (λ (v : Survey) (s : Sentence). (k n : ℕ) → n < nodeRoom → climbed (parentOn (sentenceSheet s)) k n ≡ climbed (parentIn s) k n)
+    (λ v s k. on-sheet-same (v .tables) s k) f
+
+-- every chain of parents climbs on the sheet
+pub climbs-on-sheet : (f : List ℕ) → Each (λ (h : Handed). EveryChainClimbs (h .sentence) (parentOn (sentenceSheet (h .sentence)))) (surveyOf f .handed)
+climbs-on-sheet f =
+    handed-kept (λ (v : Survey) (s : Sentence). EveryChainClimbs s (parentOn (sentenceSheet s)))
+    (λ v s k.
+    each-then InRoom (λ (n : Node). Climbs (parentOn (sentenceSheet s)) (suc (length (s .phrases))) (n .number))
+    (λ n h. climbs-from (v .tables) s k (n .number) h) (nodes s) (each-in-room (v .tables) s k))
+    f
