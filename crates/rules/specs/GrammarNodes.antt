@@ -1,7 +1,7 @@
 -- What a word's or a phrase's line is. Document 01, "The file from top to bottom": word, part of speech, morphology, edge,
 -- parent, then any number of pairs of secondary label and secondary parent; # with its number at once after it. Assumes
 -- nothing.
-use Prim.Native.Nat.{ℕ, _+_, _≤_, _<_}
+use Prim.Native.Nat.{ℕ, _≤_, _<_}
 use mathlib.Core.Path.{_≡_}
 use mathlib.Core.Logic.{_⊎_}
 use mathlib.Core.Option.{some}
