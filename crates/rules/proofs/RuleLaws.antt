@@ -102,7 +102,7 @@ broken-append (r ∷ rs) qs = by (r .holds) (broken-append rs qs)
 -- ---- the numbers alone
 
 -- a rule that is broken has a number no smaller than what all numbers reach
-reaches : (n : ℕ) (rs : List Rule) → every (λ (q : Rule). leb n (q .number)) rs ≡ true → (p : Rule) → broken rs ≡ some p → n ≤ p .number
+pub reaches : (n : ℕ) (rs : List Rule) → every (λ (q : Rule). leb n (q .number)) rs ≡ true → (p : Rule) → broken rs ≡ some p → n ≤ p .number
 unfolding broken
 reaches n [] h p e = absurd (let z : _≡_ {A = ℕ} 0 1 = cc in omega arith)
 reaches n (r ∷ rs) h p e =

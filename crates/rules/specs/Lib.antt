@@ -18,3 +18,10 @@ pub mod Opening
 pub mod Meaning
 pub mod Tidy
 pub mod Writing
+pub mod GrammarLines
+pub mod GrammarColumns
+pub mod GrammarRows
+pub mod GrammarTables
+pub mod GrammarNodes
+pub mod GrammarSentences
+pub mod Grammar
