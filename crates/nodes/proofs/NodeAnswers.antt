@@ -19,8 +19,10 @@ use Rattle.rules.specs.Sentences.{Node}
 use Rattle.rules.specs.Nodes.{Pair, paired, asEdge, pairsField, itsPairs, nodeOf, shaped, roomy, behindHash, wordOf, phraseOf}
 use Rattle.rules.proofs.RuleLaws.{smallest, numberOf, numbered, lesser, passes, decides, told, told-checked}
 use Rattle.rules.proofs.LesserLaws.{wrong, least, ruleFault, lesser-none, lesser-assoc, lesser-comm, lesser-left-comm, smallest-is-least}
-use Rattle.nodes.specs.Faults.{larger, largest, pairNumber, pairsOf, ownOf, tallyOf}
-use Rattle.nodes.specs.Answers.{edgeParent, highestParent, nodeAnswer, answered}
+use Rattle.nodes.specs.Faults.{pairNumber, pairsOf, ownOf, tallyOf}
+use Rattle.rules.proofs.Largest.{larger, largest}
+use Rattle.nodes.specs.Answers.{nodeAnswer, answered}
+use Rattle.rules.proofs.NoAbsent.{edgeParent, highestParent}
 use Rattle.nodes.specs.declared.Tally.{Tally}
 use Rattle.nodes.specs.declared.NodeAnswer.{NodeAnswer}
 use Rattle.nodes.specs.declared.NodeAnswer.the-variants.{Taken, Refused}

@@ -15,7 +15,8 @@ use Rattle.rules.specs.Tables.{Tables}
 use Rattle.rules.specs.Nodes.{pairs, paired}
 use Rattle.rules.proofs.RuleLaws.{lesser}
 use Rattle.rules.proofs.LesserLaws.{least, lesser-none, lesser-assoc}
-use Rattle.nodes.specs.Faults.{larger, largest, pairFault, pairNumber, pairAt, pairsOf}
+use Rattle.nodes.specs.Faults.{pairFault, pairNumber, pairAt, pairsOf}
+use Rattle.rules.proofs.Largest.{larger, largest}
 use Rattle.nodes.specs.declared.faults.Pairs.{Pairs}
 
 pub larger-none : (m : ℕ) → larger m 0 ≡ m

@@ -21,8 +21,10 @@ use Rattle.rules.specs.Nodes.{Pair, asEdge, secondaryParent, parentField, itsPa
 use Rattle.rules.proofs.Conjunctions.{and-left, and-right, not-true, every-front, every-back, every-map}
 use Rattle.rules.proofs.RuleLaws.{holdsOf, granted-holds}
 use Rattle.numbers.proofs.Told.{number-tells, parent-tells}
-use Rattle.nodes.specs.Faults.{larger, largest, pairNumber}
-use Rattle.nodes.specs.Answers.{highestParent, nodeAnswer}
+use Rattle.nodes.specs.Faults.{pairNumber}
+use Rattle.rules.proofs.Largest.{larger, largest}
+use Rattle.nodes.specs.Answers.{nodeAnswer}
+use Rattle.rules.proofs.NoAbsent.{highestParent}
 use Rattle.nodes.specs.declared.NodeAnswer.the-variants.{Taken, Refused}
 use Rattle.nodes.proofs.NodeRules.{judged}
 use Rattle.nodes.proofs.NodeAnswers.{largest-edges}

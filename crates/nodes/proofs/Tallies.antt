@@ -12,7 +12,8 @@ use Rattle.rules.specs.Nodes.{pairs, parentField, pairsField, itsTag, itsMorpho
 use Rattle.rules.proofs.RuleLaws.{lesser}
 use Rattle.rules.proofs.LesserLaws.{wrong}
 use Rattle.nodes.specs.Fields.{fieldsFrom}
-use Rattle.nodes.specs.Faults.{tagFault, parentAt, secondaryAt, pairAt, larger, pairsOf, ownOf, tallyOf}
+use Rattle.nodes.specs.Faults.{tagFault, parentAt, secondaryAt, pairAt, pairsOf, ownOf, tallyOf}
+use Rattle.rules.proofs.Largest.{larger}
 use Rattle.nodes.specs.declared.faults.Parent.{Parent}
 use Rattle.nodes.specs.declared.faults.Pairs.{Pairs}
 use Rattle.nodes.specs.declared.Tally.{Tally}

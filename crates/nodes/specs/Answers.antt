@@ -1,23 +1,16 @@
 -- What the survey is told of a node line. Document 01, "The numbers of refusal"; "The file from top to bottom": phrases
 -- are numbered from 500, and each number at most once in a sentence. Assumes nothing.
 use Prim.Native.Nat.{ℕ, _-_}
-use mathlib.Core.Bool.{Bool}
+use mathlib.Core.Bool.{Bool, _&&_}
 use mathlib.Core.List.{List}
 use lib.ListN.{length, getD}
-use lib.Dec.{eqb}
+use lib.Dec.{leb, eqb}
 use Rattle.rules.specs.Lists.{pick}
 use Rattle.rules.specs.Rules.{Verdict, refused, granted}
-use Rattle.rules.specs.Sentences.{Edge, Node}
-use Rattle.nodes.specs.Faults.{larger, largest}
+use Rattle.rules.specs.Sentences.{Node}
+use Rattle.rules.proofs.NoAbsent.{highestParent}
 use Rattle.nodes.specs.declared.NodeAnswer.{NodeAnswer}
 use Rattle.nodes.specs.declared.NodeAnswer.the-variants.{Taken, Refused}
-
-abbrev pub edgeParent : Edge → ℕ
-edgeParent e = e .parent
-
--- the largest of its parent and its secondary parents
-abbrev pub highestParent : Node → ℕ
-highestParent n = larger (n .parent) (largest edgeParent (n .secondary))
 
 abbrev pub nodeAnswer : Verdict Node → NodeAnswer
 nodeAnswer (refused r) = Refused (r .number)
@@ -29,4 +22,4 @@ answered fault its-number edges highest = pick (eqb fault 0) (Taken its-number e
 
 -- marks hold, for each phrase's number from 500 on, the stamp of the sentence that last had a phrase of it
 abbrev pub marked : List ℕ → ℕ → ℕ → Bool
-marked marks stamp n = eqb (getD marks (n - 500) 0) stamp
+marked marks stamp n = leb 500 n && eqb (getD marks (n - 500) 0) stamp

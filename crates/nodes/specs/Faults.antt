@@ -13,6 +13,7 @@ use Rattle.rules.specs.Numbers.{phraseNumber, number, parentNumber, good, value
 use Rattle.rules.specs.Tables.{Tables, morphTags, edgeTags, secEdgeTags, dashes, known, tagLimit}
 use Rattle.rules.specs.Nodes.{Pair, pairs, paired, secondaryParent, parentField, pairsField, itsTag, itsMorphology, itsEdge}
 use Rattle.rules.proofs.RuleLaws.{lesser}
+use Rattle.rules.proofs.Largest.{larger, largest}
 use Rattle.rules.proofs.LesserLaws.{wrong, least}
 use Rattle.nodes.specs.declared.faults.Parent.{Parent}
 use Rattle.nodes.specs.declared.faults.Pairs.{Pairs}
@@ -39,13 +40,6 @@ parentAt its-number edge t = let read = parentNumber (t .bytes) in parentOf read
 
 abbrev pub secondaryAt : ℕ → Text → Parent
 secondaryAt its-number t = let read = number phraseNumber (t .bytes) in parentOf read (ltb its-number (value read))
-
-abbrev pub larger : ℕ → ℕ → ℕ
-larger m n = pick (ltb m n) n m
-
-abbrev pub largest : {A : Type 0} → (A → ℕ) → List A → ℕ
-largest f [] = 0
-largest f (x ∷ xs) = larger (f x) (largest f xs)
 
 -- of a pair of secondary label and secondary parent
 abbrev pub pairFault : Tables → ℕ → Pair → ℕ

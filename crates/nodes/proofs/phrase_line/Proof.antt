@@ -3,12 +3,15 @@
 use borrow.Author.Needs.{needs}
 use native.Mathlib.Omega.{arith}
 use Prim.Native.Nat.{ℕ, _+_, _-_}
-use mathlib.Core.Path.{_≡_, sym, _∙_}
-use mathlib.Core.Bool.{Bool}
+use mathlib.Core.Path.{_≡_, sym, ap, _∙_}
+use mathlib.Core.Bool.{Bool, not, _&&_}
+use lib.Dec.{eqb}
+use borrow.Author.Tests.{le-leb}
 use mathlib.Core.Option.{some}
 use mathlib.Core.List.{List}
-use lib.ListN.{take, drop}
+use lib.ListN.{take, drop, getD}
 use Rattle.rules.specs.Tables.{Tables}
+use Rattle.rules.proofs.LesserLaws.{wrong}
 use Rattle.rules.specs.Numbers.{phraseNumber, number}
 use Rattle.sheets.specs.SheetRows.{tablesIn}
 use Rattle.numbers.proofs.Told.{Within, good-tells, bad-tells, number-tells}
@@ -165,7 +168,9 @@ returns-3 c =
     let s = start k in
     c .answer .ensures
     ∙ phrase-line-told (tables s) (s .args .edges) (head s) (s .args .at) (fields k) (whole k) (marks s) (its-number g) _ _ _ _ _ (good g)
-    (t .tally-of2 .ensures) (u .fault-unless .ensures) (m .room-fault .ensures) (c .before .before .lesser-fault2 .ensures) (c .before .lesser-fault3 .ensures)
+    (t .tally-of2 .ensures)
+    (u .fault-unless .ensures ∙ ap (λ (b : Bool). wrong 17 (not (b && eqb (getD (s .args .marks .now) (its-number g - 500) 0) (s .args .stamp)))) (sym (le-leb 500 (its-number g) (within g .lowest))))
+    (m .room-fault .ensures) (c .before .before .lesser-fault2 .ensures) (c .before .lesser-fault3 .ensures)
 
 pub phrase-line-spec : {M : Type 1} → statement M
 phrase-line-spec = tie.close (tie.spec five-fields-requires enum-known-five enum-told returns add-digits sub-read part-read-start part-read-end read-requires enum-known-read enum-told-2 tally-of-requires lesser-fault-requires returns-2 tally-of-requires-2 sub-fresh cast-fresh mul-fresh shared-slice-read-fresh fault-unless-requires room-fault-requires lesser-fault-requires-2 lesser-fault-requires-3 answer-requires returns-3)

@@ -11,7 +11,8 @@ use Rattle.rules.specs.Tables.{Tables}
 use Rattle.rules.proofs.RuleLaws.{lesser}
 use Rattle.sheets.specs.SheetRows.{tablesIn}
 use Rattle.nodes.specs.Fields.{fieldsFrom, textBetween}
-use Rattle.nodes.specs.Faults.{larger, pairAt, pairsOf}
+use Rattle.nodes.specs.Faults.{pairAt, pairsOf}
+use Rattle.rules.proofs.Largest.{larger}
 use Rattle.nodes.specs.declared.faults.Pairs.{Pairs}
 use Rattle.nodes.specs.declared.faults.Parent.{Parent}
 use Rattle.nodes.proofs.FieldSteps.{FieldStep, none-behind, field-end, field-found}
