@@ -100,22 +100,28 @@ module _ (rs : List Row) (s : List ℕ) (at : ℕ) (r : Row) where
 
 -- ---- what an answer tells
 
--- the row that these six numbers stand for
-pub record RowRead (v : Verdict Row) (numbers : List ℕ) : Type 0 where
+-- these six numbers are those of a row that the rules grant
+pub record RowTold (s : List ℕ) (at : ℕ) (rs : List Row) (n : ℕ) (numbers : List ℕ) : Type 0 where
   pub row : Row
-  pub is-granted : v ≡ granted row
+  pub is-granted : rowOf n rs (lineAt s at) ≡ granted row
   pub six : rowNumbers row ≡ numbers
+  pub sound : Sound s rs row
 
-pub record RowRefused (v : Verdict Row) (n : ℕ) : Type 0 where
+-- a rule of this number refuses
+pub record RefusalTold (v : Verdict Row) (number : ℕ) : Type 0 where
   pub broken : Rule
   pub is-refused : v ≡ refused broken
-  pub number-is : broken .number ≡ n
+  pub number-is : broken .number ≡ number
 
-pub read-tells : (v : Verdict Row) (i a l b m f : ℕ) → answers.Row i a l b m f ≡ rowAnswer v
-    → RowRead v (i ∷ a ∷ l ∷ b ∷ m ∷ f ∷ [])
-read-tells (granted r) i a l b m f e = record { row = r; is-granted = refl; six = cc }
-read-tells (refused r) i a l b m f e = absurd (let z : _≡_ {A = ℕ} 0 1 = cc in omega arith)
+pub row-told : (s : List ℕ) (at : ℕ) (rs : List Row) (n i a l b m f : ℕ)
+    → answers.Row i a l b m f ≡ rowAnswer (rowOf n rs (lineAt s at)) → RowTold s at rs n (i ∷ a ∷ l ∷ b ∷ m ∷ f ∷ [])
+row-told s at rs n i a l b m f e = go (rowOf n rs (lineAt s at)) refl e
+  where
+    go : (v : Verdict Row) → rowOf n rs (lineAt s at) ≡ v → answers.Row i a l b m f ≡ rowAnswer v
+        → RowTold s at rs n (i ∷ a ∷ l ∷ b ∷ m ∷ f ∷ [])
+    go (granted r) q e = record { row = r; is-granted = q; six = cc; sound = row-sound rs s at r n q }
+    go (refused r) q e = absurd (let z : _≡_ {A = ℕ} 0 1 = cc in omega arith)
 
-pub refused-tells : (v : Verdict Row) (n : ℕ) → answers.Refused n ≡ rowAnswer v → RowRefused v n
-refused-tells (granted r) n e = absurd (let z : _≡_ {A = ℕ} 0 1 = cc in omega arith)
-refused-tells (refused r) n e = record { broken = r; is-refused = refl; number-is = cc }
+pub refusal-told : (v : Verdict Row) (number : ℕ) → answers.Refused number ≡ rowAnswer v → RefusalTold v number
+refusal-told (granted r) number e = absurd (let z : _≡_ {A = ℕ} 0 1 = cc in omega arith)
+refusal-told (refused r) number e = record { broken = r; is-refused = refl; number-is = cc }
