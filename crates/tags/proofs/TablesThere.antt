@@ -2,16 +2,16 @@
 use Prim.Native.Nat.{ℕ, zero, suc, _+_, _-_, _*_, _≤_, _<_}
 use native.Mathlib.Nat.{zero-add}
 use native.Mathlib.Omega.{arith}
-use mathlib.Core.Path.{_≡_, refl, sym, ap, _∙_}
+use mathlib.Core.Path.{_≡_, refl, ap, _∙_}
 use mathlib.Core.Bool.{Bool, true, false, not, _||_}
-use mathlib.Core.Option.{Option, none, some}
-use mathlib.Core.List.{List, []}
+use mathlib.Core.Option.{none, some}
+use mathlib.Core.List.{List}
 use borrow.Author.Tests.{ne-eqb}
 use lib.Dec.{eqb}
 use lib.ListN.{length, getD}
 use Rattle.rules.specs.Lists.{same}
 use Rattle.rules.specs.Texts.{Text}
-use Rattle.rules.specs.Tables.{Row, Tables, dashes, unknown, table, rowsOf, there, present, hasTag, reserved, known}
+use Rattle.rules.specs.Tables.{Row, Tables, dashes, unknown, table, there, present, reserved, known}
 use Rattle.rules.proofs.Counting.{at-counting}
 use Rattle.sheets.specs.SheetRows.{tableCount, rowPlace, rowsFrom, counted, tableIn, tablesIn, tagAmong}
 use Rattle.sheets.proofs.LookUps.{tag-by-bytes}

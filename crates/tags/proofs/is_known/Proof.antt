@@ -3,7 +3,7 @@
 use borrow.Author.Needs.{needs}
 use native.Mathlib.Omega.{arith}
 use Prim.Native.Nat.{ℕ, _-_, _*_, _+_}
-use mathlib.Core.Path.{_≡_, sym, ap, _∙_}
+use mathlib.Core.Path.{_≡_, sym, _∙_}
 use mathlib.Core.Bool.{Bool, false, _||_}
 use mathlib.Core.List.{List}
 use lib.ListN.{getD}
@@ -45,6 +45,10 @@ looked-up e start =
     let s = entry (e .before .before .before) in
     known-there (tables s) (s .args .table) (tag s start) _ (table-there (head s) (sheet s) (s .args .table) (s .pre .1) (e .if2 .left)) (dashed (e .before .before))
 
+-- what the rows were found to have
+told : (k : tie.After-has-tag) → found (entry (k .before .before .before .before)) ≡ k .has-tag .result
+told k = sym (k .has-tag .ensures)
+
 is-twice-requires : tie.Need-is-twice-requires
 is-twice-requires c κs = search needs
 
@@ -84,7 +88,7 @@ has-tag-requires c κs =
 returns-3 : tie.Need-returns-3
 returns-3 c start =
     let s = entry (c .before .before .before .before .before) in
-    sym (looked-up (c .before .before) start ∙ or-found (same (s .args .tag .now) unknown) (found s) (sym (c .before .has-tag .ensures) ∙ c .if3 .taken))
+    sym (looked-up (c .before .before) start ∙ or-found (same (s .args .tag .now) unknown) (found s) (told (c .before) ∙ c .if3 .taken))
 
 is-unknown-requires : tie.Need-is-unknown-requires
 is-unknown-requires c κs = search needs
@@ -93,7 +97,7 @@ returns-4 : tie.Need-returns-4
 returns-4 c start =
     let e = c .before in
     let s = entry (e .before .before .before .before .before) in
-    c .is-unknown .ensures ∙ sym (looked-up (e .before .before) start ∙ or-missed (same (s .args .tag .now) unknown) (found s) (sym (e .before .has-tag .ensures) ∙ e .if3 .left))
+    c .is-unknown .ensures ∙ sym (looked-up (e .before .before) start ∙ or-missed (same (s .args .tag .now) unknown) (found s) (told (e .before) ∙ e .if3 .left))
 
 pub is-known-spec : {M : Type 1} → statement M
 is-known-spec = tie.close (tie.spec is-twice-requires returns mul-count shared-slice-read-count cast-count returns-2 mul-has-tag add-has-tag sub-has-tag has-tag-requires returns-3 is-unknown-requires returns-4)
