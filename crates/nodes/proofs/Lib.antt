@@ -7,3 +7,4 @@ pub mod NodeRules
 pub mod NodeAnswers
 pub mod LineAnswers
 pub mod TakenNodes
+pub mod Marks

@@ -55,7 +55,7 @@ pairAt ts its-number label parent =
 
 -- the fields behind the fifth, in pairs
 unfoldable pub pairsOf : Tables → ℕ → List Text → Pairs
-unfolding pairs tagFault
+unfolding pairs
 pairsOf ts its-number fs =
     record {
       count = length (pairs fs);

@@ -175,11 +175,7 @@ pub fn pairs_from(
     let mut fault: u32 = 0;
     while at < head.len() {
         let found = places::next_field(head, at, classes);
-        let Field::Found {
-            start: label,
-            end: label_end,
-        } = found
-        else {
+        let Field::Found(label, label_end) = found else {
             return Pairs {
                 count,
                 highest,
@@ -188,11 +184,7 @@ pub fn pairs_from(
             };
         };
         let found = places::next_field(head, label_end, classes);
-        let Field::Found {
-            start: parent,
-            end: parent_end,
-        } = found
-        else {
+        let Field::Found(parent, parent_end) = found else {
             return Pairs {
                 count,
                 highest,

@@ -7,7 +7,7 @@ use columns::Cursor;
 
 // The next field, from its first byte to behind its last; none stands behind the line's end or a column %%.
 pub enum Field {
-    Found { start: usize, end: usize },
+    Found(usize, usize),
     End,
 }
 
@@ -27,7 +27,7 @@ pub fn next_field(head: &[u8], at: usize, classes: &[u8; 256]) -> Field
     if tags::is_twice(&head[start..end], b'%') {
         return Field::End;
     }
-    Field::Found { start, end }
+    Field::Found(start, end)
 }
 
 // The first five fields of a line: the word, or # and a phrase's number; tag, morphology, edge and parent.
@@ -54,43 +54,23 @@ pub fn five_fields(head: &[u8], at: usize, classes: &[u8; 256]) -> Five
     ensures { λ r. ⌜ r ≡ firstFive (fieldsFrom (now (head .entry)) at) ⌝ }
 {
     let found = next_field(head, at, classes);
-    let Field::Found {
-        start: first,
-        end: first_end,
-    } = found
-    else {
+    let Field::Found(first, first_end) = found else {
         return Five::Short;
     };
     let found = next_field(head, first_end, classes);
-    let Field::Found {
-        start: tag,
-        end: tag_end,
-    } = found
-    else {
+    let Field::Found(tag, tag_end) = found else {
         return Five::Short;
     };
     let found = next_field(head, tag_end, classes);
-    let Field::Found {
-        start: morphology,
-        end: morphology_end,
-    } = found
-    else {
+    let Field::Found(morphology, morphology_end) = found else {
         return Five::Short;
     };
     let found = next_field(head, morphology_end, classes);
-    let Field::Found {
-        start: edge,
-        end: edge_end,
-    } = found
-    else {
+    let Field::Found(edge, edge_end) = found else {
         return Five::Short;
     };
     let found = next_field(head, edge_end, classes);
-    let Field::Found {
-        start: parent,
-        end: parent_end,
-    } = found
-    else {
+    let Field::Found(parent, parent_end) = found else {
         return Five::Short;
     };
     Five::Whole(Fields {
