@@ -7,4 +7,3 @@ pub mod NodeRules
 pub mod NodeAnswers
 pub mod LineAnswers
 pub mod TakenNodes
-pub mod Marks

@@ -1,0 +1,4 @@
+pub mod OtherKinds
+pub mod Dispatch
+pub mod Tells
+pub mod JudgedBy
