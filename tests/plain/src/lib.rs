@@ -1,5 +1,5 @@
-//! A plain reader of NeGra export files, written from document 01 alone, to be
-//! compared with the library. It shares no code with it.
+//! A plain reader of NeGra export files, written from document 01 and the readings of its
+//! open points, to be compared with the library. It shares no code with it.
 //!
 //! The whole file is read into a model (`reading`), and the sheets (`sheets`) and
 //! the tidy text (`tidy`) are made from the model.

@@ -99,12 +99,18 @@ fn table_sheet_holds_only_closed_tables() {
     assert!(lent.seen.iter().all(|&byte| byte == 0));
 }
 
+/// Writes A into `room` bytes that hold 3.
+fn write_a(room: usize) -> (Written, Vec<u8>, Lent) {
+    let mut lent = Lent::with_old_contents();
+    let mut out = vec![3; room];
+    let written = lent.write(A, &mut out);
+    (written, out, lent)
+}
+
 #[test]
 fn writing_into_an_output_too_short() {
     for room in 0..A.len() {
-        let mut lent = Lent::with_old_contents();
-        let mut out = vec![3; room];
-        let written = lent.write(A, &mut out);
+        let (written, out, lent) = write_a(room);
         assert_eq!(
             written,
             Written {
@@ -122,9 +128,7 @@ fn writing_into_an_output_too_short() {
 #[test]
 fn writing_changes_only_the_first_bytes() {
     for room in [126, 127, 1_000] {
-        let mut lent = Lent::with_old_contents();
-        let mut out = vec![3; room];
-        let written = lent.write(A, &mut out);
+        let (written, out, lent) = write_a(room);
         assert_eq!(
             written,
             Written {

@@ -4,8 +4,6 @@ mod common;
 
 use common::*;
 
-const TABLES: &str =
-    "#FORMAT 3\n#BOT ORIGIN\n1 lab\n#EOT ORIGIN\n#BOT EDITOR\n2 kim Kim\n#EOT EDITOR\n";
 const BOS: &str = "#BOS 7 2 0 1\n";
 const EOS: &str = "#EOS 7\n";
 
@@ -13,17 +11,8 @@ const EOS: &str = "#EOS 7\n";
 /// makes the file whole if the line is accepted.
 fn judge(before: &str, line: &str, after: &str, refusal: u32) {
     let file = [before, line, "\n", after].concat();
-    let answer = survey_of(file.as_bytes());
-    let place = if refusal == 0 {
-        file.len()
-    } else {
-        before.len()
-    };
-    assert_eq!(
-        (answer.refusal, answer.place as usize),
-        (refusal, place),
-        "{before}>>>{line}"
-    );
+    let case = format!("{before}>>>{line}");
+    assert_judged(file.as_bytes(), before.len(), refusal, &case);
 }
 
 fn judge_all(before: &str, after: &str, cases: &[(&str, u32)]) {
@@ -108,22 +97,12 @@ fn each_byte_in_an_ignored_line() {
         let legal = byte == 9 || (32..=127).contains(&byte) || byte >= 160;
         let line = [b'%', b'%', byte, b'\n'];
         let file = [TABLES.as_bytes(), &line].concat();
-        let answer = survey_of(&file);
         let refusal = match byte {
             10 => 0,
             _ if legal => 0,
             _ => 4,
         };
-        let place = if refusal == 0 {
-            file.len()
-        } else {
-            TABLES.len()
-        };
-        assert_eq!(
-            (answer.refusal, answer.place as usize),
-            (refusal, place),
-            "{byte}"
-        );
+        assert_judged(&file, TABLES.len(), refusal, &byte.to_string());
     }
 }
 

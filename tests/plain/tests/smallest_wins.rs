@@ -4,9 +4,6 @@ mod common;
 
 use common::*;
 
-const TABLES: &str =
-    "#FORMAT 3\n#BOT ORIGIN\n1 lab\n#EOT ORIGIN\n#BOT EDITOR\n2 kim Kim\n#EOT EDITOR\n";
-
 /// Tries every subset of `refusals`. `make` gives, for a subset, what stands before the
 /// line, the line, and what makes the file whole if there is no fault.
 fn every_subset(
@@ -20,18 +17,8 @@ fn every_subset(
             .collect();
         let (before, line, after) = make(&|refusal| chosen.contains(&refusal));
         let file = [before.as_bytes(), &line, b"\n", after.as_bytes()].concat();
-        let answer = survey_of(&file);
         let refusal = chosen.iter().min().copied().unwrap_or(0);
-        let place = if refusal == 0 {
-            file.len()
-        } else {
-            before.len()
-        };
-        assert_eq!(
-            (answer.refusal, answer.place as usize),
-            (refusal, place),
-            "{chosen:?}"
-        );
+        assert_judged(&file, before.len(), refusal, &format!("{chosen:?}"));
     }
 }
 

@@ -20,6 +20,10 @@ Ja ITJ -- -- 500
 /// The length of A's format line and tables.
 pub const HEAD: usize = 74;
 
+/// A's format line and tables.
+pub const TABLES: &str =
+    "#FORMAT 3\n#BOT ORIGIN\n1 lab\n#EOT ORIGIN\n#BOT EDITOR\n2 kim Kim\n#EOT EDITOR\n";
+
 /// The tidy text of A.
 pub const TIDY_A: &[u8] = b"#FORMAT 3
 #BOT ORIGIN
@@ -66,23 +70,25 @@ impl Lent {
     }
 
     pub fn open(&mut self, file: &[u8], number: u32) -> u32 {
-        let Lent {
-            table_sheet,
-            seen,
-            sentence_sheet,
-            edges,
-        } = self;
-        plain::open(file, number, table_sheet, seen, sentence_sheet, edges)
+        plain::open(
+            file,
+            number,
+            &mut self.table_sheet,
+            &mut self.seen,
+            &mut self.sentence_sheet,
+            &mut self.edges,
+        )
     }
 
     pub fn write(&mut self, file: &[u8], out: &mut [u8]) -> Written {
-        let Lent {
-            table_sheet,
-            seen,
-            sentence_sheet,
-            edges,
-        } = self;
-        plain::write(file, table_sheet, seen, sentence_sheet, edges, out)
+        plain::write(
+            file,
+            &mut self.table_sheet,
+            &mut self.seen,
+            &mut self.sentence_sheet,
+            &mut self.edges,
+            out,
+        )
     }
 
     pub fn sentence_is_zero(&self) -> bool {
@@ -110,6 +116,17 @@ impl Lent {
 
 pub fn survey_of(file: &[u8]) -> Survey {
     Lent::with_old_contents().survey(file)
+}
+
+/// A refusal must be given at the line that begins at `line`; 0 at the file's end.
+pub fn assert_judged(file: &[u8], line: usize, refusal: u32, case: &str) {
+    let answer = survey_of(file);
+    let place = if refusal == 0 { file.len() } else { line };
+    assert_eq!(
+        (answer.refusal, answer.place as usize),
+        (refusal, place),
+        "{case}"
+    );
 }
 
 /// The tidy text of a file that must be accepted.
