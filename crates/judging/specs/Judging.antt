@@ -81,10 +81,10 @@ pub record Countable (s : State) (marks : List ℕ) : Type 0 where
   pub handed : s .handed ≤ fileLimit
   pub size : length marks ≡ 500
 
--- in a table its rows so far stand in the sheet
-abbrev pub Judgeable : List ℕ → State → List ℕ → List ℕ → Standing → Type 0
-Judgeable head s sheet marks Start = Unit {0}
-Judgeable head s sheet marks Top = Unit {0}
-Judgeable head s sheet marks InTable = (s .table < tableCount) × RowsReady head sheet (rowPlace (s .table) 0) (s .rows)
-Judgeable head s sheet marks InSentence = Countable s marks
-Judgeable head s sheet marks BehindSentence = Unit {0}
+-- what is needed where the reading stands: in a table its rows so far stand in the sheet
+abbrev pub Judgeable : List ℕ → State → List ℕ → List ℕ → List ℕ → Standing → Type 0
+Judgeable head s sheet seen marks Start = Unit {0}
+Judgeable head s sheet seen marks Top = Ready head sheet seen
+Judgeable head s sheet seen marks InTable = (s .table < tableCount) × RowsReady head sheet (rowPlace (s .table) 0) (s .rows)
+Judgeable head s sheet seen marks InSentence = Ready head sheet seen × Countable s marks
+Judgeable head s sheet seen marks BehindSentence = Ready head sheet seen

@@ -281,7 +281,7 @@ pub fn judge(
     marks: &[u32],
     classes: &[u8; 256],
 ) -> Step
-    requires { ⌜ (now classes ≡ classTable) × (at ≤ length (now head)) × Ready (now head) (now sheet) (now seen) × Judgeable (now head) s (now sheet) (now marks) (s .standing) ⌝ }
+    requires { ⌜ (now classes ≡ classTable) × (at ≤ length (now head)) × Judgeable (now head) s (now sheet) (now seen) (now marks) (s .standing) ⌝ }
     ensures { λ r. ⌜ r ≡ asStep (judged (now (head .entry)) at s (now (sheet .entry)) (now (seen .entry)) (now (marks .entry))) ⌝ }
 {
     if lines::is_ignored(head, at, classes) {

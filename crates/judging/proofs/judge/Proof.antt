@@ -43,10 +43,10 @@ taking-is e standing q =
     let x = e .before in
     sym (ap asStep (judged-standing (head x) (at x) (state x) (sheet x) (seen x) (marks x) standing (sym (x .is-ignored .ensures) ∙ e .if1 .left) q))
 
-judgeable : (e : tie.Else1) (standing : Standing) → state (e .before) .standing ≡ standing → Judgeable (head (e .before)) (state (e .before)) (sheet (e .before)) (marks (e .before)) standing
+judgeable : (e : tie.Else1) (standing : Standing) → state (e .before) .standing ≡ standing → Judgeable (head (e .before)) (state (e .before)) (sheet (e .before)) (seen (e .before)) (marks (e .before)) standing
 judgeable e standing q =
     let x = e .before in
-    subst (λ (y : Standing). Judgeable (head x) (state x) (sheet x) (marks x) y) q (start x .pre .3)
+    subst (λ (y : Standing). Judgeable (head x) (state x) (sheet x) (seen x) (marks x) y) q (start x .pre .2)
 
 is-ignored-requires : tie.Need-is-ignored-requires
 is-ignored-requires c κs = search needs
@@ -66,7 +66,9 @@ enum-told-2 : tie.Need-enum-told-2
 enum-told-2 c = search needs
 
 line-at-top-requires : tie.Need-line-at-top-requires
-line-at-top-requires c κs = search needs
+line-at-top-requires c κs =
+    let e = c .before .before in
+    (start (e .before) .pre .0, judgeable e Top (c .enum-told2 .given .1))
 
 enum-told-3 : tie.Need-enum-told-3
 enum-told-3 c = search needs
@@ -84,13 +86,16 @@ line-in-sentence-requires : tie.Need-line-in-sentence-requires
 line-in-sentence-requires c κs =
     let e = c .before .before in
     let p = start (e .before) .pre in
-    (p .0, p .2 .tabled, p .1, p .2 .fits, judgeable e InSentence (c .enum-told4 .given .1))
+    let j = judgeable e InSentence (c .enum-told4 .given .1) in
+    (p .0, j .0 .tabled, p .1, j .0 .fits, j .1)
 
 enum-told-5 : tie.Need-enum-told-5
 enum-told-5 c = search needs
 
 line-behind-sentence-requires : tie.Need-line-behind-sentence-requires
-line-behind-sentence-requires c κs = search needs
+line-behind-sentence-requires c κs =
+    let e = c .before .before in
+    (start (e .before) .pre .0, judgeable e BehindSentence (c .enum-told5 .given .1))
 
 returns-2 : tie.Need-returns-2
 unfolding judgedAt

@@ -1,0 +1,5 @@
+pub mod Promise
+pub mod Keeping
+pub mod Applying
+pub mod Walks
+pub mod Closing

@@ -1,0 +1,13 @@
+-- What the survey answers and leaves in the two buffers, as one outcome of rules/Survey. Assumes nothing.
+use Prim.Native.Nat.{ℕ}
+use mathlib.Core.List.{List}
+use Rattle.rules.specs.Survey.{SurveyOutcome}
+use Rattle.survey.specs.declared.Surveyed.{Surveyed}
+
+abbrev pub outcome : Surveyed → List ℕ → List ℕ → SurveyOutcome
+outcome r tables seen =
+    record {
+      answer = record { refusal = r .refusal; place = r .place; sentences = r .sentences; soundEnd = r .«sound_end» };
+      tables = tables;
+      seen = seen;
+    }
