@@ -89,3 +89,4 @@ pub mod TablesFollow
 pub mod SentencesFollow
 pub mod FitsAccepted
 pub mod AcceptedExactly
+pub mod OneOutcome

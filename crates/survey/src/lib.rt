@@ -243,7 +243,7 @@ fn write_marks(step: Step, s: State, marks: &mut [u32])
     }
 }
 
-// What a line's step leaves in the sheet, the seen-set and the marks.
+// What a line's step leaves in the sheet, the seen set and the marks.
 fn put_down(step: Step, s: State, sheet: &mut [u32], seen: &mut [u8], marks: &mut [u32])
     requires { ⌜ Writable step s (length (now sheet)) × Addable step s (now seen) × Markable step s (length (now marks)) ⌝ }
     ensures { λ _. ⌜ (now (sheet .exit) ≡ sheetAfter step s (now (sheet .entry))) × (now (seen .exit) ≡ seenAfter step s (now (seen .entry))) × (now (marks .exit) ≡ marksAfter step s (now (marks .entry))) ⌝ }
@@ -254,7 +254,7 @@ fn put_down(step: Step, s: State, sheet: &mut [u32], seen: &mut [u8], marks: &mu
 }
 
 // How far the lines could be taken.
-pub enum Walk {
+enum Walk {
     Refused {
         number: u32,
         place: u32,
@@ -420,7 +420,7 @@ fn nothing_read(refusal: u32) -> Surveyed
     }
 }
 
-// Document 01, "What the library does": survey(file, table sheet, seen-set).
+// Document 01, "What the library does": survey(file, table sheet, seen set).
 pub fn survey(file: &[u8], sheet: &mut [u32], seen: &mut [u8]) -> Surveyed
     ensures { λ r. ⌜ outcome r (now (sheet .exit)) (now (seen .exit)) ≡ afterSurvey (now (file .entry)) (now (sheet .entry)) (now (seen .entry)) ⌝ }
 {
