@@ -209,12 +209,19 @@ fn sentence_end(head: &[u8], at: usize, t: Tally, classes: &[u8; 256]) -> Step
     }
 }
 
-fn word(head: &[u8], at: usize, t: Tally, sheet: &[u32], classes: &[u8; 256]) -> Step
+fn word(
+    head: &[u8],
+    at: usize,
+    t: Tally,
+    sheet: &[u32],
+    hints: &[u8; 3584],
+    classes: &[u8; 256],
+) -> Step
     requires { ⌜ (now classes ≡ classTable) × Tabled (now head) (now sheet) × (at ≤ length (now head)) × (length (now head) ≤ fileLimit) × (t .edges ≤ edgeLimit) ⌝ }
     ensures { λ r. ⌜ r ≡ asStep (taking takenWord (wordOf (tablesIn (now (head .entry)) (now (sheet .entry))) (t .words) (eqb (t .phrases) 0) (t .edges) (lineIn (now (head .entry)) at))) ⌝ }
 {
     let no_phrase = t.phrases == 0;
-    match nodes::word_line(head, at, sheet, t.words, no_phrase, t.edges, classes) {
+    match nodes::word_line(head, at, sheet, hints, t.words, no_phrase, t.edges, classes) {
         NodeAnswer::Taken {
             number: _,
             edges,
@@ -230,13 +237,14 @@ fn phrase(
     edges: u32,
     stamp: u32,
     sheet: &[u32],
+    hints: &[u8; 3584],
     marks: &[u32],
     classes: &[u8; 256],
 ) -> Step
     requires { ⌜ (now classes ≡ classTable) × Tabled (now head) (now sheet) × (at ≤ length (now head)) × (length (now head) ≤ fileLimit) × (edges ≤ edgeLimit) × (length (now marks) ≡ 500) ⌝ }
     ensures { λ r. ⌜ r ≡ asStep (taking takenPhrase (phraseOf (tablesIn (now (head .entry)) (now (sheet .entry))) (marked (now (marks .entry)) stamp) edges (lineIn (now (head .entry)) at))) ⌝ }
 {
-    match nodes::phrase_line(head, at, sheet, marks, stamp, edges, classes) {
+    match nodes::phrase_line(head, at, sheet, hints, marks, stamp, edges, classes) {
         NodeAnswer::Taken {
             number,
             edges: more,
@@ -255,6 +263,7 @@ fn line_in_sentence(
     at: usize,
     s: State,
     sheet: &[u32],
+    hints: &[u8; 3584],
     marks: &[u32],
     classes: &[u8; 256],
 ) -> Step
@@ -264,9 +273,18 @@ fn line_in_sentence(
     let t = s.tally;
     match keywords::kind_of(head, at, classes) {
         Kind::SentenceEnd => sentence_end(head, at, t, classes),
-        Kind::Phrase => phrase(head, at, t.edges, s.handed + 1, sheet, marks, classes),
-        Kind::Plain => word(head, at, t, sheet, classes),
-        Kind::LoneHash => word(head, at, t, sheet, classes),
+        Kind::Phrase => phrase(
+            head,
+            at,
+            t.edges,
+            s.handed + 1,
+            sheet,
+            hints,
+            marks,
+            classes,
+        ),
+        Kind::Plain => word(head, at, t, sheet, hints, classes),
+        Kind::LoneHash => word(head, at, t, sheet, hints, classes),
         _ => Step::Refused(6),
     }
 }
@@ -277,6 +295,7 @@ pub fn judge(
     at: usize,
     s: State,
     sheet: &[u32],
+    hints: &[u8; 3584],
     seen: &[u8],
     marks: &[u32],
     classes: &[u8; 256],
@@ -292,7 +311,7 @@ pub fn judge(
         Standing::Start => first_line(head, at, classes),
         Standing::Top => line_at_top(head, at, sheet, seen, classes),
         Standing::InTable => line_in_table(head, at, s.table, s.rows, sheet, classes),
-        Standing::InSentence => line_in_sentence(head, at, s, sheet, marks, classes),
+        Standing::InSentence => line_in_sentence(head, at, s, sheet, hints, marks, classes),
         Standing::BehindSentence => line_behind_sentence(head, at, sheet, seen, classes),
     }
 }

@@ -36,14 +36,21 @@ pub fn larger_number(m: u32, n: u32) -> u32
     if m < n { n } else { m }
 }
 
-pub fn tag_fault(head: &[u8], sheet: &[u32], table: usize, start: usize, end: usize) -> u32
+pub fn tag_fault(
+    head: &[u8],
+    sheet: &[u32],
+    hints: &[u8; 3584],
+    table: usize,
+    start: usize,
+    end: usize,
+) -> u32
     requires { ⌜ Tabled (now head) (now sheet) × (table < 7) × (start ≤ end) × (end ≤ length (now head)) ⌝ }
     ensures { λ r. ⌜ r ≡ tagFault (tablesIn (now (head .entry)) (now (sheet .entry))) table (textBetween (now (head .entry)) start end) ⌝ }
 {
     if tags::tag_limit(table) < end - start {
         return 10;
     }
-    if tags::is_known(head, sheet, table, &head[start..end]) {
+    if tags::is_known(head, sheet, hints, table, &head[start..end]) {
         0
     } else {
         18
@@ -133,6 +140,7 @@ pub fn secondary_at(
 pub fn pair_at(
     head: &[u8],
     sheet: &[u32],
+    hints: &[u8; 3584],
     number: u32,
     label: usize,
     label_end: usize,
@@ -143,7 +151,7 @@ pub fn pair_at(
     requires { ⌜ Tabled (now head) (now sheet) × (now classes ≡ classTable) × Lies (now head) label «label_end» × Lies (now head) parent «parent_end» ⌝ }
     ensures { λ r. ⌜ r ≡ pairAt (tablesIn (now (head .entry)) (now (sheet .entry))) number (textBetween (now (head .entry)) label «label_end») (textBetween (now (head .entry)) parent «parent_end») ⌝ }
 {
-    let tag = tag_fault(head, sheet, SEC_EDGE_TAGS, label, label_end);
+    let tag = tag_fault(head, sheet, hints, SEC_EDGE_TAGS, label, label_end);
     let read = secondary_at(head, number, parent, parent_end, classes);
     Parent {
         number: read.number,
@@ -163,6 +171,7 @@ pub fn pairs_from(
     head: &[u8],
     from: usize,
     sheet: &[u32],
+    hints: &[u8; 3584],
     number: u32,
     classes: &[u8; 256],
 ) -> Pairs
@@ -195,6 +204,7 @@ pub fn pairs_from(
         let pair = pair_at(
             head,
             sheet,
+            hints,
             number,
             label,
             label_end,

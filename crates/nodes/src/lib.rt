@@ -41,6 +41,7 @@ fn fault_unless(holds: bool, number: u32) -> u32
 fn own_of(
     head: &[u8],
     sheet: &[u32],
+    hints: &[u8; 3584],
     tags: usize,
     number: u32,
     f: Fields,
@@ -49,9 +50,16 @@ fn own_of(
     requires { ⌜ Tabled (now head) (now sheet) × (now classes ≡ classTable) × (tags < 7) × Placed (now head) f ⌝ }
     ensures { λ r. ⌜ r ≡ ownOf (tablesIn (now (head .entry)) (now (sheet .entry))) tags number (fiveTexts (now (head .entry)) f) ⌝ }
 {
-    let tag = faults::tag_fault(head, sheet, tags, f.tag, f.tag_end);
-    let morphology = faults::tag_fault(head, sheet, MORPH_TAGS, f.morphology, f.morphology_end);
-    let edge = faults::tag_fault(head, sheet, EDGE_TAGS, f.edge, f.edge_end);
+    let tag = faults::tag_fault(head, sheet, hints, tags, f.tag, f.tag_end);
+    let morphology = faults::tag_fault(
+        head,
+        sheet,
+        hints,
+        MORPH_TAGS,
+        f.morphology,
+        f.morphology_end,
+    );
+    let edge = faults::tag_fault(head, sheet, hints, EDGE_TAGS, f.edge, f.edge_end);
     let parent = faults::parent_at(
         head,
         number,
@@ -80,6 +88,7 @@ pub struct Tally {
 fn tally_of(
     head: &[u8],
     sheet: &[u32],
+    hints: &[u8; 3584],
     tags: usize,
     number: u32,
     f: Fields,
@@ -89,8 +98,8 @@ fn tally_of(
     ensures { λ r. ⌜ r ≡ tallyOf (tablesIn (now (head .entry)) (now (sheet .entry))) tags number (fiveTexts (now (head .entry)) f) ⌝ }
 {
     let from = f.parent_end;
-    let own = own_of(head, sheet, tags, number, f, classes);
-    let pairs = faults::pairs_from(head, from, sheet, number, classes);
+    let own = own_of(head, sheet, hints, tags, number, f, classes);
+    let pairs = faults::pairs_from(head, from, sheet, hints, number, classes);
     let shape = fault_unless(pairs.whole, 7);
     Tally {
         edges: pairs.count,
@@ -138,6 +147,7 @@ pub fn word_line(
     head: &[u8],
     at: usize,
     sheet: &[u32],
+    hints: &[u8; 3584],
     words: u32,
     no_phrase: bool,
     edges: u32,
@@ -153,7 +163,7 @@ pub fn word_line(
     let Five::Whole(f) = five else {
         return NodeAnswer::Refused(7);
     };
-    let tally = tally_of(head, sheet, WORD_TAGS, words, f, classes);
+    let tally = tally_of(head, sheet, hints, WORD_TAGS, words, f, classes);
     let room = room_fault(words, edges, tally.edges);
     let fault = faults::lesser_fault(tally.fault, room);
     answer(fault, words, tally.edges, tally.highest)
@@ -164,6 +174,7 @@ pub fn phrase_line(
     head: &[u8],
     at: usize,
     sheet: &[u32],
+    hints: &[u8; 3584],
     marks: &[u32],
     stamp: u32,
     edges: u32,
@@ -180,10 +191,10 @@ pub fn phrase_line(
     let end = f.first_end;
     let read = PhraseNumber::read(&head[digits..end], classes);
     let Number::Good(number) = read else {
-        let tally = tally_of(head, sheet, NODE_TAGS, 0, f, classes);
+        let tally = tally_of(head, sheet, hints, NODE_TAGS, 0, f, classes);
         return NodeAnswer::Refused(faults::lesser_fault(8, tally.fault));
     };
-    let tally = tally_of(head, sheet, NODE_TAGS, number, f, classes);
+    let tally = tally_of(head, sheet, hints, NODE_TAGS, number, f, classes);
     let fresh = marks[(number - PhraseNumber::LOWEST) as usize] != stamp;
     let again = fault_unless(fresh, 17);
     let room = room_fault(0, edges, tally.edges);

@@ -32,6 +32,10 @@ pub or-right : (a b : Bool) → (a || b) ≡ false → b ≡ false
 or-right true b e = cc
 or-right false b e = e
 
+pub or-found : (a b : Bool) → b ≡ true → (a || b) ≡ true
+or-found true b e = refl
+or-found false b e = e
+
 pub or-false : (a b : Bool) → (a || b) ≡ true → a ≡ false → b ≡ true
 or-false true b e f = absurd (let z : _≡_ {A = ℕ} 0 1 = cc in omega arith)
 or-false false b e f = e

@@ -56,6 +56,26 @@ pub fn has_tag(file: &[u8], sheet: &[u32], place: usize, rows: usize, tag: &[u8]
     false
 }
 
+// The same, whatever row the hint names: that one is looked at first.
+pub fn has_tag_by(
+    file: &[u8],
+    sheet: &[u32],
+    place: usize,
+    rows: usize,
+    hint: usize,
+    tag: &[u8],
+) -> bool
+    requires { ⌜ (place + 6 * rows ≤ length (now sheet)) × Inside (now file) (now sheet) place rows ⌝ }
+    ensures { λ r. ⌜ r ≡ tagAmong (now (tag .entry)) (rowsFrom (now (file .entry)) (now (sheet .entry)) place rows) ⌝ }
+{
+    if hint < rows {
+        if tag_at(file, sheet, place + 6 * hint, tag) {
+            return true;
+        }
+    }
+    has_tag(file, sheet, place, rows, tag)
+}
+
 pub fn put_row(
     sheet: &mut [u32],
     place: usize,

@@ -24,51 +24,58 @@ use Rattle.judging.specs.Judging.{asStep}
 use Rattle.judging.specs.declared.State.{State}
 use Rattle.judging.specs.declared.Step.{Step}
 use Rattle.survey.specs.Keeping.{RowsKept, SentenceKept, Kept}
-use Rattle.survey.specs.Applying.{Following, Writable, Addable, Markable}
+use Rattle.survey.specs.Applying.{Following, Writable, Hintable, Addable, Markable}
 use Rattle.survey.proofs.Uses.{frontOf, takingAt}
 use Rattle.survey.proofs.GrantedNodes.{word-granted, phrase-granted}
 use Rattle.survey.proofs.Carrying.{RowSound}
 
--- what a step needs of the state, the table sheet, the seen set and the marks
-pub record Fits (x : Step) (s : State) (seen : List ℕ) : Type 0 where
+-- what a step needs of the state, the table sheet, the seen set, the marks and a file of this size
+pub record Fits (x : Step) (s : State) (seen : List ℕ) (size : ℕ) : Type 0 where
   pub follows : Following x s
   pub writable : Writable x s tableSheetSize
   pub addable : Addable x s seen
   pub markable : Markable x s 500
+  pub hintable : Hintable x s size
 
-module _ (head ns : List ℕ) (count end : ℕ) (short : length head ≤ fileLimit) (few : count ≤ fileLimit) (line first : Text) (sound : RowSound head line) where
+module _ (head ns : List ℕ) (count end : ℕ) (short : length head ≤ fileLimit) (few : count ≤ fileLimit) (line first : Text) (sound : RowSound head line) (size : ℕ) (part : length head ≤ size) where
   abbrev FitsBy : Phase → Taking → Type 0
-  FitsBy ph t = Fits (asStep t) (stateOf count end ph) (seenSet ns)
+  FitsBy ph t = Fits (asStep t) (stateOf count end ph) (seenSet ns) size
 
   fits-cannot : (ph : Phase) → FitsBy ph (cannot line)
-  fits-cannot ph = record { follows = tt; writable = tt; addable = tt; markable = tt }
+  fits-cannot ph = record { follows = tt; writable = tt; addable = tt; markable = tt; hintable = tt }
 
   fits-format : (v : Verdict ℕ) → FitsBy start (taking format v)
-  fits-format (refused r) = record { follows = tt; writable = tt; addable = tt; markable = tt }
-  fits-format (granted n) = record { follows = tt; writable = tt; addable = tt; markable = tt }
+  fits-format (refused r) = record { follows = tt; writable = tt; addable = tt; markable = tt; hintable = tt }
+  fits-format (granted n) = record { follows = tt; writable = tt; addable = tt; markable = tt; hintable = tt }
 
   fits-begun : (ph : Phase) (v : Verdict Heading) → FitsBy ph (taking sentenceBegun v)
-  fits-begun ph (refused r) = record { follows = tt; writable = tt; addable = tt; markable = tt }
-  fits-begun ph (granted h) = record { follows = tt; writable = tt; addable = tt; markable = tt }
+  fits-begun ph (refused r) = record { follows = tt; writable = tt; addable = tt; markable = tt; hintable = tt }
+  fits-begun ph (granted h) = record { follows = tt; writable = tt; addable = tt; markable = tt; hintable = tt }
 
   fits-table : (ph : Phase) (v : Verdict ℕ) → FitsBy ph (taking tableBegun v)
-  fits-table ph (refused r) = record { follows = tt; writable = tt; addable = tt; markable = tt }
-  fits-table ph (granted n) = record { follows = tt; writable = tt; addable = tt; markable = tt }
+  fits-table ph (refused r) = record { follows = tt; writable = tt; addable = tt; markable = tt; hintable = tt }
+  fits-table ph (granted n) = record { follows = tt; writable = tt; addable = tt; markable = tt; hintable = tt }
 
   module _ (p : Preamble) (n : ℕ) (rs : List Row) (k : RowsKept head (p .tables) n rs) where
     fits-row : (v : Verdict Row) → rowOf n rs line ≡ v → FitsBy (inTable p n rs) (taking takenRow v)
-    fits-row (refused r) e = record { follows = tt; writable = tt; addable = tt; markable = tt }
+    fits-row (refused r) e = record { follows = tt; writable = tt; addable = tt; markable = tt; hintable = tt }
     fits-row (granted r) e =
         let room : length rs < rowLimit = sound n rs r e .1 in
         let place : n < 7 = k .place in
-        record { follows = omega arith; writable = omega arith; addable = tt; markable = tt }
+        record {
+          follows = omega arith;
+          writable = omega arith;
+          addable = tt;
+          markable = tt;
+          hintable = (omega (arith, sound n rs r e .0 .first .inside, part), place, room);
+        }
 
     fits-done : (v : Verdict ℕ) → FitsBy (inTable p n rs) (taking (λ i. tableDone) v)
-    fits-done (refused r) = record { follows = tt; writable = tt; addable = tt; markable = tt }
+    fits-done (refused r) = record { follows = tt; writable = tt; addable = tt; markable = tt; hintable = tt }
     fits-done (granted i) =
         let place : n < 7 = k .place in
         let few : length rs ≤ rowLimit = k .few in
-        record { follows = tt; writable = (omega arith, omega arith); addable = tt; markable = tt }
+        record { follows = tt; writable = (omega arith, omega arith); addable = tt; markable = tt; hintable = tt }
 
     fits-in-table : FitsBy (inTable p n rs) (takenInTable line first n rs)
     unfolding takenInTable
@@ -81,13 +88,13 @@ module _ (head ns : List ℕ) (count end : ℕ) (short : length head ≤ fileLim
 
   module _ (p : Preamble) (s : Sentence) (k : SentenceKept head ns (p .tables) s) where
     fits-word : (v : Verdict Node) → wordOf (p .tables) (length (s .words)) (empty (s .phrases)) (edgesOf s) line ≡ v → FitsBy (inSentence p s) (taking takenWord v)
-    fits-word (refused r) e = record { follows = tt; writable = tt; addable = tt; markable = tt }
+    fits-word (refused r) e = record { follows = tt; writable = tt; addable = tt; markable = tt; hintable = tt }
     fits-word (granted n) e =
         let g = word-granted (p .tables) (length (s .words)) (empty (s .phrases)) (edgesOf s) line n e in
-        record { follows = (omega (arith, k .words), omega (arith, g .few)); writable = tt; addable = tt; markable = tt }
+        record { follows = (omega (arith, k .words), omega (arith, g .few)); writable = tt; addable = tt; markable = tt; hintable = tt }
 
     fits-phrase : (v : Verdict Node) → phraseOf (p .tables) (listed (s .phrases)) (edgesOf s) line ≡ v → FitsBy (inSentence p s) (taking takenPhrase v)
-    fits-phrase (refused r) e = record { follows = tt; writable = tt; addable = tt; markable = tt }
+    fits-phrase (refused r) e = record { follows = tt; writable = tt; addable = tt; markable = tt; hintable = tt }
     fits-phrase (granted n) e =
         let g = phrase-granted (p .tables) (listed (s .phrases)) (edgesOf s) line n e in
         record {
@@ -95,14 +102,16 @@ module _ (head ns : List ℕ) (count end : ℕ) (short : length head ≤ fileLim
           writable = tt;
           addable = tt;
           markable = (g .low, omega (arith, g .low, g .high), few);
+          hintable = tt;
         }
 
     fits-end : (o : Option Rule) → FitsBy (inSentence p s) (ended o)
-    fits-end (some r) = record { follows = tt; writable = tt; addable = tt; markable = tt }
+    fits-end (some r) = record { follows = tt; writable = tt; addable = tt; markable = tt; hintable = tt }
     fits-end none = record {
       follows = few;
       writable = tt;
       markable = tt;
+      hintable = tt;
       addable = (omega (arith, k .number, length-seen-set ns), seen-set-holds ns (s .heading .number) (omega (arith, k .number)) ∙ k .unused);
     }
 

@@ -31,7 +31,7 @@ use Rattle.judging.specs.declared.State.{State}
 use Rattle.judging.specs.declared.Step.{Step}
 use Rattle.judging.specs.declared.Step.the-variants as steps
 use Rattle.survey.specs.Keeping.{sheetOf, TablesKept, Kept}
-use Rattle.survey.specs.Applying.{stateAfter, sheetAfter, seenAfter, marksAfter, Following, Writable, Addable, Markable}
+use Rattle.survey.specs.Applying.{stateAfter, sheetAfter, seenAfter, marksAfter, Following, Writable, Hintable, Addable, Markable}
 use Rattle.survey.specs.Walks.{Walked}
 use Rattle.survey.specs.declared.Walk.the-variants.{Refused}
 use types.Run.{OneOf}
@@ -138,14 +138,14 @@ module _ (file : List ℕ) (at : ℕ) (s : State) (sheet seen marks : List ℕ) 
     told : x ≡ asStep (takingOf ph ns (lineIn head at))
     told = ap asStep (taken-for file at s sheet seen marks g e q)
 
-    pub fits : Fits x s seen
+    pub fits : Fits x s seen (length file)
     fits =
-        subst (λ (y : Step). Fits y s seen) (sym told)
-        (as-kept (λ (z : State) (u v : List ℕ). Fits (asStep (takingOf ph ns (lineIn head at))) z v) (by (ignored (drop at head))))
+        subst (λ (y : Step). Fits y s seen (length file)) (sym told)
+        (as-kept (λ (z : State) (u v : List ℕ). Fits (asStep (takingOf ph ns (lineIn head at))) z v (length file)) (by (ignored (drop at head))))
       where
-        by : (b : Bool) → Fits (asStep (pick b ignoredLine (takingAt ph ns (lineIn head at) (firstColumn (lineIn head at))))) (stateOf count end ph) (seenSet ns)
-        by true = record { follows = tt; writable = tt; addable = tt; markable = tt }
-        by false = line-fits head ns count end head-short few (lineIn head at) (firstColumn (lineIn head at)) rows ph kept-here
+        by : (b : Bool) → Fits (asStep (pick b ignoredLine (takingAt ph ns (lineIn head at) (firstColumn (lineIn head at))))) (stateOf count end ph) (seenSet ns) (length file)
+        by true = record { follows = tt; writable = tt; addable = tt; markable = tt; hintable = tt }
+        by false = line-fits head ns count end head-short few (lineIn head at) (firstColumn (lineIn head at)) rows (length file) (omega (arith, head-length, at-below file at e q)) ph kept-here
 
     pub goes-on : ((n : ℕ) → x ≡ steps.Refused n → ⊥) → Going file (e + 1) (stateAfter x (e + 1) s) (sheetAfter x s sheet) (seenAfter x s seen) (marksAfter x s marks)
     goes-on taken-on =
@@ -163,8 +163,8 @@ module _ (file : List ℕ) (at : ℕ) (s : State) (sheet seen marks : List ℕ) 
       pub following : Following y s
       following = subst (λ (z : Step). Following z s) (sym is) (fits .follows)
 
-      pub puttable : Writable y s (length sheet) × Addable y s seen × Markable y s (length marks)
-      puttable = rw (is, sheet-size, g .carried .size) (fits .writable, fits .addable, fits .markable)
+      pub puttable : Hintable y s (length file) × Writable y s (length sheet) × Addable y s seen × Markable y s (length marks)
+      puttable = rw (is, sheet-size, g .carried .size) (fits .hintable, fits .writable, fits .addable, fits .markable)
 
       pub goes-on-with : OneOf (0 ∷ 1 ∷ 2 ∷ 3 ∷ 4 ∷ 5 ∷ 6 ∷ 7 ∷ 8 ∷ []) (tagOf the-type y) → {t : State} {sheet′ seen′ marks′ : List ℕ}
           → sheet′ ≡ sheetAfter y s sheet → seen′ ≡ seenAfter y s seen → marks′ ≡ marksAfter y s marks → t ≡ stateAfter y (e + 1) s → Going file (e + 1) t sheet′ seen′ marks′

@@ -129,6 +129,19 @@ Writable (Phrase n e h) s size = Unit {0}
 Writable SentenceEnded s size = Unit {0}
 Writable (Refused n) s size = Unit {0}
 
+-- the file has this size
+abbrev pub Hintable : Step → State → ℕ → Type 0
+Hintable Ignored s size = Unit {0}
+Hintable Format s size = Unit {0}
+Hintable (TableBegun n) s size = Unit {0}
+Hintable (Row i a b c d f) s size = (a + b ≤ size) × (s .table < 7) × (s .rows < 256)
+Hintable TableEnded s size = Unit {0}
+Hintable (SentenceBegun n) s size = Unit {0}
+Hintable (Word e h) s size = Unit {0}
+Hintable (Phrase n e h) s size = Unit {0}
+Hintable SentenceEnded s size = Unit {0}
+Hintable (Refused n) s size = Unit {0}
+
 abbrev pub Addable : Step → State → List ℕ → Type 0
 Addable Ignored s seen = Unit {0}
 Addable Format s seen = Unit {0}

@@ -7,7 +7,7 @@ ghost use Rattle.rules.specs.Numbers.{fileLimit};
 ghost use Rattle.rules.specs.Tables.{noTables};
 ghost use Rattle.rules.specs.Sheets.{tableSheetSize, tableSheet, seenSetSize, seenSet};
 ghost use Rattle.rules.proofs.Largest.{larger};
-ghost use Rattle.survey.specs.Applying.{firstTally, withWord, withPhrase, outside, amongRows, inSentence, handedOut, stateAfter, sheetAfter, seenAfter, marksAfter, Following, Writable, Addable, Markable};
+ghost use Rattle.survey.specs.Applying.{firstTally, withWord, withPhrase, outside, amongRows, inSentence, handedOut, stateAfter, sheetAfter, seenAfter, marksAfter, Following, Writable, Hintable, Addable, Markable};
 ghost use Rattle.rules.specs.Lines.{start, tablesAt};
 ghost use Rattle.rules.specs.Reading.{begin, numbers, read};
 ghost use Rattle.rules.specs.Survey.{told, answered, nothingRead, afterSurvey};
@@ -210,6 +210,27 @@ fn write_sheet(step: Step, s: State, sheet: &mut [u32])
     }
 }
 
+// Where a row's tag stands is hinted at. No promise speaks of the hints.
+fn write_hints(step: Step, s: State, file: &[u8], hints: &mut [u8; 3584])
+    requires { ⌜ Hintable step s (length (now file)) ⌝ }
+{
+    match step {
+        Step::Row {
+            id1: _,
+            first_start,
+            first_len,
+            second_start: _,
+            second_len: _,
+            flag: _,
+        } => {
+            let start = first_start as usize;
+            let end = start + first_len as usize;
+            hints::keep(hints, s.table as usize, &file[start..end], s.rows as u8);
+        }
+        _ => {}
+    }
+}
+
 // The number of a sentence that ends goes into the seen set.
 fn write_seen(step: Step, s: State, seen: &mut [u8])
     requires { ⌜ Addable step s (now seen) ⌝ }
@@ -243,14 +264,23 @@ fn write_marks(step: Step, s: State, marks: &mut [u32])
     }
 }
 
-// What a line's step leaves in the sheet, the seen set and the marks.
-fn put_down(step: Step, s: State, sheet: &mut [u32], seen: &mut [u8], marks: &mut [u32])
-    requires { ⌜ Writable step s (length (now sheet)) × Addable step s (now seen) × Markable step s (length (now marks)) ⌝ }
+// What a line's step leaves in the sheet, the seen set, the marks and the hints.
+fn put_down(
+    step: Step,
+    s: State,
+    file: &[u8],
+    sheet: &mut [u32],
+    seen: &mut [u8],
+    marks: &mut [u32],
+    hints: &mut [u8; 3584],
+)
+    requires { ⌜ Hintable step s (length (now file)) × Writable step s (length (now sheet)) × Addable step s (now seen) × Markable step s (length (now marks)) ⌝ }
     ensures { λ _. ⌜ (now (sheet .exit) ≡ sheetAfter step s (now (sheet .entry))) × (now (seen .exit) ≡ seenAfter step s (now (seen .entry))) × (now (marks .exit) ≡ marksAfter step s (now (marks .entry))) ⌝ }
 {
     write_sheet(step, s, sheet);
     write_seen(step, s, seen);
     write_marks(step, s, marks);
+    write_hints(step, s, file, hints);
 }
 
 // How far the lines could be taken.
@@ -293,6 +323,7 @@ fn take_lines(
     sheet: &mut [u32],
     seen: &mut [u8],
     marks: &mut [u32],
+    hints: &mut [u8; 3584],
     classes: &[u8; 256],
 ) -> Walk
     requires { ⌜ (now classes ≡ classTable) × (length (now file) ≤ fileLimit) × (now sheet ≡ tableSheet noTables) × (now seen ≡ seenSet []) × (now marks ≡ replicate 500 0) ⌝ }
@@ -303,11 +334,11 @@ fn take_lines(
     while at < file.len() {
         match lines::line_end(file, at, classes) {
             LineEnd::At(e) => {
-                let step = judging::judge(&file[..e], at, s, sheet, seen, marks, classes);
+                let step = judging::judge(&file[..e], at, s, sheet, hints, seen, marks, classes);
                 if let Step::Refused(number) = step {
                     return refused(number, at as u32, s);
                 }
-                put_down(step, s, sheet, seen, marks);
+                put_down(step, s, file, sheet, seen, marks, hints);
                 at = e + 1;
                 s = state_after(step, at as u32, s);
             }
@@ -404,7 +435,8 @@ fn read_file(file: &[u8], sheet: &mut [u32], seen: &mut [u8]) -> Surveyed
     seen::clear(seen);
     let classes = classes::byte_classes();
     let mut marks = [0u32; 500];
-    let walk = take_lines(file, sheet, seen, &mut marks, &classes);
+    let mut hints = [0u8; 3584];
+    let walk = take_lines(file, sheet, seen, &mut marks, &mut hints, &classes);
     let end = file.len() as u32;
     tell_walk(walk, end, sheet)
 }

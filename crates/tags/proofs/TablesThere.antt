@@ -78,10 +78,6 @@ module _ (ts : Tables) (n : ℕ) (t : Text) where
       go true = refl
       go false = refl
 
-pub or-found : (a b : Bool) → b ≡ true → (a || b) ≡ true
-or-found true b e = refl
-or-found false b e = e
-
 pub or-missed : (a b : Bool) → b ≡ false → (a || b) ≡ a
 or-missed true b e = refl
 or-missed false b e = e

@@ -42,8 +42,8 @@ fn is_unknown(tag: &[u8]) -> bool
     texts::same_text(tag, &word)
 }
 
-// -- and UNKNOWN always are, and any tag of a table that the file doesn't have.
-pub fn is_known(head: &[u8], sheet: &[u32], table: usize, tag: &[u8]) -> bool
+// -- and UNKNOWN always are, and any tag of a table that the file doesn't have. The answer is the same whatever the hints.
+pub fn is_known(head: &[u8], sheet: &[u32], hints: &[u8; 3584], table: usize, tag: &[u8]) -> bool
     requires { ⌜ Tabled (now head) (now sheet) × (table < 7) ⌝ }
     ensures { λ r. ⌜ ((start : ℕ) → r ≡ known (tablesIn (now (head .entry)) (now (sheet .entry))) table (record { start = start; bytes = now (tag .entry) })) ⌝ }
 {
@@ -54,7 +54,8 @@ pub fn is_known(head: &[u8], sheet: &[u32], table: usize, tag: &[u8]) -> bool
     if count == 0 {
         return true;
     }
-    if sheets::has_tag(head, sheet, 7 + 1536 * table, count - 1, tag) {
+    let hint = hints::row_near(hints, table, tag);
+    if sheets::has_tag_by(head, sheet, 7 + 1536 * table, count - 1, hint, tag) {
         return true;
     }
     is_unknown(tag)

@@ -23,7 +23,7 @@ slice-aggregate-take-lines c = search needs
 
 take-lines-requires : tie.Need-take-lines-requires
 take-lines-requires c κs =
-    let b = c .before .before .before .before in
+    let b = c .before .before .before .before .before in
     let d = b .before .before .before in
     let f = d .before .before .before .before in
     let x = f .before .before .before .before .before in (

@@ -24,10 +24,10 @@ use Rattle.survey.proofs.take_lines.Statement.{statement}
 use Rattle.survey.proofs.take_lines.Tie as tie
 
 abbrev Inv-loop : tie.InvT-loop
-Inv-loop file sheet₀ seen₀ marks₀ classes s₀ at₀ sheet seen marks s at = Going file at s sheet seen marks
+Inv-loop file sheet₀ seen₀ marks₀ hints₀ classes s₀ at₀ sheet seen marks hints s at = Going file at s sheet seen marks
 
 abbrev μ-loop : tie.MeasureT-loop
-μ-loop file sheet₀ seen₀ marks₀ classes s₀ at₀ sheet seen marks s at = length file - at
+μ-loop file sheet₀ seen₀ marks₀ hints₀ classes s₀ at₀ sheet seen marks hints s at = length file - at
 
 abbrev Standing-at : Type 0
 Standing-at = tie.At-loop Inv-loop μ-loop
@@ -89,7 +89,7 @@ abbrev Judged : Type 0
 Judged = tie.After-judge Inv-loop μ-loop
 
 abbrev lineJudged : Judged → Line
-lineJudged j = j .before .before .before .before .before .before
+lineJudged j = j .before .before .before .before .before .before .before
 
 abbrev whereJudged : Judged → Standing-at
 whereJudged j = here (lineJudged j)
@@ -117,7 +117,7 @@ slice-aggregate-judge c =
 
 judge-requires : tie.Need-judge-requires Inv-loop μ-loop
 judge-requires c κs =
-    let k = c .before .before .before .before .before in
+    let k = c .before .before .before .before .before .before in
     let l = here k in (
       start l .pre .0,
       omega (arith, head-length (file l) (at l) (state l) (sheet l) (seen l) (marks l) (going l) (short l) (end k) (ends k), at-behind (file l) (at l) (end k) (ends k)),
@@ -156,40 +156,44 @@ returns c =
 
 put-down-requires : tie.Need-put-down-requires Inv-loop μ-loop
 put-down-requires c κs =
-    let j = c .before .before .before .before in
+    let j = c .before .before .before .before .before in
     let k = lineJudged j in
     let l = here k in
     puttable (file l) (at l) (state l) (sheet l) (seen l) (marks l) (going l) (short l) (end k) (ends k) _ (j .judge .ensures)
 
 add-at : tie.Need-add-at Inv-loop μ-loop
-add-at c = omega (arith, below (lineJudged (c .before .before .before .before .before .before .before .before .before .before .before)))
+add-at c =
+    let k = lineJudged (c .before .before .before .before .before .before .before .before .before .before .before .before) in
+    let b = below k in
+    let w = short (here k) in
+    search needs
 
 cast-state-after : tie.Need-cast-state-after Inv-loop μ-loop
 cast-state-after c =
-    let k = lineJudged (c .before .before .before .before .before .before .before .before .before .before .before) in
+    let k = lineJudged (c .before .before .before .before .before .before .before .before .before .before .before .before) in
     let b = below k in
     let w = short (here k) in
     search needs
 
 state-after-requires : tie.Need-state-after-requires Inv-loop μ-loop
 state-after-requires c κs =
-    let j = c .before .before .before .before .before .before .before .before .before .before .before in
+    let j = c .before .before .before .before .before .before .before .before .before .before .before .before in
     let k = lineJudged j in
     let l = here k in
     following (file l) (at l) (state l) (sheet l) (seen l) (marks l) (going l) (short l) (end k) (ends k) _ (j .judge .ensures)
 
 loop-less : tie.Need-loop-less Inv-loop μ-loop
 loop-less c =
-    let k = lineJudged (c .before .before .before .before .before .before .before .before .before .before .before .before) in
+    let k = lineJudged (c .before .before .before .before .before .before .before .before .before .before .before .before .before) in
     omega (arith, below k, at-behind (file (here k)) (at (here k)) (end k) (ends k))
 
 loop-again : tie.Need-loop-again Inv-loop μ-loop
 loop-again c =
     let p = c .before .before .before .before .before .before .before in
-    let j = p .before .before .before .before .before in
+    let j = p .before .before .before .before .before .before in
     let k = lineJudged j in
     let l = here k in
-    goes-on-with (file l) (at l) (state l) (sheet l) (seen l) (marks l) (going l) (short l) (end k) (ends k) _ (j .judge .ensures) (p .before .before .before .before .match2 .keys2) (p .put-down .ensures .0) (p .put-down .ensures .1) (p .put-down .ensures .2) (c .state-after .ensures)
+    goes-on-with (file l) (at l) (state l) (sheet l) (seen l) (marks l) (going l) (short l) (end k) (ends k) _ (j .judge .ensures) (p .before .before .before .before .before .match2 .keys2) (p .put-down .ensures .0) (p .put-down .ensures .1) (p .put-down .ensures .2) (c .state-after .ensures)
 
 enum-told : tie.Need-enum-told Inv-loop μ-loop
 enum-told c = search needs

@@ -10,8 +10,9 @@ use lib.ListN.{getD}
 use Rattle.rules.specs.Lists.{same}
 use Rattle.rules.specs.Texts.{Text}
 use Rattle.rules.specs.Tables.{Tables, dashes, unknown, known}
+use Rattle.rules.proofs.Conjunctions.{or-found}
 use Rattle.sheets.specs.SheetRows.{rowsFrom, tablesIn, tagAmong}
-use Rattle.tags.proofs.TablesThere.{table-absent, table-there, rows-in-sheet, texts-in-head, known-dashes, known-absent, known-there, or-found, or-missed}
+use Rattle.tags.proofs.TablesThere.{table-absent, table-there, rows-in-sheet, texts-in-head, known-dashes, known-absent, known-there, or-missed}
 use Rattle.tags.proofs.is_known.Statement.{statement}
 use Rattle.tags.proofs.is_known.Tie as tie
 
@@ -46,8 +47,8 @@ looked-up e start =
     known-there (tables s) (s .args .table) (tag s start) _ (table-there (head s) (sheet s) (s .args .table) (s .pre .1) (e .if2 .left)) (dashed (e .before .before))
 
 -- what the rows were found to have
-told : (k : tie.After-has-tag) → found (entry (k .before .before .before .before)) ≡ k .has-tag .result
-told k = sym (k .has-tag .ensures)
+told : (k : tie.After-has-tag-by) → found (entry (k .before .before .before .before .before)) ≡ k .has-tag-by .result
+told k = sym (k .has-tag-by .ensures)
 
 is-twice-requires : tie.Need-is-twice-requires
 is-twice-requires c κs = search needs
@@ -71,33 +72,54 @@ returns-2 c start =
     let s = entry (c .before .before .before) in
     sym (known-absent (tables s) (s .args .table) (tag s start) (table-absent (head s) (sheet s) (s .args .table) (s .pre .1) (c .if2 .taken)))
 
-mul-has-tag : tie.Need-mul-has-tag
-mul-has-tag c = search needs
+row-near-requires : tie.Need-row-near-requires
+row-near-requires c κs = search needs
 
-add-has-tag : tie.Need-add-has-tag
-add-has-tag c = search needs
+mul-has-tag-by : tie.Need-mul-has-tag-by
+mul-has-tag-by c = search needs
 
-sub-has-tag : tie.Need-sub-has-tag
-sub-has-tag c = search needs
+add-has-tag-by : tie.Need-add-has-tag-by
+add-has-tag-by c = search needs
 
-has-tag-requires : tie.Need-has-tag-requires
-has-tag-requires c κs =
-    let s = entry (c .before .before .before) in
+sub-has-tag-by : tie.Need-sub-has-tag-by
+sub-has-tag-by c = search needs
+
+has-tag-by-requires : tie.Need-has-tag-by-requires
+has-tag-by-requires c κs =
+    let s = entry (c .before .before .before .before) in
     (rows-in-sheet (head s) (sheet s) (s .args .table) (s .pre .1) (s .pre .0 .counted), texts-in-head (head s) (sheet s) (s .args .table) (s .pre .1) (s .pre .0))
 
 returns-3 : tie.Need-returns-3
 returns-3 c start =
-    let s = entry (c .before .before .before .before .before) in
-    sym (looked-up (c .before .before) start ∙ or-found (same (s .args .tag .now) unknown) (found s) (told (c .before) ∙ c .if3 .taken))
+    let e = c .before .before .before in
+    let s = entry (e .before .before .before) in
+    sym (looked-up e start ∙ or-found (same (s .args .tag .now) unknown) (found s) (told (c .before) ∙ c .if3 .taken))
 
 is-unknown-requires : tie.Need-is-unknown-requires
 is-unknown-requires c κs = search needs
 
 returns-4 : tie.Need-returns-4
 returns-4 c start =
-    let e = c .before in
-    let s = entry (e .before .before .before .before .before) in
-    c .is-unknown .ensures ∙ sym (looked-up (e .before .before) start ∙ or-missed (same (s .args .tag .now) unknown) (found s) (told (e .before) ∙ e .if3 .left))
+    let missed = c .before in
+    let e = missed .before .before .before in
+    let s = entry (e .before .before .before) in
+    c .is-unknown .ensures ∙ sym (looked-up e start ∙ or-missed (same (s .args .tag .now) unknown) (found s) (told (missed .before) ∙ missed .if3 .left))
 
 pub is-known-spec : {M : Type 1} → statement M
-is-known-spec = tie.close (tie.spec is-twice-requires returns mul-count shared-slice-read-count cast-count returns-2 mul-has-tag add-has-tag sub-has-tag has-tag-requires returns-3 is-unknown-requires returns-4)
+is-known-spec =
+    tie.close
+    (tie.spec
+    is-twice-requires
+    returns
+    mul-count
+    shared-slice-read-count
+    cast-count
+    returns-2
+    row-near-requires
+    mul-has-tag-by
+    add-has-tag-by
+    sub-has-tag-by
+    has-tag-by-requires
+    returns-3
+    is-unknown-requires
+    returns-4)

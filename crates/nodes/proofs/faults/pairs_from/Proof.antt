@@ -22,13 +22,13 @@ use Rattle.nodes.proofs.faults.pairs_from.Statement.{statement}
 use Rattle.nodes.proofs.faults.pairs_from.Tie as tie
 
 abbrev Inv-loop : tie.InvT-loop
-Inv-loop head from sheet number classes at₀ count₀ highest₀ fault₀ at count highest fault =
+Inv-loop head from sheet hints number classes at₀ count₀ highest₀ fault₀ at count highest fault =
     (count ≤ at)
     × (at ≤ length head)
     × (soFar count highest fault (pairsOf (tablesIn head sheet) number (fieldsFrom head at)) ≡ pairsOf (tablesIn head sheet) number (fieldsFrom head from))
 
 abbrev μ-loop : tie.MeasureT-loop
-μ-loop head from sheet number classes at₀ count₀ highest₀ fault₀ at count highest fault = length head - at
+μ-loop head from sheet hints number classes at₀ count₀ highest₀ fault₀ at count highest fault = length head - at
 
 abbrev Place : Type 0
 Place = tie.At-loop Inv-loop μ-loop
