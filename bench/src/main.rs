@@ -1,0 +1,66 @@
+//! How fast the compiled survey is, beside the independent reader and a plain count of
+//! newlines; and whether the time of a byte stays flat while a file grows.
+
+mod files;
+mod timing;
+
+use plain::generate::corpus;
+use timing::{best_times, count_newlines, survey_compiled, survey_plainly};
+
+const CORPUS: usize = 50_000;
+
+fn main() {
+    print_corpus(&corpus(CORPUS));
+    println!("\n| What grows | size | bytes | ns/byte | to the first |");
+    println!("|---|--:|--:|--:|--:|");
+    print_growth("sentences", [6_250, 12_500, 25_000, 50_000], corpus);
+    let rows = [32, 64, 128, 256];
+    print_growth("rows, tables alone", rows, files::tables);
+    print_growth("rows, with sentences", rows, files::with_rows);
+    let lengths = [512, 1_024, 2_048, 4_096];
+    print_growth("length of a word", lengths, files::with_long_words);
+    print_growth("length of a comment", lengths, files::with_long_comments);
+    print_growth("secondary edges", lengths, files::with_many_edges);
+    print_growth(
+        "length of an ignored line",
+        lengths,
+        files::with_ignored_lines,
+    );
+}
+
+fn print_corpus(file: &[u8]) {
+    let untabled = files::without_tag_tables(file);
+    let times = best_times([
+        (count_newlines, file),
+        (survey_compiled, file),
+        (survey_compiled, &untabled),
+        (survey_plainly, file),
+    ]);
+    let names = [
+        "newlines counted",
+        "compiled survey",
+        "compiled survey, no tables of tags",
+        "independent reader",
+    ];
+    println!("A corpus of {CORPUS} sentences, {} bytes\n", file.len());
+    println!("| | MB/s | ns/byte | to the count |");
+    println!("|---|--:|--:|--:|");
+    for (name, time) in names.iter().zip(times) {
+        let (speed, ratio) = (1_000.0 / time, time / times[0]);
+        println!("| {name} | {speed:.0} | {time:.2} | {ratio:.1} |");
+    }
+}
+
+/// A line for 1, 2, 4 and 8 times the size.
+fn print_growth(what: &str, sizes: [usize; 4], make: fn(usize) -> Vec<u8>) {
+    let files = sizes.map(make);
+    let times = best_times(
+        files
+            .each_ref()
+            .map(|file| (survey_compiled as timing::Work, &file[..])),
+    );
+    for ((size, file), time) in sizes.iter().zip(&files).zip(times) {
+        let (bytes, ratio) = (file.len(), time / times[0]);
+        println!("| {what} | {size} | {bytes} | {time:.2} | {ratio:.2} |");
+    }
+}
