@@ -18,11 +18,19 @@ fn main() {
     print_growth("rows, tables alone", rows, files::tables);
     print_growth("rows, with sentences", rows, files::with_rows);
     let lengths = [512, 1_024, 2_048, 4_096];
-    print_growth("length of a word", lengths, files::with_long_words);
-    print_growth("length of a comment", lengths, files::with_long_comments);
-    print_growth("secondary edges", lengths, files::with_many_edges);
+    print_growth("line length, by a word", lengths, files::with_long_words);
     print_growth(
-        "length of an ignored line",
+        "line length, by a comment",
+        lengths,
+        files::with_long_comments,
+    );
+    print_growth(
+        "line length, by secondary edges",
+        lengths,
+        files::with_many_edges,
+    );
+    print_growth(
+        "line length, ignored lines",
         lengths,
         files::with_ignored_lines,
     );
