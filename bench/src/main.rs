@@ -5,35 +5,34 @@ mod files;
 mod timing;
 
 use plain::generate::corpus;
-use timing::{best_times, count_newlines, survey_compiled, survey_plainly};
+use timing::{best_times, count_newlines, survey_compiled, survey_plainly, Work};
 
 const CORPUS: usize = 50_000;
+
+type Make = fn(usize) -> Vec<u8>;
+
+const SENTENCES: [usize; 4] = [6_250, 12_500, 25_000, 50_000];
+const ROWS: [usize; 4] = [32, 64, 128, 256];
+const LENGTHS: [usize; 4] = [512, 1_024, 2_048, 4_096];
+
+/// What grows, its sizes, and the file of a size.
+const GROWTHS: [(&str, [usize; 4], Make); 7] = [
+    ("sentences", SENTENCES, corpus),
+    ("rows, tables alone", ROWS, files::tables),
+    ("rows, with sentences", ROWS, files::with_rows),
+    ("lines, by a word", LENGTHS, files::with_long_words),
+    ("lines, by a comment", LENGTHS, files::with_long_comments),
+    ("lines, by edges", LENGTHS, files::with_many_edges),
+    ("lines, ignored", LENGTHS, files::with_ignored_lines),
+];
 
 fn main() {
     print_corpus(&corpus(CORPUS));
     println!("\n| What grows | size | bytes | ns/byte | to the first |");
     println!("|---|--:|--:|--:|--:|");
-    print_growth("sentences", [6_250, 12_500, 25_000, 50_000], corpus);
-    let rows = [32, 64, 128, 256];
-    print_growth("rows, tables alone", rows, files::tables);
-    print_growth("rows, with sentences", rows, files::with_rows);
-    let lengths = [512, 1_024, 2_048, 4_096];
-    print_growth("line length, by a word", lengths, files::with_long_words);
-    print_growth(
-        "line length, by a comment",
-        lengths,
-        files::with_long_comments,
-    );
-    print_growth(
-        "line length, by secondary edges",
-        lengths,
-        files::with_many_edges,
-    );
-    print_growth(
-        "line length, ignored lines",
-        lengths,
-        files::with_ignored_lines,
-    );
+    for (what, sizes, make) in GROWTHS {
+        print_growth(what, sizes, make);
+    }
 }
 
 fn print_corpus(file: &[u8]) {
@@ -60,13 +59,10 @@ fn print_corpus(file: &[u8]) {
 }
 
 /// A line for 1, 2, 4 and 8 times the size.
-fn print_growth(what: &str, sizes: [usize; 4], make: fn(usize) -> Vec<u8>) {
+fn print_growth(what: &str, sizes: [usize; 4], make: Make) {
     let files = sizes.map(make);
-    let times = best_times(
-        files
-            .each_ref()
-            .map(|file| (survey_compiled as timing::Work, &file[..])),
-    );
+    let survey: Work = survey_compiled;
+    let times = best_times(files.each_ref().map(|file| (survey, &file[..])));
     for ((size, file), time) in sizes.iter().zip(&files).zip(times) {
         let (bytes, ratio) = (file.len(), time / times[0]);
         println!("| {what} | {size} | {bytes} | {time:.2} | {ratio:.2} |");
