@@ -5,6 +5,7 @@
 //! the tidy text (`tidy`) are made from the model.
 
 mod columns;
+pub mod documents;
 pub mod generate;
 mod lines;
 mod numbers;

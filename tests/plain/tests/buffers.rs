@@ -3,6 +3,7 @@
 mod common;
 
 use common::*;
+use plain::documents::{replaced, A};
 use plain::{Edge, Written, FILE_LIMIT};
 
 /// Lent buffers of which one has a wrong size.

@@ -3,6 +3,7 @@
 mod common;
 
 use common::*;
+use plain::documents::{cases_run_only, changed, replaced, starred_cases, A};
 
 #[test]
 fn lengths_of_file_a() {
@@ -11,26 +12,20 @@ fn lengths_of_file_a() {
 }
 
 #[test]
-fn starred_cases() {
-    let cases: Vec<(Vec<u8>, [usize; 4])> = vec![
-        (A.to_vec(), [0, 126, 1, 126]),
-        (A[..125].to_vec(), [3, 119, 0, 0]),
-        (A[..119].to_vec(), [23, 119, 0, 0]),
-        (A[..74].to_vec(), [0, 74, 0, 0]),
-        (A[..40].to_vec(), [13, 40, 0, 0]),
-        (Vec::new(), [9, 0, 0, 0]),
-        (changed("#FORMAT 3", "#FORMAT 4"), [9, 0, 0, 0]),
-        (changed("#BOS 7 2 0 1", "#BOS 7 2 0 2"), [15, 74, 0, 0]),
-        (changed("-- 500", "-- 501"), [22, 119, 0, 0]),
-        (changed("S -- -- 0", "S -- -- 500"), [19, 104, 0, 0]),
-        (changed("#500", "#501"), [21, 119, 0, 0]),
-        (changed("#EOS 7", "#EOS 8"), [20, 119, 0, 0]),
-    ];
-    for (file, [refusal, place, sentences, sound_end]) in cases {
-        let expected = survey(refusal as u32, place, sentences as u32, sound_end);
+fn cases_with_a_star() {
+    assert_answered(starred_cases());
+}
+
+#[test]
+fn cases_that_are_run() {
+    assert_answered(cases_run_only());
+}
+
+fn assert_answered(cases: Vec<(Vec<u8>, plain::Survey)>) {
+    for (file, answer) in cases {
         assert_eq!(
             survey_of(&file),
-            expected,
+            answer,
             "{}",
             String::from_utf8_lossy(&file)
         );
@@ -44,29 +39,6 @@ fn parent_of_a_phrase_must_be_larger() {
         survey_of(&changed("S -- -- 0", "S -- SB 500")),
         survey(19, 104, 0, 0)
     );
-}
-
-#[test]
-fn cases_run_only() {
-    let editor = changed("#BOS 7 2 0 1", "#BOS 7 -1 0 1");
-    assert_eq!(editor.len(), 127);
-    assert_eq!(survey_of(&editor), survey(0, 127, 1, 127));
-    let largest = replaced(&changed("#BOS 7", "#BOS 65535"), "#EOS 7", "#EOS 65535");
-    assert_eq!(survey_of(&largest), survey(0, 134, 1, 134));
-    let too_large = replaced(&changed("#BOS 7", "#BOS 65536"), "#EOS 7", "#EOS 65536");
-    assert_eq!(survey_of(&too_large), survey(8, 74, 0, 0));
-}
-
-#[test]
-fn comment_lines_at_their_limit() {
-    for (length, refusal) in [(4_096, 0), (4_097, 5)] {
-        let mut file = A.to_vec();
-        file.extend(b"%%");
-        file.extend(vec![b'x'; length - 2]);
-        file.push(b'\n');
-        let place = if refusal == 0 { file.len() } else { A.len() };
-        assert_eq!(survey_of(&file), survey(refusal, place, 1, 126));
-    }
 }
 
 #[test]

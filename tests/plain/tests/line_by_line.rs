@@ -3,6 +3,7 @@
 mod common;
 
 use common::*;
+use plain::documents::A;
 
 const BOS: &str = "#BOS 7 2 0 1\n";
 const EOS: &str = "#EOS 7\n";

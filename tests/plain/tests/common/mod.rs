@@ -3,20 +3,6 @@
 
 use plain::{Edge, Survey, Written, EDGE_LIST, SEEN_SET, SENTENCE_SHEET, TABLE_SHEET};
 
-/// File A of document 01.
-pub const A: &[u8] = b"#FORMAT 3
-#BOT ORIGIN
-1 lab
-#EOT ORIGIN
-#BOT EDITOR
-2 kim Kim
-#EOT EDITOR
-#BOS 7 2 0 1
-Ja ITJ -- -- 500
-#500 S -- -- 0
-#EOS 7
-";
-
 /// The length of A's format line and tables.
 pub const HEAD: usize = 74;
 
@@ -145,23 +131,4 @@ pub fn survey(refusal: u32, place: usize, sentences: u32, sound_end: usize) -> S
         sentences,
         sound_end: sound_end as u32,
     }
-}
-
-/// A with one stretch of text replaced; the stretch must stand there just once.
-pub fn changed(from: &str, to: &str) -> Vec<u8> {
-    replaced(A, from, to)
-}
-
-pub fn replaced(file: &[u8], from: &str, to: &str) -> Vec<u8> {
-    let from = from.as_bytes();
-    let places: Vec<usize> = (0..file.len())
-        .filter(|&place| file[place..].starts_with(from))
-        .collect();
-    assert_eq!(places.len(), 1, "{:?}", String::from_utf8_lossy(from));
-    [
-        &file[..places[0]],
-        to.as_bytes(),
-        &file[places[0] + from.len()..],
-    ]
-    .concat()
 }

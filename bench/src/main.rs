@@ -1,0 +1,70 @@
+//! How fast the compiled survey is, beside the independent reader and a plain count of
+//! newlines; and whether the time of a byte stays flat while a file grows.
+
+mod files;
+mod timing;
+
+use plain::generate::corpus;
+use timing::{best_times, count_newlines, survey_compiled, survey_plainly, Work};
+
+const CORPUS: usize = 50_000;
+
+type Make = fn(usize) -> Vec<u8>;
+
+const SENTENCES: [usize; 4] = [6_250, 12_500, 25_000, 50_000];
+const ROWS: [usize; 4] = [32, 64, 128, 256];
+const LENGTHS: [usize; 4] = [512, 1_024, 2_048, 4_096];
+
+/// What grows, its sizes, and the file of a size.
+const GROWTHS: [(&str, [usize; 4], Make); 7] = [
+    ("sentences", SENTENCES, corpus),
+    ("rows, tables alone", ROWS, files::tables),
+    ("rows, with sentences", ROWS, files::with_rows),
+    ("lines, by a word", LENGTHS, files::with_long_words),
+    ("lines, by a comment", LENGTHS, files::with_long_comments),
+    ("lines, by edges", LENGTHS, files::with_many_edges),
+    ("lines, ignored", LENGTHS, files::with_ignored_lines),
+];
+
+fn main() {
+    print_corpus(&corpus(CORPUS));
+    println!("\n| What grows | size | bytes | ns/byte | to the first |");
+    println!("|---|--:|--:|--:|--:|");
+    for (what, sizes, make) in GROWTHS {
+        print_growth(what, sizes, make);
+    }
+}
+
+fn print_corpus(file: &[u8]) {
+    let untabled = files::without_tag_tables(file);
+    let times = best_times([
+        (count_newlines, file),
+        (survey_compiled, file),
+        (survey_compiled, &untabled),
+        (survey_plainly, file),
+    ]);
+    let names = [
+        "newlines counted",
+        "compiled survey",
+        "compiled survey, no tables of tags",
+        "independent reader",
+    ];
+    println!("A corpus of {CORPUS} sentences, {} bytes\n", file.len());
+    println!("| | MB/s | ns/byte | to the count |");
+    println!("|---|--:|--:|--:|");
+    for (name, time) in names.iter().zip(times) {
+        let (speed, ratio) = (1_000.0 / time, time / times[0]);
+        println!("| {name} | {speed:.0} | {time:.2} | {ratio:.1} |");
+    }
+}
+
+/// A line for 1, 2, 4 and 8 times the size.
+fn print_growth(what: &str, sizes: [usize; 4], make: Make) {
+    let files = sizes.map(make);
+    let survey: Work = survey_compiled;
+    let times = best_times(files.each_ref().map(|file| (survey, &file[..])));
+    for ((size, file), time) in sizes.iter().zip(&files).zip(times) {
+        let (bytes, ratio) = (file.len(), time / times[0]);
+        println!("| {what} | {size} | {bytes} | {time:.2} | {ratio:.2} |");
+    }
+}
