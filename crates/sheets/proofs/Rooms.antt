@@ -6,12 +6,12 @@ use native.Mathlib.Nat.{mul-zero, mul-suc, suc-sub-suc, zero-sub, sub-zero, not-
 use native.Mathlib.Omega.{arith}
 use lib.ListN.{length, drop, getD, set, replicate, length-append, length-replicate}
 use lib.Seq.{drop-append-add}
-use Rattle.rules.specs.Lists.{joined}
+use Rattle.rules.specs.Lists.{Each, joined}
 use Rattle.rules.specs.Tables.{Row}
 use Rattle.rules.specs.Sheets.{filledUp, rowWidth, rowNumbers, rowsRoom}
 use Rattle.sheets.specs.Splices.{splice}
 use Rattle.sheets.specs.SheetRows.{tableRoom}
-use Rattle.sheets.specs.Standing.{Each, RowsFit}
+use Rattle.sheets.specs.Standing.{RowsFit}
 use Rattle.sheets.proofs.Maps.{map-append}
 use Rattle.sheets.proofs.Splices.{splice-seam, splice-behind, splice-within, splice-whole}
 
