@@ -9,7 +9,7 @@ use mathlib.Core.Bool.{Bool, true, false}
 use mathlib.Core.Option.{Option, none, some}
 use mathlib.Core.List.{List, [], _∷_, _++_, append-nil, append-assoc}
 use lib.ListN.{length}
-use lib.Dec.{leb, eqb}
+use lib.Dec.{eqb}
 use borrow.Author.Tests.{le-leb, lt-leb}
 use Rattle.rules.specs.Lists.{pick, Each}
 use Rattle.rules.specs.Bytes.{newline}
@@ -17,22 +17,28 @@ use Rattle.rules.specs.Rules.{Fault}
 use Rattle.rules.specs.Lines.{Preamble, behindSentence, Answer, refuse, go, hand, step}
 use Rattle.rules.specs.Reading.{Handed, Reading, line, numbers, ended, longer, later, sound, byteUnless, byte, read}
 use Rattle.rules.specs.Survey.{lastEnd}
-use Rattle.rules.specs.Cutting.{within}
+use Rattle.rules.specs.Cutting.{endsWithin, within}
 use Rattle.rules.proofs.EachElement.{each-then}
 
 -- ---- the sentences of the first bytes
 
+ends-within : (n : ℕ) (h : Handed) → h .end ≤ n → endsWithin n h ≡ true
+ends-within n h k = le-leb (h .end) _ (omega (arith, k))
+
+ends-behind : (n : ℕ) (h : Handed) → n < h .end → endsWithin n h ≡ false
+ends-behind n h k = lt-leb (h .end) _ (omega (arith, k))
+
 pub within-all : (n : ℕ) (hs : List Handed) → Each (λ (h : Handed). h .end ≤ n) hs → within n hs ≡ hs
 within-all n [] a = refl
-within-all n (h ∷ hs) a = rw (le-leb (h .end) n (a .0), within-all n hs (a .1))
+within-all n (h ∷ hs) a = rw (ends-within n h (a .0), within-all n hs (a .1))
 
 pub within-none : (n : ℕ) (hs : List Handed) → Each (λ (h : Handed). n < h .end) hs → within n hs ≡ []
 within-none n [] a = refl
-within-none n (h ∷ hs) a = rw (lt-leb (h .end) n (a .0), within-none n hs (a .1))
+within-none n (h ∷ hs) a = rw (ends-behind n h (a .0), within-none n hs (a .1))
 
 pub within-append : (n : ℕ) (gs hs : List Handed) → within n (gs ++ hs) ≡ within n gs ++ within n hs
 within-append n [] hs = refl
-within-append n (g ∷ gs) hs = by (leb (g .end) n) (within-append n gs hs)
+within-append n (g ∷ gs) hs = by (endsWithin n g) (within-append n gs hs)
   where
     by : (t : Bool) → within n (gs ++ hs) ≡ within n gs ++ within n hs
         → pick t (g ∷ within n (gs ++ hs)) (within n (gs ++ hs)) ≡ pick t (g ∷ within n gs) (within n gs) ++ within n hs

@@ -13,7 +13,7 @@ use Rattle.rules.specs.Numbers.{fileLimit}
 use Rattle.rules.specs.Reading.{Handed, Reading, begin, read}
 use Rattle.rules.specs.Lines.{tablesAt}
 use Rattle.rules.specs.Survey.{lastEnd, surveyOf}
-use Rattle.rules.specs.Cutting.{within, SoundPart, CutRule}
+use Rattle.rules.specs.Cutting.{within, soundPart, SoundPart, CutRule}
 use Rattle.rules.proofs.EachElement.{each-then}
 use Rattle.rules.proofs.ReadLines.{read-append}
 use Rattle.rules.proofs.NoLateTable.{Late, late-tables, read-late}
@@ -91,7 +91,7 @@ sound-part f h = by (last begin f)
     by (inl e) = inl (sound-end-read f h ∙ ap lastEnd e)
     by (inr l) =
         let at : length (l .front) ≡ surveyOf f .soundEnd = omega (arith, sound-end-read f h, l .ends) in
-        let part : take (surveyOf f .soundEnd) f ≡ l .front =
+        let part : soundPart f ≡ l .front =
         ap (take (surveyOf f .soundEnd)) (l .parts) ∙ take-at (l .front) (l .back) (surveyOf f .soundEnd) at in
         let fits : length (l .front) ≤ fileLimit = omega (arith, ap length (l .parts), length-append (l .front) (l .back)) in
         inr (record {

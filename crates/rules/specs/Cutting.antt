@@ -3,6 +3,7 @@
 use Prim.Native.Nat.{ℕ}
 use mathlib.Core.Path.{_≡_}
 use mathlib.Core.Logic.{_⊎_}
+use mathlib.Core.Bool.{Bool}
 use mathlib.Core.List.{List, [], _∷_, _++_}
 use lib.ListN.{take}
 use lib.Dec.{leb}
@@ -10,12 +11,16 @@ use Rattle.rules.specs.Lists.{pick}
 use Rattle.rules.specs.Reading.{Handed}
 use Rattle.rules.specs.Survey.{surveyOf}
 
--- the sentences whose end line, newline included, lies in the first n bytes
+-- the end line, newline included, lies in the first n bytes
+abbrev pub endsWithin : ℕ → Handed → Bool
+endsWithin n h = leb (h .end) n
+
+-- the sentences that end within the first n bytes
 abbrev pub within : ℕ → List Handed → List Handed
 within n [] = []
 within n (h ∷ hs) =
     let later = within n hs in
-    pick (leb (h .end) n) (h ∷ later) later
+    pick (endsWithin n h) (h ∷ later) later
 
 -- from the first byte to the end of the last sentence handed out
 abbrev pub soundPart : List ℕ → List ℕ
