@@ -35,14 +35,14 @@ module _ (f tables seen : List ℕ) where
 
 -- ---- an outcome tells what was answered and left
 
-module _ {f g : List ℕ} (c : Surveying f) (d : Surveying g) where
-  same-outcome : outcome (c .answer) (c .tablesLeft) (c .seenLeft) ≡ outcome (d .answer) (d .tablesLeft) (d .seenLeft) → SameOutcome c d
-  same-outcome e =
-      record {
-        answer = ap (λ (o : SurveyOutcome). numbersOf (o .answer)) e;
-        tables = ap (λ (o : SurveyOutcome). o .tables) e;
-        seen = ap (λ (o : SurveyOutcome). o .seen) e;
-      }
+same-outcome : {f g : List ℕ} (c : Surveying f) (d : Surveying g)
+    → outcome (c .answer) (c .tablesLeft) (c .seenLeft) ≡ outcome (d .answer) (d .tablesLeft) (d .seenLeft) → SameOutcome c d
+same-outcome c d e =
+    record {
+      answer = ap (λ (o : SurveyOutcome). numbersOf (o .answer)) e;
+      tables = ap (λ (o : SurveyOutcome). o .tables) e;
+      seen = ap (λ (o : SurveyOutcome). o .seen) e;
+    }
 
 -- for the same file and the same buffers lent there is one outcome
 pub only-outcome : {f : List ℕ} (c d : Surveying f) → c .tables ≡ d .tables → c .seen ≡ d .seen → SameOutcome c d
@@ -55,17 +55,17 @@ old-never-shows {f = f} c d k l h =
 
 -- ---- 1 and 2
 
-module _ {f : List ℕ} (c : Surveying f) where
-  untouched : (n : ℕ) → afterSurvey f (c .tables) (c .seen) ≡ record { answer = told (nothingRead n); tables = c .tables; seen = c .seen } → Untouched c n
-  untouched n e =
-      record {
-        answer = ap (λ (o : SurveyOutcome). numbersOf (o .answer)) (c .promise ∙ e);
-        tables = ap (λ (o : SurveyOutcome). o .tables) (c .promise ∙ e);
-        seen = ap (λ (o : SurveyOutcome). o .seen) (c .promise ∙ e);
-      }
+untouched : {f : List ℕ} (c : Surveying f) (n : ℕ)
+    → afterSurvey f (c .tables) (c .seen) ≡ record { answer = told (nothingRead n); tables = c .tables; seen = c .seen } → Untouched c n
+untouched c n e =
+    record {
+      answer = ap (λ (o : SurveyOutcome). numbersOf (o .answer)) (c .promise ∙ e);
+      tables = ap (λ (o : SurveyOutcome). o .tables) (c .promise ∙ e);
+      seen = ap (λ (o : SurveyOutcome). o .seen) (c .promise ∙ e);
+    }
 
-  pub wrong-size : sheetsFit (c .tables) (c .seen) ≡ false → Untouched c 1
-  wrong-size e = untouched 1 (after-wrong-size f (c .tables) (c .seen) e)
+pub wrong-size : {f : List ℕ} (c : Surveying f) → sheetsFit (c .tables) (c .seen) ≡ false → Untouched c 1
+wrong-size {f = f} c e = untouched c 1 (after-wrong-size f (c .tables) (c .seen) e)
 
-  pub too-long : Sized c → fileLimit < length f → Untouched c 2
-  too-long k h = untouched 2 (after-too-long f (c .tables) (c .seen) k h)
+pub too-long : {f : List ℕ} (c : Surveying f) → Sized c → fileLimit < length f → Untouched c 2
+too-long {f = f} c k h = untouched c 2 (after-too-long f (c .tables) (c .seen) k h)
