@@ -8,7 +8,7 @@ use mathlib.Core.List.{List, [], _∷_, _++_, map, append-assoc, append-nil}
 use lib.ListN.{length}
 use lib.Dec.{leb}
 use borrow.Author.Tests.{leb-true}
-use Rattle.rules.specs.Lists.{pick, joined}
+use Rattle.rules.specs.Lists.{pick, joined, Each}
 use Rattle.rules.specs.Texts.{Text}
 use Rattle.rules.specs.Numbers.{fileLimit}
 use Rattle.rules.specs.Tables.{origins, editors, present}
@@ -16,12 +16,13 @@ use Rattle.rules.specs.Keywords.{firstColumn}
 use Rattle.rules.specs.Lines.{Phase, start, top, inTable, inSentence, behindSentence, lineAt}
 use Rattle.rules.specs.Reading.{begin, read}
 use Rattle.rules.specs.Survey.{answered, nothingRead, surveyOf}
-use Rattle.rules.specs.GrammarLines.{Each, Differ, Starts}
+use Rattle.rules.specs.GrammarLines.{Differ, Starts}
 use Rattle.rules.specs.GrammarTables.{TableLines, TablesFit, tableLines}
 use Rattle.rules.specs.GrammarSentences.{SentenceLines, SentenceFits, sentenceLines}
 use Rattle.rules.specs.Grammar.{FormatFits, Fits, sentenceNumbers}
+use Rattle.rules.proofs.EachElement.{each-then, each-more}
 use Rattle.rules.proofs.BytesAsSaid.{Started, started-said, heededOf, heeded-said}
-use Rattle.rules.proofs.SaidOfLists.{each-then, each-more, and-both-ways}
+use Rattle.rules.proofs.SaidOfLists.{and-both-ways}
 use Rattle.rules.proofs.TablesAsSaid.{is-there}
 use Rattle.rules.proofs.WhatWasRead.{WasRead, preLines}
 use Rattle.rules.proofs.ReadSoFar.{Onward, from-start, begin-sentence, from-top, from-table}

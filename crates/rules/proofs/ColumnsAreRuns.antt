@@ -7,11 +7,11 @@ use mathlib.Core.Logic.{_⊎_, inl, inr}
 use mathlib.Core.Bool.{true, false, not}
 use mathlib.Core.List.{List, [], _∷_, _++_, map, append-nil}
 use lib.ListN.{length, length-append}
-use Rattle.rules.specs.Lists.{any}
+use Rattle.rules.specs.Lists.{any, Each}
 use Rattle.rules.specs.Bytes.{white}
 use Rattle.rules.specs.Texts.{Text}
 use Rattle.rules.specs.Columns.{Column, goesOn, columnsFrom, texts}
-use Rattle.rules.specs.GrammarLines.{Each, White}
+use Rattle.rules.specs.GrammarLines.{White}
 use Rattle.rules.proofs.BareColumns.{allColumns}
 use Rattle.rules.specs.GrammarColumns.{Run, Parted, Begins, no-column, one-column}
 use Rattle.rules.proofs.ColumnLaws.{columnOf, columns-skip, columns-run}

@@ -8,11 +8,11 @@ use mathlib.Core.Bool.{Bool, true, false, false≢true}
 use mathlib.Core.List.{List, [], _∷_, _++_, map, append-nil}
 use lib.ListN.{length, getD, take}
 use lib.Seq.{length-take-le}
-use Rattle.rules.specs.Lists.{pick, same}
+use Rattle.rules.specs.Lists.{pick, same, Each}
 use Rattle.rules.specs.Bytes.{percents}
 use Rattle.rules.specs.Texts.{Text}
 use Rattle.rules.specs.Columns.{Column, columnsFrom, column, written, texts, fields}
-use Rattle.rules.specs.GrammarLines.{Each, White}
+use Rattle.rules.specs.GrammarLines.{White}
 use Rattle.rules.proofs.BareColumns.{allColumns, frontColumns, restBehind}
 use Rattle.rules.specs.GrammarColumns.{Begins, no-column, one-column, Columns, Front}
 use Rattle.rules.proofs.ColumnLaws.{columnOf}

@@ -9,34 +9,36 @@ use mathlib.Core.Bool.{Bool, true, false}
 use mathlib.Core.Option.{Option, none, some}
 use mathlib.Core.List.{List, [], _∷_, _++_, append-nil, append-assoc}
 use lib.ListN.{length}
-use lib.Dec.{leb, eqb}
+use lib.Dec.{eqb}
 use borrow.Author.Tests.{le-leb, lt-leb}
-use Rattle.rules.specs.Lists.{pick}
+use Rattle.rules.specs.Lists.{pick, Each}
 use Rattle.rules.specs.Bytes.{newline}
 use Rattle.rules.specs.Rules.{Fault}
 use Rattle.rules.specs.Lines.{Preamble, behindSentence, Answer, refuse, go, hand, step}
 use Rattle.rules.specs.Reading.{Handed, Reading, line, numbers, ended, longer, later, sound, byteUnless, byte, read}
 use Rattle.rules.specs.Survey.{lastEnd}
-use Rattle.rules.proofs.Elements.{All, all-weaker}
+use Rattle.rules.specs.Cutting.{endsWithin, within}
+use Rattle.rules.proofs.EachElement.{each-then}
 
 -- ---- the sentences of the first bytes
 
--- the sentences whose end line, newline included, lies in the first n bytes
-abbrev pub within : ℕ → List Handed → List Handed
-within n [] = []
-within n (h ∷ hs) = pick (leb (h .end) n) (h ∷ within n hs) (within n hs)
+ends-within : (n : ℕ) (h : Handed) → h .end ≤ n → endsWithin n h ≡ true
+ends-within n h k = le-leb (h .end) _ (omega (arith, k))
 
-pub within-all : (n : ℕ) (hs : List Handed) → All (λ (h : Handed). h .end ≤ n) hs → within n hs ≡ hs
+ends-behind : (n : ℕ) (h : Handed) → n < h .end → endsWithin n h ≡ false
+ends-behind n h k = lt-leb (h .end) _ (omega (arith, k))
+
+pub within-all : (n : ℕ) (hs : List Handed) → Each (λ (h : Handed). h .end ≤ n) hs → within n hs ≡ hs
 within-all n [] a = refl
-within-all n (h ∷ hs) a = rw (le-leb (h .end) n (a .0), within-all n hs (a .1))
+within-all n (h ∷ hs) a = rw (ends-within n h (a .0), within-all n hs (a .1))
 
-pub within-none : (n : ℕ) (hs : List Handed) → All (λ (h : Handed). n < h .end) hs → within n hs ≡ []
+pub within-none : (n : ℕ) (hs : List Handed) → Each (λ (h : Handed). n < h .end) hs → within n hs ≡ []
 within-none n [] a = refl
-within-none n (h ∷ hs) a = rw (lt-leb (h .end) n (a .0), within-none n hs (a .1))
+within-none n (h ∷ hs) a = rw (ends-behind n h (a .0), within-none n hs (a .1))
 
 pub within-append : (n : ℕ) (gs hs : List Handed) → within n (gs ++ hs) ≡ within n gs ++ within n hs
 within-append n [] hs = refl
-within-append n (g ∷ gs) hs = by (leb (g .end) n) (within-append n gs hs)
+within-append n (g ∷ gs) hs = by (endsWithin n g) (within-append n gs hs)
   where
     by : (t : Bool) → within n (gs ++ hs) ≡ within n gs ++ within n hs
         → pick t (g ∷ within n (gs ++ hs)) (within n (gs ++ hs)) ≡ pick t (g ∷ within n gs) (within n gs) ++ within n hs
@@ -91,8 +93,8 @@ pub record Grown (r s : Reading) (n : ℕ) : Type 0 where
   pub place : s .at ≡ r .at + n
   pub more : List Handed
   pub handed : s .handed ≡ r .handed ++ more
-  pub later : All (λ (h : Handed). r .at < h .end) more
-  pub sooner : All (λ (h : Handed). h .end ≤ s .at) more
+  pub later : Each (λ (h : Handed). r .at < h .end) more
+  pub sooner : Each (λ (h : Handed). h .end ≤ s .at) more
 
 abbrev Later : ℕ → Handed → Type 0
 Later at h = at < h .end
@@ -108,7 +110,7 @@ grow r (b ∷ bs) = by (one-byte r b) (grow (byte r b) bs)
           place = omega (arith, q .one, g .place);
           more = g .more;
           handed = g .handed ∙ ap (λ (l : List Handed). l ++ g .more) (q .unchanged);
-          later = all-weaker (Later (byte r b .at)) (Later (r .at)) (λ h k. omega (arith, q .one)) (g .more) (g .later);
+          later = each-then (Later (byte r b .at)) (Later (r .at)) (λ h k. omega (arith, q .one)) (g .more) (g .later);
           sooner = g .sooner;
         }
     by (inr q) g =
@@ -116,7 +118,7 @@ grow r (b ∷ bs) = by (one-byte r b) (grow (byte r b) bs)
           place = omega (arith, q .one, g .place);
           more = q .given ∷ g .more;
           handed = g .handed ∙ ap (λ (l : List Handed). l ++ g .more) (q .more) ∙ append-assoc (r .handed) (q .given ∷ []) (g .more);
-          later = (omega (arith, q .ends), all-weaker (Later (byte r b .at)) (Later (r .at)) (λ h k. omega (arith, q .one)) (g .more) (g .later));
+          later = (omega (arith, q .ends), each-then (Later (byte r b .at)) (Later (r .at)) (λ h k. omega (arith, q .one)) (g .more) (g .later));
           sooner = (omega (arith, q .ends, q .one, g .place), g .sooner);
         }
 

@@ -2,18 +2,22 @@
 use Prim.Native.Nat.{ℕ, _≤_, _<_}
 use native.Mathlib.Nat.{zero-add}
 use native.Mathlib.Omega.{arith}
-use mathlib.Core.Path.{_≡_, sym, ap, _∙_, subst}
+use mathlib.Core.Path.{_≡_, refl, sym, ap, _∙_, subst}
 use mathlib.Core.Logic.{_⊎_, inl, inr}
 use mathlib.Core.List.{List, [], _++_, append-nil}
 use lib.ListN.{length, take, drop, length-append, take-append-drop}
 use lib.Seq.{take-at, length-take-le}
 use borrow.Author.Tests.{le-leb}
+use Rattle.rules.specs.Lists.{Each}
 use Rattle.rules.specs.Numbers.{fileLimit}
 use Rattle.rules.specs.Reading.{Handed, Reading, begin, read}
+use Rattle.rules.specs.Lines.{tablesAt}
 use Rattle.rules.specs.Survey.{lastEnd, surveyOf}
+use Rattle.rules.specs.Cutting.{within, soundPart, SoundPart, CutRule}
+use Rattle.rules.proofs.EachElement.{each-then}
 use Rattle.rules.proofs.ReadLines.{read-append}
-use Rattle.rules.proofs.Elements.{All, all-weaker}
-use Rattle.rules.proofs.Cut.{within, within-all, within-none, within-append, Rested, grow, nothing-more, Last, last}
+use Rattle.rules.proofs.NoLateTable.{Late, late-tables, read-late}
+use Rattle.rules.proofs.Cut.{within-all, within-none, within-append, Rested, grow, nothing-more, Last, last}
 
 module _ (f : List ℕ) (fits : length f ≤ fileLimit) where
   handed-read : surveyOf f .handed ≡ read begin f .handed
@@ -24,9 +28,25 @@ module _ (f : List ℕ) (fits : length f ≤ fileLimit) where
   unfolding surveyOf
   sound-end-read = rw (le-leb (length f) fileLimit fits)
 
+  tables-read : surveyOf f .tables ≡ tablesAt (read begin f .phase)
+  unfolding surveyOf
+  tables-read = rw (le-leb (length f) fileLimit fits)
+
   rested-accepted : Rested (read begin f) → surveyOf f .refusal ≡ 0
   unfolding surveyOf
   rested-accepted r = rw (le-leb (length f) fileLimit fits, r .sound, r .unbegun, r .behind)
+
+  rested-place : Rested (read begin f) → surveyOf f .place ≡ length f
+  unfolding surveyOf
+  rested-place r = rw (le-leb (length f) fileLimit fits, r .sound, r .unbegun) (grow begin f .place ∙ zero-add (length f))
+
+-- bytes behind a sentence change no table
+rested-tables : (p q : List ℕ) → Rested (read begin p) → tablesAt (read begin (p ++ q) .phase) ≡ tablesAt (read begin p .phase)
+rested-tables p q r =
+    let late = subst (Late (r .preamble)) (sym (r .behind)) refl in
+    ap (λ (s : Reading). tablesAt (s .phase)) (read-append begin p q)
+    ∙ late-tables (r .preamble) (read (read begin p) q .phase) (read-late (r .preamble) (read begin p) q late)
+    ∙ sym (late-tables (r .preamble) (read begin p .phase) late)
 
 -- ---- the sentences whose end line lies in the kept part come first
 
@@ -36,11 +56,11 @@ kept p q =
     let g = grow begin p in
     let k = grow (read begin p) q in
     let at : read begin p .at ≡ length p = g .place ∙ zero-add (length p) in
-    let low : All (λ (h : Handed). h .end ≤ length p) (read begin p .handed) =
+    let low : Each (λ (h : Handed). h .end ≤ length p) (read begin p .handed) =
     rw (g .handed)
-    (all-weaker (λ (h : Handed). h .end ≤ read begin p .at) (λ (h : Handed). h .end ≤ length p) (λ h i. omega (arith, at)) (g .more) (g .sooner)) in
-    let high : All (λ (h : Handed). length p < h .end) (k .more) =
-    all-weaker (λ (h : Handed). read begin p .at < h .end) (λ (h : Handed). length p < h .end) (λ h i. omega (arith, at)) (k .more) (k .later) in
+    (each-then (λ (h : Handed). h .end ≤ read begin p .at) (λ (h : Handed). h .end ≤ length p) (λ h i. omega (arith, at)) (g .more) (g .sooner)) in
+    let high : Each (λ (h : Handed). length p < h .end) (k .more) =
+    each-then (λ (h : Handed). read begin p .at < h .end) (λ (h : Handed). length p < h .end) (λ h i. omega (arith, at)) (k .more) (k .later) in
     ap (λ (r : Reading). within (length p) (r .handed)) (read-append begin p q)
     ∙ ap (within (length p)) (k .handed)
     ∙ within-append (length p) (read begin p .handed) (k .more)
@@ -64,10 +84,6 @@ front p q x h k =
 
 -- ---- the sound part is a file accepted by itself, with the same sentences
 
-pub record SoundPart (f : List ℕ) : Type 0 where
-  pub accepted : surveyOf (take (surveyOf f .soundEnd) f) .refusal ≡ 0
-  pub same : surveyOf (take (surveyOf f .soundEnd) f) .handed ≡ surveyOf f .handed
-
 pub sound-part : (f : List ℕ) → length f ≤ fileLimit → (surveyOf f .soundEnd ≡ 0) ⊎ SoundPart f
 sound-part f h = by (last begin f)
   where
@@ -75,21 +91,20 @@ sound-part f h = by (last begin f)
     by (inl e) = inl (sound-end-read f h ∙ ap lastEnd e)
     by (inr l) =
         let at : length (l .front) ≡ surveyOf f .soundEnd = omega (arith, sound-end-read f h, l .ends) in
-        let part : take (surveyOf f .soundEnd) f ≡ l .front =
+        let part : soundPart f ≡ l .front =
         ap (take (surveyOf f .soundEnd)) (l .parts) ∙ take-at (l .front) (l .back) (surveyOf f .soundEnd) at in
         let fits : length (l .front) ≤ fileLimit = omega (arith, ap length (l .parts), length-append (l .front) (l .back)) in
         inr (record {
           accepted = rw part (rested-accepted (l .front) fits (l .rested));
+          place = rw part (rested-place (l .front) fits (l .rested) ∙ at);
           same = rw part (handed-read (l .front) fits ∙ l .handed ∙ sym (handed-read f h));
+          tables =
+              rw part
+              (tables-read (l .front) fits ∙ sym (rested-tables (l .front) (l .back) (l .rested))
+              ∙ ap (λ (bs : List ℕ). tablesAt (read begin bs .phase)) (sym (l .parts)) ∙ sym (tables-read f h));
         })
 
 -- ---- the rule, of a file f whose first n bytes are kept, with x behind them
-
-pub record CutRule (f : List ℕ) (n : ℕ) (x : List ℕ) : Type 0 where
-  pub others : List Handed
-  pub first : surveyOf (take n f ++ x) .handed ≡ within n (surveyOf f .handed) ++ others
-  pub alone : x ≡ [] → others ≡ []
-  pub sound : (surveyOf (take n f ++ x) .soundEnd ≡ 0) ⊎ SoundPart (take n f ++ x)
 
 pub cut-rule : (f : List ℕ) (n : ℕ) (x : List ℕ) → n ≤ length f → length f ≤ fileLimit → length (take n f ++ x) ≤ fileLimit → CutRule f n x
 cut-rule f n x h k m =

@@ -1,24 +1,10 @@
--- What holds of each element of a list, of lists that grow at their end, and of lists that are mapped. By one step along
--- the list. Assumes nothing.
+-- Laws of lists that are mapped and joined. By one step along the list. Assumes nothing.
 use Prim.Native.Nat.{ℕ, zero, suc}
 use mathlib.Core.Path.{_≡_, refl, sym, ap, _∙_}
 use mathlib.Core.Bool.{Bool, _||_}
 use mathlib.Core.List.{List, [], _∷_, _++_, map, append-assoc}
 use lib.ListN.{drop, set}
 use Rattle.rules.specs.Lists.{any, joined}
-
-module _ {A : Type 0} where
-  abbrev pub All : (A → Type 0) → List A → Type 0
-  All P [] = Unit {0}
-  All P (x ∷ xs) = P x × All P xs
-
-  pub all-last : (P : A → Type 0) (xs : List A) (x : A) → All P xs → P x → All P (xs ++ (x ∷ []))
-  all-last P [] x a p = (p, tt)
-  all-last P (y ∷ ys) x a p = (a .0, all-last P ys x (a .1) p)
-
-  pub all-weaker : (P Q : A → Type 0) → ((x : A) → P x → Q x) → (xs : List A) → All P xs → All Q xs
-  all-weaker P Q f [] a = tt
-  all-weaker P Q f (x ∷ xs) a = (f x (a .0), all-weaker P Q f xs (a .1))
 
 pub map-append : {A B : Type 0} (f : A → B) (xs ys : List A) → map f (xs ++ ys) ≡ map f xs ++ map f ys
 map-append f [] ys = refl

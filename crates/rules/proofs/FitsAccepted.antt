@@ -6,7 +6,7 @@ use mathlib.Core.Bool.{Bool}
 use mathlib.Core.List.{List, [], _∷_, _++_, map, append-assoc}
 use lib.ListN.{length}
 use borrow.Author.Tests.{le-leb}
-use Rattle.rules.specs.Lists.{pick, bytes, joined, member}
+use Rattle.rules.specs.Lists.{pick, bytes, joined, member, Each}
 use Rattle.rules.specs.Texts.{Text}
 use Rattle.rules.specs.Numbers.{fileLimit}
 use Rattle.rules.specs.Tables.{Tables, origins, editors}
@@ -15,14 +15,16 @@ use Rattle.rules.specs.Keywords.{firstColumn}
 use Rattle.rules.specs.Lines.{Preamble, Phase, start, top, inSentence, behindSentence, hand, next, behindOne, beginning, atTop, lineAt}
 use Rattle.rules.specs.Reading.{begin, read, outcome}
 use Rattle.rules.specs.Survey.{answered, nothingRead, surveyOf}
-use Rattle.rules.specs.GrammarLines.{In, Each, Differ, Starts}
+use Rattle.rules.specs.GrammarLines.{In, Differ, Starts}
+use Rattle.rules.proofs.EachElement.{each-then}
+use Rattle.rules.proofs.Elements.{map-append}
 use Rattle.rules.proofs.BareColumns.{columnAt}
 use Rattle.rules.specs.GrammarTables.{TableLines, tableLines, whiches}
 use Rattle.rules.specs.GrammarSentences.{SentenceLines, SentenceFits, EosFits, nodesOf, nodeLines, sentenceLines}
 use Rattle.rules.specs.Grammar.{Fits, sentenceNumbers}
 use Rattle.rules.proofs.Same.{same-false}
 use Rattle.rules.proofs.BytesAsSaid.{Started, started-said, heededOf, heeded-only}
-use Rattle.rules.proofs.SaidOfLists.{each-then, differ-map-next, map-joined}
+use Rattle.rules.proofs.SaidOfLists.{differ-map-next}
 use Rattle.rules.proofs.TestsAsFacts.{is-member}
 use Rattle.rules.proofs.TablesAsSaid.{Stand, stand-none, is-there}
 use Rattle.rules.proofs.KeywordsAsSaid.{keyword-first}
@@ -87,7 +89,7 @@ module _ (p : Preamble) (ts : List TableLines) (stand : Stand (p .tables) ts) (i
   sentences-follow (t ∷ rest) done f d =
       sentence-follows t (joined (map sentenceLines rest)) (behindSentence p) (sentenceNumbers done) (begins-behind (sentenceNumbers done)) (f .0)
       (differ-map-next (λ (s : SentenceLines). s .head .number) done t rest d)
-      (subst (Follows (joined (map sentenceLines rest)) (behindSentence p)) (map-joined (λ (s : SentenceLines). s .head .number) done (t ∷ []))
+      (subst (Follows (joined (map sentenceLines rest)) (behindSentence p)) (map-append (λ (s : SentenceLines). s .head .number) done (t ∷ []))
       (sentences-follow rest (done ++ (t ∷ [])) (f .1) (subst (λ (ss : List SentenceLines). Differ (sentenceNumbers ss)) (sym (append-assoc done (t ∷ []) rest)) d)))
 
   behind-tables : (ss : List SentenceLines) → Each (SentenceFits ts) ss → Differ (sentenceNumbers ss) → Follows (joined (map sentenceLines ss)) (top p) []

@@ -6,24 +6,22 @@ use mathlib.Core.Bool.{Bool, true, false}
 use mathlib.Core.List.{List, []}
 use lib.ListN.{length}
 use lib.Dec.{leb}
-use Rattle.rules.specs.Lists.{pick}
+use Rattle.rules.specs.Lists.{pick, Each}
 use Rattle.rules.specs.Numbers.{fileLimit}
 use Rattle.rules.specs.Sentences.{Sentence}
 use Rattle.rules.specs.Lines.{Phase, start, top, inTable, inSentence, behindSentence, tablesAt}
 use Rattle.rules.specs.Reading.{Handed, begin, read}
 use Rattle.rules.specs.Survey.{Survey, answered, nothingRead, surveyOf}
 use Rattle.rules.specs.Meaning.{meantTables}
-use Rattle.rules.specs.Climbing.{Each}
-use Rattle.rules.proofs.Elements.{All}
-use Rattle.rules.proofs.EachElement.{each-mapped}
+use Rattle.rules.proofs.EachElement.{each-mapped-then}
 use Rattle.rules.proofs.SentencesKept.{bareSentence, SentenceKept}
 use Rattle.rules.proofs.Kept.{Kept}
 use Rattle.rules.proofs.KeptReading.{bares, file-kept}
 
-none-kept : (P : Sentence → Type 0) (ss : List Sentence) → ss ≡ [] → All P ss
-none-kept P ss e = subst (λ (l : List Sentence). All P l) (sym e) tt
+none-kept : (P : Sentence → Type 0) (ss : List Sentence) → ss ≡ [] → Each P ss
+none-kept P ss e = subst (λ (l : List Sentence). Each P l) (sym e) tt
 
-phase-kept : (phase : Phase) (ss : List Sentence) → Kept phase ss → All (SentenceKept (meantTables (tablesAt phase))) ss
+phase-kept : (phase : Phase) (ss : List Sentence) → Kept phase ss → Each (SentenceKept (meantTables (tablesAt phase))) ss
 phase-kept start ss k = none-kept _ ss k
 phase-kept (top p) ss k = none-kept _ ss (k .1)
 phase-kept (inTable p n rs) ss k = none-kept _ ss (k .nothing)
@@ -42,6 +40,6 @@ module _ (P : Survey → Sentence → Type 0) (kept : (v : Survey) (s : Sentence
       by : (t : Bool) → EachHanded (pick t (answered (read begin f)) (nothingRead 2))
       by true =
           let r = read begin f in
-          each-mapped (SentenceKept (meantTables (tablesAt (r .phase)))) (λ (h : Handed). P (answered r) (h .sentence)) (λ (h : Handed). bareSentence (h .sentence))
+          each-mapped-then (SentenceKept (meantTables (tablesAt (r .phase)))) (λ (h : Handed). P (answered r) (h .sentence)) (λ (h : Handed). bareSentence (h .sentence))
           (λ h k. kept (answered r) (h .sentence) k) (r .handed) (phase-kept (r .phase) (bares (r .handed)) (file-kept f .phase))
       by false = tt

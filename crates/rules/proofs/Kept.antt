@@ -7,11 +7,11 @@ use mathlib.Core.Option.{Option, none, some}
 use mathlib.Core.List.{List, [], _∷_, _++_, map}
 use native.Mathlib.Nat.{add-zero, add-suc, suc-add}
 use lib.ListN.{length, set}
+use Rattle.rules.specs.Lists.{Each}
 use Rattle.rules.specs.Tables.{Tables, Row, origins, editors, present}
 use Rattle.rules.specs.Sentences.{Sentence}
 use Rattle.rules.specs.Lines.{Preamble, Phase, start, top, inTable, inSentence, behindSentence, Answer, refuse, go, hand}
 use Rattle.rules.specs.Meaning.{bareRow, sentenceNumberOf, meantTables}
-use Rattle.rules.proofs.Elements.{All}
 use Rattle.rules.proofs.Sorting.{Distinct, has}
 use Rattle.rules.proofs.RowsKept.{RowsKept}
 use Rattle.rules.proofs.SentencesKept.{bareSentence, PartKept, SentenceKept}
@@ -41,7 +41,7 @@ pub record PreambleKept (p : Preamble) : Type 0 where
 -- ---- sentences, of a file whose tables mean ts
 
 pub record SentencesKept (ts : Tables) (ss : List Sentence) : Type 0 where
-  pub each : All (SentenceKept ts) ss
+  pub each : Each (SentenceKept ts) ss
   pub distinct : Distinct sentenceNumberOf ss
 
 abbrev pub both : Tables → Bool

@@ -19,9 +19,10 @@ use Rattle.rules.specs.Keywords.{firstColumn, startsWord, startsPhrase}
 use Rattle.rules.specs.Lines.{Preamble, Answer, refuse, hand, next, withWord, withPhrase, amongNodes}
 use Rattle.rules.specs.Meaning.{bareEdge, bareNode, bareHeading, sentenceNumberOf}
 use Rattle.rules.specs.Tidy.{nodeName}
+use Rattle.rules.proofs.EachElement.{each-more}
 use Rattle.rules.proofs.Conjunctions.{and-left}
 use Rattle.rules.proofs.RulesHeld.{held}
-use Rattle.rules.proofs.Elements.{all-last, map-append}
+use Rattle.rules.proofs.Elements.{map-append}
 use Rattle.rules.proofs.Sorting.{distinct-last}
 use Rattle.rules.proofs.PrintedLines.{plain, solid}
 use Rattle.rules.proofs.LineFit.{LineFit}
@@ -65,7 +66,7 @@ module _ (ss : List Sentence) (line : Text) (f : LineFit (line .bytes)) (p : Pre
         preamble = k;
         sentences =
             record {
-              each = all-last (SentenceKept (means p)) ss b (t .sentences .each) kept;
+              each = each-more (SentenceKept (means p)) ss b (t .sentences .each) kept;
               distinct = distinct-last sentenceNumberOf ss b (t .sentences .distinct) (t .new);
             };
         both = t .part .heading .both;

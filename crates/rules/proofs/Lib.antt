@@ -9,6 +9,7 @@ pub mod RuleLaws
 pub mod LesserLaws
 pub mod ReadLines
 pub mod Cut
+pub mod NoLateTable
 pub mod CutRule
 pub mod Elements
 pub mod Sorting

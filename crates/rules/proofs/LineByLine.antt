@@ -7,14 +7,14 @@ use mathlib.Core.Option.{Option, none, some}
 use mathlib.Core.List.{List, [], _∷_, _++_, map}
 use lib.ListN.{length}
 use borrow.Author.Tests.{le-leb, leb-true}
-use Rattle.rules.specs.Lists.{pick}
+use Rattle.rules.specs.Lists.{pick, Each}
 use Rattle.rules.specs.Bytes.{legal, ignored}
 use Rattle.rules.specs.Texts.{Text}
 use Rattle.rules.specs.Numbers.{lineLimit}
 use Rattle.rules.specs.Rules.{Rule, broken, unless, checked}
 use Rattle.rules.specs.Keywords.{firstColumn}
 use Rattle.rules.specs.Lines.{Phase, behindSentence, Answer, refuse, go, hand, next, lineAt, taken, step, atEnd}
-use Rattle.rules.specs.GrammarLines.{Each, Legal, LineFits}
+use Rattle.rules.specs.GrammarLines.{Legal, LineFits}
 use Rattle.rules.proofs.RuleLaws.{holdsOf, all-hold, none-broken}
 use Rattle.rules.proofs.BytesAsSaid.{legal-said, every-said, heededOf}
 use Rattle.rules.proofs.SaidOfLists.{every-each, each-every}

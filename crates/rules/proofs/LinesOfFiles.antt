@@ -9,15 +9,17 @@ use mathlib.Core.List.{List, [], _∷_, _++_, reverse, reverse-reverse, append-n
 use lib.ListN.{length}
 use lib.Dec.{eqb}
 use borrow.Author.Tests.{eqb-true}
-use Rattle.rules.specs.Lists.{every}
+use Rattle.rules.specs.Lists.{every, Each}
 use Rattle.rules.specs.Bytes.{newline, legal}
 use Rattle.rules.specs.Texts.{Text}
 use Rattle.rules.specs.Lines.{Phase, start, behindSentence, Answer, refuse, go, hand, taken, step, atEnd}
 use Rattle.rules.specs.Reading.{Handed, Reading, begin, numbers, ended, closing, read, outcome}
-use Rattle.rules.specs.GrammarLines.{Each, Legal, linesWritten, LineFits}
+use Rattle.rules.specs.GrammarLines.{Legal, linesWritten, LineFits}
+use Rattle.rules.proofs.EachElement.{each-then, each-map, each-mapped}
+use Rattle.rules.proofs.Elements.{map-append}
 use Rattle.rules.proofs.ReadLines.{hasNewline, read-part, read-line, read-fault}
 use Rattle.rules.proofs.BytesAsSaid.{legal-said, every-said, heededOf}
-use Rattle.rules.proofs.SaidOfLists.{each-then, each-map, each-mapped, map-joined, and-both-ways, never-both, false-if-never}
+use Rattle.rules.proofs.SaidOfLists.{and-both-ways, never-both, false-if-never}
 use Rattle.rules.proofs.RefusalNumbers.{FromOne, step-from-one}
 use Rattle.rules.proofs.LineByLine.{Through, Read, Takes, read-takes, takes-read, takes-end, takes-then, heededTexts, heeded-bytes, Accepting, bytesOf}
 
@@ -67,7 +69,7 @@ module _ (rest : List ℕ) (u : Unended rest) where
       ∙ read-line (fresh a ph hs) l (linesWritten ls ++ rest) refl refl n
 
   one-more-number : (hs : List Handed) (h : Handed) → numbers (hs ++ (h ∷ [])) ≡ numbers hs ++ (h .sentence .heading .number ∷ [])
-  one-more-number hs h = map-joined (λ (h : Handed). h .sentence .heading .number) hs (h ∷ [])
+  one-more-number hs h = map-append (λ (h : Handed). h .sentence .heading .number) hs (h ∷ [])
 
   pub comes-read : (ls : List (List ℕ)) (a : ℕ) (ph : Phase) (hs : List Handed) → Each Unended ls → Comes ls a ph hs → Read (Ends rest) (placed a ls) ph (numbers hs)
   comes-read [] a ph hs n c = at-the-end a ph hs c

@@ -8,13 +8,12 @@ use mathlib.Core.List.{List, [], _∷_, map}
 use lib.ListN.{length, drop}
 use lib.Dec.{leb}
 use borrow.Author.Tests.{leb-true, le-leb}
-use Rattle.rules.specs.Lists.{joined}
+use Rattle.rules.specs.Lists.{joined, Each}
 use Rattle.rules.specs.Texts.{Text}
 use Rattle.rules.specs.Columns.{text}
 use Rattle.rules.specs.Numbers.{value}
 use Rattle.rules.specs.Sentences.{Edge, Node}
 use Rattle.rules.specs.Nodes.{Pair, pairs, paired, secondaryParent, shaped, itsPairs}
-use Rattle.rules.specs.GrammarLines.{Each}
 use Rattle.rules.specs.GrammarNodes.{EdgeSaid, NodeLine, pairColumns, nodeColumns}
 use Rattle.rules.proofs.SaidOfLists.{and-both-ways}
 use Rattle.rules.proofs.LineByLine.{bytesOf}

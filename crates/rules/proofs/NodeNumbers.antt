@@ -8,7 +8,7 @@ use mathlib.Core.List.{List, [], _∷_, _++_, map}
 use lib.ListN.{length, length-map}
 use lib.Dec.{leb, eqb}
 use borrow.Author.Tests.{eqb-true, eq-eqb, ne-eqb, le-leb}
-use Rattle.rules.specs.Lists.{every, member}
+use Rattle.rules.specs.Lists.{every, member, Each}
 use Rattle.rules.specs.Numbers.{phraseNumber, wordLimit}
 use Rattle.rules.specs.Tables.{Tables}
 use Rattle.rules.specs.Sentences.{Node, Sentence, listed}
@@ -16,9 +16,9 @@ use Rattle.rules.specs.Reading.{Handed}
 use Rattle.rules.specs.Sheets.{nodeRoom, nodes}
 use Rattle.rules.specs.Survey.{Survey, surveyOf}
 use Rattle.rules.specs.Meaning.{bareNode, nodeNumber, meantTables}
-use Rattle.rules.specs.Climbing.{Each, parentAmong, parentIn}
+use Rattle.rules.specs.Climbing.{parentAmong, parentIn}
 use Rattle.rules.proofs.Conjunctions.{and-both, or-left, or-right}
-use Rattle.rules.proofs.EachElement.{each-then, each-joined, each-mapped}
+use Rattle.rules.proofs.EachElement.{each-then, each-joined, each-mapped-then}
 use Rattle.rules.proofs.Sorting.{Distinct, has}
 use Rattle.rules.proofs.DifferentNumbers.{distinct}
 use Rattle.rules.proofs.NoGap.{numbersOf, Numbered, listed-member}
@@ -100,7 +100,7 @@ each-own (n ∷ ns) d = (rw (eq-eqb (n .number) (n .number) refl), others-own n 
 
 module _ (ts : Tables) (s : Sentence) (k : SentenceKept (meantTables ts) (bareSentence s)) where
   pub each-numbered : Each PhraseNumbered (s .phrases)
-  each-numbered = each-mapped (PhraseKept (meantTables ts)) PhraseNumbered bareNode (phrase-numbered (meantTables ts)) (s .phrases) (k .part .phrases)
+  each-numbered = each-mapped-then (PhraseKept (meantTables ts)) PhraseNumbered bareNode (phrase-numbered (meantTables ts)) (s .phrases) (k .part .phrases)
 
   pub numbered : Numbered (s .phrases)
   numbered = record { low = all-low (s .phrases) each-numbered; apart = all-apart (s .phrases) (distinct-placed (s .phrases) (k .part .distinct)) }

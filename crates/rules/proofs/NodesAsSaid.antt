@@ -10,7 +10,7 @@ use mathlib.Core.List.{List, [], _∷_, _++_, map}
 use lib.ListN.{length}
 use lib.Dec.{leb, ltb, eqb}
 use borrow.Author.Tests.{leb-true, ltb-true, lt-ltb, eqb-true, eqb-false}
-use Rattle.rules.specs.Lists.{pick}
+use Rattle.rules.specs.Lists.{pick, Each}
 use Rattle.rules.specs.Texts.{Text, reads, atMost}
 use Rattle.rules.specs.Columns.{text}
 use Rattle.rules.specs.Numbers.{Kind, phraseNumber, decimal, within, number, zeroOr, parentNumber, good, value}
@@ -18,12 +18,11 @@ use Rattle.rules.specs.Rules.{Rule, rule}
 use Rattle.rules.specs.Tables.{Tables, morphTags, edgeTags, secEdgeTags, dashes, known, tagLimit}
 use Rattle.rules.specs.Sentences.{Edge}
 use Rattle.rules.specs.Nodes.{Pair, secondaryParent, asEdge, nodeOf, itsTag, itsMorphology, itsEdge, itsParent, itsPairs, parentsWritten, tagsShort, tagsKnown, parentsRise}
-use Rattle.rules.specs.GrammarLines.{Each}
+use Rattle.rules.proofs.EachElement.{each-joined, each-front, each-back, each-map, each-mapped, each-both}
 use Rattle.rules.proofs.ColumnsSaid.{front-said}
 use Rattle.rules.proofs.BareColumns.{frontColumns}
 use Rattle.rules.specs.GrammarTables.{TableLines}
 use Rattle.rules.specs.GrammarNodes.{EdgeSaid, NodeLine, nodeColumns, EdgeFits, NodeFits}
-use Rattle.rules.proofs.SaidOfLists.{each-joined, each-front, each-back, each-map, each-mapped, each-both}
 use Rattle.rules.proofs.TestsAsFacts.{reads-are, leb-is, good-some, some-good, some-value}
 use Rattle.rules.proofs.TablesAsSaid.{Stand, known-is}
 use Rattle.rules.proofs.NodeColumns.{saidPair, each-pair, PairsAre, Shaped, sideOf, sideSaid}

@@ -8,7 +8,7 @@ use mathlib.Core.List.{List, [], _∷_, map}
 use lib.ListN.{length}
 use lib.Dec.{leb, ltb, eqb}
 use borrow.Author.Tests.{eqb-true, leb-true, ltb-true}
-use Rattle.rules.specs.Lists.{pick, every}
+use Rattle.rules.specs.Lists.{pick, Each}
 use Rattle.rules.specs.Texts.{Text, reads}
 use Rattle.rules.specs.Tables.{Tables, wordTags, nodeTags, dashes}
 use Rattle.rules.specs.Sentences.{Node, Sentence, listed, parented}
@@ -17,7 +17,7 @@ use Rattle.rules.specs.Reading.{Handed}
 use Rattle.rules.specs.Sheets.{nodes}
 use Rattle.rules.specs.Survey.{Survey, surveyOf}
 use Rattle.rules.specs.Meaning.{bareNode, meantTables}
-use Rattle.rules.specs.Climbing.{Each, parentAmong, parentIn, Climbs, EveryChainClimbs}
+use Rattle.rules.specs.Climbing.{parentAmong, parentIn, Climbs, EveryChainClimbs}
 use Rattle.rules.proofs.Conjunctions.{and-left, and-right, every-front, every-back}
 use Rattle.rules.proofs.RulesHeld.{held}
 use Rattle.rules.proofs.EachElement.{each-joined, each-of, each-tested}

@@ -10,14 +10,14 @@ use mathlib.Core.List.{List, [], _∷_, _++_, map}
 use lib.ListN.{length, getD, List·getD-append}
 use lib.Seq.{getD-append-add}
 use lib.Dec.{eqb}
-use Rattle.rules.specs.Lists.{pick, counting, joined}
+use Rattle.rules.specs.Lists.{pick, counting, joined, Each}
 use Rattle.rules.specs.Tables.{Tables}
 use Rattle.rules.specs.Sentences.{Node, Sentence}
 use Rattle.rules.specs.Reading.{Handed}
 use Rattle.rules.specs.Sheets.{nodeRoom, nodeWidth, nodes, leading, nodeNumbers, recordAt, sentenceSheet}
 use Rattle.rules.specs.Survey.{Survey, surveyOf}
 use Rattle.rules.specs.Meaning.{meantTables}
-use Rattle.rules.specs.Climbing.{Each, parentAmong, parentIn, parentOffset, parentOn, climbed, Climbs, EveryChainClimbs}
+use Rattle.rules.specs.Climbing.{parentAmong, parentIn, parentOffset, parentOn, climbed, Climbs, EveryChainClimbs}
 use Rattle.rules.proofs.EachElement.{each-then}
 use Rattle.rules.proofs.SentencesKept.{bareSentence, SentenceKept}
 use Rattle.rules.proofs.HandedKept.{handed-kept}

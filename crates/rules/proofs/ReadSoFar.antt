@@ -14,11 +14,13 @@ use Rattle.rules.specs.Rows.{rowOf}
 use Rattle.rules.specs.Keywords.{formatOf, tableOpened, tableEnded, firstColumn, hashed, startsRow}
 use Rattle.rules.specs.Lines.{Preamble, Phase, top, inTable, inSentence, go, next, cannotStand, atStart, atTop, behindOne, beginning, withTable, withRow, amongRows}
 use Rattle.rules.specs.GrammarLines.{In}
+use Rattle.rules.proofs.EachElement.{each-more}
+use Rattle.rules.proofs.Elements.{map-append}
 use Rattle.rules.proofs.BareColumns.{columnAt}
 use Rattle.rules.specs.GrammarRows.{RowLine}
 use Rattle.rules.specs.GrammarTables.{TableLines, TableFits, tableLines}
 use Rattle.rules.proofs.BytesAsSaid.{Started}
-use Rattle.rules.proofs.SaidOfLists.{map-joined, each-more, differ-map-more}
+use Rattle.rules.proofs.SaidOfLists.{differ-map-more}
 use Rattle.rules.proofs.TestsAsFacts.{reads-are, is-member}
 use Rattle.rules.proofs.RowsAlike.{none-alike, alike-more}
 use Rattle.rules.proofs.RowTests.{no-rows}
@@ -171,7 +173,7 @@ module _ (K : Phase → List ℕ → Type 0) (used : List ℕ) (done : List (Lis
                       ap (λ (ls : List (List ℕ)). ls ++ (line .bytes ∷ [])) (r .lines)
                       ∙ append-assoc (preLines (r .pre .format) (r .pre .ts)) (r .bot ∷ rowLines (r .rows)) (line .bytes ∷ [])
                       ∙ ap (λ (l : List ℕ). preLines (r .pre .format) (r .pre .ts) ++ (r .bot ∷ rowLines (r .rows) ++ (l ∷ []))) (sym (o .its-line))
-                      ∙ ap (λ (ls : List (List ℕ)). preLines (r .pre .format) (r .pre .ts) ++ (r .bot ∷ ls)) (sym (map-joined (λ (r : RowLine). r .line) (r .rows) (o .row ∷ [])));
+                      ∙ ap (λ (ls : List (List ℕ)). preLines (r .pre .format) (r .pre .ts) ++ (r .bot ∷ ls)) (sym (map-append (λ (r : RowLine). r .line) (r .rows) (o .row ∷ [])));
                 };
             starts = first-starts line (row-given e);
             kept = o .goes-on;

@@ -7,7 +7,7 @@ use mathlib.Core.Bool.{Bool, true, false, _||_}
 use mathlib.Core.List.{List, map}
 use lib.Dec.{eqb}
 use borrow.Author.Tests.{eqb-true}
-use Rattle.rules.specs.Lists.{every}
+use Rattle.rules.specs.Lists.{every, Each}
 use Rattle.rules.specs.Texts.{Text}
 use Rattle.rules.specs.Rules.{Rule, rule}
 use Rattle.rules.specs.Tables.{Tables, wordTags, morphTags, nodeTags, edgeTags, secEdgeTags, known}
@@ -17,7 +17,7 @@ use Rattle.rules.specs.Reading.{Handed}
 use Rattle.rules.specs.Survey.{Survey, surveyOf}
 use Rattle.rules.specs.Meaning.{bareEdge, bareNode, meantTables}
 use Rattle.rules.specs.Sheets.{nodes}
-use Rattle.rules.specs.Climbing.{Each, NodeResolves, Resolves}
+use Rattle.rules.specs.Climbing.{NodeResolves, Resolves}
 use Rattle.rules.proofs.Conjunctions.{and-left, and-right, every-front, every-back, every-map}
 use Rattle.rules.proofs.RuleLaws.{holdsOf}
 use Rattle.rules.proofs.RulesHeld.{held, hold}

@@ -9,7 +9,7 @@ use mathlib.Core.List.{List, [], _∷_, _++_, map}
 use lib.ListN.{length, replicate, length-map}
 use lib.Dec.{eqb}
 use borrow.Author.Tests.{le-leb}
-use Rattle.rules.specs.Lists.{bytes, joined, sorted}
+use Rattle.rules.specs.Lists.{bytes, joined, sorted, Each}
 use Rattle.rules.specs.Bytes.{ignored}
 use Rattle.rules.specs.Numbers.{fileLimit}
 use Rattle.rules.specs.Tables.{Tables, origins, editors, noTables}
@@ -21,7 +21,7 @@ use Rattle.rules.specs.Meaning.{Meaning, meantRows, nodeNumber, sentence
 use Rattle.rules.specs.Tidy.{space, digitsOf, keywordLine, tablesText, sentenceText, tidyText}
 use Rattle.rules.specs.Writing.{tidyOf}
 use Rattle.rules.proofs.ReadLines.{read-append}
-use Rattle.rules.proofs.Elements.{All, any-map}
+use Rattle.rules.proofs.Elements.{any-map}
 use Rattle.rules.proofs.Sorting.{Distinct, Rising, all-sorted, rising-from-zero, sorted-sorted, map-sorted}
 use Rattle.rules.proofs.PrintedLines.{parted-plain}
 use Rattle.rules.proofs.LineFit.{LineFit}
@@ -92,7 +92,7 @@ order-twice ss =
 abbrev Ready : Tables → Sentence → Type 0
 Ready ts s = SentenceKept ts s × Rising nodeNumber 0 (s .phrases)
 
-each-ready : (ts : Tables) (ss : List Sentence) → All (SentenceKept ts) ss → All (Ready ts) (map byNumber ss)
+each-ready : (ts : Tables) (ss : List Sentence) → Each (SentenceKept ts) ss → Each (Ready ts) (map byNumber ss)
 each-ready ts [] k = tt
 each-ready ts (s ∷ ss) k = ((sentence-sorted ts s (k .0), rising-from-zero nodeNumber (s .phrases) (k .0 .part .distinct)), each-ready ts ss (k .1))
 
@@ -115,7 +115,7 @@ accepts-top q r b s = record { refusal = rw (s .sound, s .unbegun, s .phase, b);
 accepts-behind : (q : Preamble) (ss : List Sentence) (r : Reading) → Stands (behindSentence q) ss r → Accepts q ss r
 accepts-behind q ss r s = record { refusal = rw (s .sound, s .unbegun, s .phase); format = ap formatAt (s .phase); tables = ap tablesAt (s .phase); handed = s .handed }
 
-sentences-accepted : (q : Preamble) (ss : List Sentence) (x : Reading) → both (q .tables) ≡ true → All (Ready (means q)) ss → Rising sentenceNumberOf 0 ss → Stands (top q) [] x
+sentences-accepted : (q : Preamble) (ss : List Sentence) (x : Reading) → both (q .tables) ≡ true → Each (Ready (means q)) ss → Rising sentenceNumberOf 0 ss → Stands (top q) [] x
     → Accepts q ss (read x (joined (map sentenceText ss)))
 sentences-accepted q [] x b k rise st = accepts-top q x b st
 sentences-accepted q (s ∷ ss) x b k rise st = accepts-behind q (s ∷ ss) (read x (joined (map sentenceText (s ∷ ss)))) (all-sentences-read q s ss x k rise st)
@@ -136,7 +136,7 @@ tidy-read p ss k =
     let q = t .preamble in
     let same : means q ≡ means p = same-meaning (q .tables) (p .tables) (t .same) in
     let present-both : both (q .tables) ≡ true = sym (ap₂ _&&_ (present-meant origins (q .tables)) (present-meant editors (q .tables))) ∙ ap both same ∙ k .both in
-    let ready : All (Ready (means q)) (inOrder ss) = subst (λ (ts : Tables). All (Ready ts) (inOrder ss)) (sym same) (all-sorted sentenceNumberOf (Ready (means p)) (map byNumber ss) (each-ready (means p) ss (k .sentences .each))) in
+    let ready : Each (Ready (means q)) (inOrder ss) = subst (λ (ts : Tables). Each (Ready ts) (inOrder ss)) (sym same) (all-sorted sentenceNumberOf (Ready (means p)) (map byNumber ss) (each-ready (means p) ss (k .sentences .each))) in
     let rise = rising-from-zero sentenceNumberOf (map byNumber ss) (distinct-numbers ss (k .sentences .distinct)) in
     let all = sentences-accepted q (inOrder ss) (read (read begin a) b) present-both ready rise (t .stands) in
     record {

@@ -17,7 +17,8 @@ use Rattle.rules.specs.Rows.{lastId, follows}
 use Rattle.rules.specs.GrammarLines.{In}
 use Rattle.rules.specs.GrammarRows.{RowLine, ids1, firsts}
 use Rattle.rules.specs.GrammarTables.{InOrder}
-use Rattle.rules.proofs.SaidOfLists.{length-map, map-joined}
+use Rattle.rules.proofs.Elements.{map-append}
+use Rattle.rules.proofs.SaidOfLists.{length-map}
 use Rattle.rules.proofs.TestsAsFacts.{has-id, has-tag, idsOf, firstsOf}
 use Rattle.rules.proofs.IdsInOrder.{chained-more, chained-next, last-id, ordered-chained, chained-ordered, lastOf}
 
@@ -37,8 +38,8 @@ none-alike = record { ids = refl; texts = refl }
 pub alike-more : (rs : List Row) (rows : List RowLine) (r : Row) (row : RowLine) → Alike rs rows → AlikeRow r row → Alike (rs ++ (r ∷ [])) (rows ++ (row ∷ []))
 alike-more rs rows r row a o =
     record {
-      ids = map-joined (λ (r : Row). r .id1) rs (r ∷ []) ∙ ap (λ (i : ℕ). idsOf rs ++ (i ∷ [])) (o .id) ∙ ap (λ (is : List ℕ). is ++ (row .id1 ∷ [])) (a .ids) ∙ sym (map-joined (λ (r : RowLine). r .id1) rows (row ∷ []));
-      texts = map-joined (λ (r : Row). r .first .bytes) rs (r ∷ []) ∙ ap (λ (i : List ℕ). firstsOf rs ++ (i ∷ [])) (o .text) ∙ ap (λ (is : List (List ℕ)). is ++ (row .first ∷ [])) (a .texts) ∙ sym (map-joined (λ (r : RowLine). r .first) rows (row ∷ []));
+      ids = map-append (λ (r : Row). r .id1) rs (r ∷ []) ∙ ap (λ (i : ℕ). idsOf rs ++ (i ∷ [])) (o .id) ∙ ap (λ (is : List ℕ). is ++ (row .id1 ∷ [])) (a .ids) ∙ sym (map-append (λ (r : RowLine). r .id1) rows (row ∷ []));
+      texts = map-append (λ (r : Row). r .first .bytes) rs (r ∷ []) ∙ ap (λ (i : List ℕ). firstsOf rs ++ (i ∷ [])) (o .text) ∙ ap (λ (is : List (List ℕ)). is ++ (row .first ∷ [])) (a .texts) ∙ sym (map-append (λ (r : RowLine). r .first) rows (row ∷ []));
     }
 
 pub alike-length : (rs : List Row) (rows : List RowLine) → Alike rs rows → length rs ≡ length rows
@@ -62,7 +63,7 @@ module _ (rs : List Row) (rows : List RowLine) (a : Alike rs rows) where
   pub next-in-order : (i : ℕ) (row : RowLine) → row .id1 ≡ i → InOrder (ids1 rows) → follows (lastId rs) i ≡ true → InOrder (ids1 (rows ++ (row ∷ [])))
   next-in-order i row e o h =
       let last : lastOf none (ids1 rows) ≡ lastId rs = ap (lastOf none) (sym (a .ids)) ∙ last-id rs in
-      rw (map-joined (λ (r : RowLine). r .id1) rows (row ∷ []), e)
+      rw (map-append (λ (r : RowLine). r .id1) rows (row ∷ []), e)
       (chained-ordered (ids1 rows ++ (i ∷ [])) (chained-more none (ids1 rows) i (ordered-chained (ids1 rows) o) (rw last h)))
 
   pub in-order-next : (row : RowLine) (more : List RowLine) → InOrder (ids1 (rows ++ (row ∷ more))) → follows (lastId rs) (row .id1) ≡ true
@@ -70,4 +71,4 @@ module _ (rs : List Row) (rows : List RowLine) (a : Alike rs rows) where
       let last : lastOf none (ids1 rows) ≡ lastId rs = ap (lastOf none) (sym (a .ids)) ∙ last-id rs in
       rw (← last)
       (chained-next none (ids1 rows) (row .id1) (ids1 more)
-      (ordered-chained (ids1 rows ++ ids1 (row ∷ more)) (rw (map-joined (λ (r : RowLine). r .id1) rows (row ∷ more)) at o)))
+      (ordered-chained (ids1 rows ++ ids1 (row ∷ more)) (rw (map-append (λ (r : RowLine). r .id1) rows (row ∷ more)) at o)))

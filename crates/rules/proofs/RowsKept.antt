@@ -6,12 +6,12 @@ use mathlib.Core.Path.{_≡_, sym, subst}
 use mathlib.Core.Bool.{true, false}
 use mathlib.Core.List.{List, [], _∷_, _++_, append-assoc, append-nil}
 use lib.ListN.{length, length-append}
-use Rattle.rules.specs.Lists.{sorted}
+use Rattle.rules.specs.Lists.{sorted, Each}
 use Rattle.rules.specs.Numbers.{rowLimit}
 use Rattle.rules.specs.Tables.{Row, hasId, hasTag}
 use Rattle.rules.specs.Rows.{lastId, follows}
 use Rattle.rules.specs.Meaning.{rowId}
-use Rattle.rules.proofs.Elements.{All, all-last, all-weaker}
+use Rattle.rules.proofs.EachElement.{each-more, each-then}
 use Rattle.rules.proofs.Sorting.{Distinct, Rising, all-sorted, rising-from-zero, length-sorted, distinct-last, below-lacks}
 use Rattle.rules.proofs.OriginRows.{OriginKept}
 use Rattle.rules.proofs.EditorRows.{EditorKept}
@@ -47,7 +47,7 @@ rows-last n done (q ∷ rs) r k l =
 
 module _ (n : ℕ) (differ : (done : List Row) (r : Row) → RowNew n done r → hasId (r .id1) done ≡ false)
     (enough : (done : List Row) (r : Row) → hasId (r .id1) done ≡ false → RowNew n done r) where
-  all-own : (done rs : List Row) → RowsKept n done rs → All (RowOwn n) rs
+  all-own : (done rs : List Row) → RowsKept n done rs → Each (RowOwn n) rs
   all-own done [] k = tt
   all-own done (r ∷ rs) k = (k .0 .own, all-own (done ++ (r ∷ [])) rs (k .1))
 
@@ -64,14 +64,14 @@ module _ (n : ℕ) (differ : (done : List Row) (r : Row) → RowNew n done r →
       let one = length-append done (r ∷ []) in
       omega (arith, one, few-rows (done ++ (r ∷ [])) rs (omega (arith, one, k .0 .few)) (k .1))
 
-  rising-rows : (k : ℕ) (done rs : List Row) → All (λ (r : Row). rowId r < k) done → Rising rowId k rs → All (RowOwn n) rs → length done + length rs ≤ rowLimit → RowsKept n done rs
+  rising-rows : (k : ℕ) (done rs : List Row) → Each (λ (r : Row). rowId r < k) done → Rising rowId k rs → Each (RowOwn n) rs → length done + length rs ≤ rowLimit → RowsKept n done rs
   unfolding hasId
   rising-rows k done [] below rise own few = tt
   rising-rows k done (r ∷ rs) below rise own few =
       let i = rowId r in (
         record { own = own .0; new = enough done r (below-lacks rowId k i done below (rise .0)); few = omega arith },
         rising-rows (suc i) (done ++ (r ∷ [])) rs
-            (all-last (λ (q : Row). rowId q < suc i) done r (all-weaker (λ (q : Row). rowId q < k) (λ (q : Row). rowId q < suc i) (λ q h. omega (arith, rise .0)) done below) (omega arith))
+            (each-more (λ (q : Row). rowId q < suc i) done r (each-then (λ (q : Row). rowId q < k) (λ (q : Row). rowId q < suc i) (λ q h. omega (arith, rise .0)) done below) (omega arith))
             (rise .1) (own .1) (omega (arith, length-append done (r ∷ []))),
       )
 

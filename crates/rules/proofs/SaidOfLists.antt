@@ -1,13 +1,14 @@
--- Laws of what the grammar says of lists: being one of a list, every one being so, no two being equal; along lists joined
--- and mapped, and as tests. By one step along the list. Assumes nothing.
+-- Laws of what the grammar says of lists: being one of a list, no two being equal; along lists joined and mapped, and as
+-- tests. By one step along the list. Assumes nothing.
 use Prim.Native.Nat.{suc}
 use mathlib.Core.Path.{_≡_, refl, sym, ap, _∙_}
 use mathlib.Core.Logic.{_⊎_, inl, inr, _↔_}
 use mathlib.Core.Bool.{Bool, true, false, false≢true, not, _&&_, _||_}
 use mathlib.Core.List.{List, [], _∷_, _++_, map}
 use lib.ListN.{length}
-use Rattle.rules.specs.Lists.{every, any}
-use Rattle.rules.specs.GrammarLines.{In, Each, Differ}
+use Rattle.rules.specs.Lists.{every, any, Each}
+use Rattle.rules.specs.GrammarLines.{In, Differ}
+use Rattle.rules.proofs.Elements.{map-append}
 
 module _ {A : Type 0} where
   -- ---- one of a list
@@ -33,36 +34,6 @@ module _ {A : Type 0} where
   pub in-last : (x : A) (xs : List A) → In x (xs ++ (x ∷ []))
   in-last x xs = in-back x xs (x ∷ []) (inl refl)
 
-  -- ---- every one
-
-  module _ (P : A → Type 0) where
-    pub each-joined : (xs ys : List A) → Each P xs → Each P ys → Each P (xs ++ ys)
-    each-joined [] ys a b = b
-    each-joined (x ∷ xs) ys a b = (a .0, each-joined xs ys (a .1) b)
-
-    pub each-front : (xs ys : List A) → Each P (xs ++ ys) → Each P xs
-    each-front [] ys a = tt
-    each-front (x ∷ xs) ys a = (a .0, each-front xs ys (a .1))
-
-    pub each-back : (xs ys : List A) → Each P (xs ++ ys) → Each P ys
-    each-back [] ys a = a
-    each-back (x ∷ xs) ys a = each-back xs ys (a .1)
-
-    pub each-more : (xs : List A) (x : A) → Each P xs → P x → Each P (xs ++ (x ∷ []))
-    each-more xs x a b = each-joined xs (x ∷ []) a (b, tt)
-
-    pub each-of : (xs : List A) → ((x : A) → P x) → Each P xs
-    each-of [] f = tt
-    each-of (x ∷ xs) f = (f x, each-of xs f)
-
-  pub each-then : (P Q : A → Type 0) → ((x : A) → P x → Q x) → (xs : List A) → Each P xs → Each Q xs
-  each-then P Q f [] a = tt
-  each-then P Q f (x ∷ xs) a = (f x (a .0), each-then P Q f xs (a .1))
-
-  pub each-both : (P Q : A → Type 0) (xs : List A) → Each P xs → Each Q xs → Each (λ (x : A). P x × Q x) xs
-  each-both P Q [] a b = tt
-  each-both P Q (x ∷ xs) a b = ((a .0, b .0), each-both P Q xs (a .1) (b .1))
-
   -- ---- no two equal
 
   pub differ-more : (xs : List A) (x : A) → Differ xs → (In x xs → ⊥) → Differ (xs ++ (x ∷ []))
@@ -83,10 +54,6 @@ module _ {A : Type 0} where
 -- ---- mapped
 
 module _ {A B : Type 0} (g : A → B) where
-  pub map-joined : (xs ys : List A) → map g (xs ++ ys) ≡ map g xs ++ map g ys
-  map-joined [] ys = refl
-  map-joined (x ∷ xs) ys = ap (λ (zs : List B). g x ∷ zs) (map-joined xs ys)
-
   pub length-map : (xs : List A) → length (map g xs) ≡ length xs
   length-map [] = refl
   length-map (x ∷ xs) = ap suc (length-map xs)
@@ -101,19 +68,11 @@ module _ {A B : Type 0} (g : A → B) where
   in-mapped y (x ∷ xs) (inl e) = (x, inl refl, sym e)
   in-mapped y (x ∷ xs) (inr i) = let r = in-mapped y xs i in (r .0, inr (r .1), r .2)
 
-  pub each-map : (P : B → Type 0) (xs : List A) → Each (λ (x : A). P (g x)) xs → Each P (map g xs)
-  each-map P [] a = tt
-  each-map P (x ∷ xs) a = (a .0, each-map P xs (a .1))
-
-  pub each-mapped : (P : B → Type 0) (xs : List A) → Each P (map g xs) → Each (λ (x : A). P (g x)) xs
-  each-mapped P [] a = tt
-  each-mapped P (x ∷ xs) a = (a .0, each-mapped P xs (a .1))
-
   pub differ-map-more : (xs : List A) (x : A) → Differ (map g xs) → (In (g x) (map g xs) → ⊥) → Differ (map g (xs ++ (x ∷ [])))
-  differ-map-more xs x d n = rw (map-joined xs (x ∷ [])) (differ-more (map g xs) (g x) d n)
+  differ-map-more xs x d n = rw (map-append g xs (x ∷ [])) (differ-more (map g xs) (g x) d n)
 
   pub differ-map-next : (xs : List A) (x : A) (ys : List A) → Differ (map g (xs ++ (x ∷ ys))) → In (g x) (map g xs) → ⊥
-  differ-map-next xs x ys d = differ-next (map g xs) (g x) (map g ys) (rw (map-joined xs (x ∷ ys)) at d)
+  differ-map-next xs x ys d = differ-next (map g xs) (g x) (map g ys) (rw (map-append g xs (x ∷ ys)) at d)
 
 -- ---- as tests
 

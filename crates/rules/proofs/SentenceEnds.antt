@@ -10,18 +10,19 @@ use mathlib.Core.List.{List, [], _∷_, _++_, map}
 use lib.ListN.{length, length-append}
 use lib.Dec.{eqb}
 use borrow.Author.Tests.{eqb-true, eqb-false, eq-eqb}
-use Rattle.rules.specs.Lists.{bytes, every, counting}
+use Rattle.rules.specs.Lists.{bytes, every, counting, Each}
 use Rattle.rules.specs.Texts.{Text}
 use Rattle.rules.specs.Columns.{columns, written}
 use Rattle.rules.specs.Numbers.{sentenceNumber, number, value}
 use Rattle.rules.specs.Sentences.{Edge, Node, Sentence, edgeCount, edgesOf, listed, parented, endRules, endOf}
 use Rattle.rules.specs.Lines.{Phase, Answer, next}
-use Rattle.rules.specs.GrammarLines.{In, Each}
+use Rattle.rules.specs.GrammarLines.{In}
+use Rattle.rules.proofs.EachElement.{each-then, each-map, each-mapped, each-joined, each-front, each-back}
 use Rattle.rules.proofs.ColumnsSaid.{columns-said}
 use Rattle.rules.proofs.BareColumns.{columnAt}
 use Rattle.rules.specs.GrammarNodes.{EdgeSaid, NodeLine, PhraseLine}
 use Rattle.rules.specs.GrammarSentences.{EosFits, numbersOf, nodesOf, secondaryEdges, ParentsThere}
-use Rattle.rules.proofs.SaidOfLists.{length-map, and-both-ways, or-both-ways, every-each, each-every, each-then, each-map, each-mapped, each-joined, each-front, each-back}
+use Rattle.rules.proofs.SaidOfLists.{length-map, and-both-ways, or-both-ways, every-each, each-every}
 use Rattle.rules.proofs.TestsAsFacts.{good-some, some-good, some-value, is-listed, numbersOfNodes}
 use Rattle.rules.proofs.KeywordsAsSaid.{two-columns, columns-two, name-second}
 use Rattle.rules.proofs.NodeColumns.{Side, sideOf, sideSaid}

@@ -6,7 +6,7 @@ use mathlib.Core.Path.{_≡_, refl, sym, ap, ap₂, _∙_, subst}
 use mathlib.Core.Bool.{Bool, true, false}
 use mathlib.Core.List.{List, [], _∷_, _++_, map, append-assoc, append-nil}
 use lib.ListN.{length, length-append, length-map}
-use Rattle.rules.specs.Lists.{empty, every, bytes, joined, member}
+use Rattle.rules.specs.Lists.{empty, every, bytes, joined, member, Each}
 use Rattle.rules.specs.Bytes.{ignored}
 use Rattle.rules.specs.Texts.{Text}
 use Rattle.rules.specs.Numbers.{wordLimit, edgeLimit}
@@ -16,8 +16,9 @@ use Rattle.rules.specs.Lines.{Preamble, Phase, top, inSentence, behindSe
 use Rattle.rules.specs.Reading.{Reading, numbers, read}
 use Rattle.rules.specs.Meaning.{bareNode, bareHeading, nodeNumber, sentenceNumberOf}
 use Rattle.rules.specs.Tidy.{space, digitsOf, keywordLine, nodeLine, headingLine, sentenceText}
+use Rattle.rules.proofs.EachElement.{each-more, each-then}
 use Rattle.rules.proofs.ReadLines.{read-append}
-use Rattle.rules.proofs.Elements.{All, all-last, all-weaker, map-append}
+use Rattle.rules.proofs.Elements.{map-append}
 use Rattle.rules.proofs.Sorting.{has, Rising, below-lacks}
 use Rattle.rules.proofs.PrintedLines.{parted-printed, parted-plain}
 use Rattle.rules.proofs.KeywordLines.{keyed, keyed-number-fit, end-granted}
@@ -73,7 +74,7 @@ module _ (p : Preamble) (ss : List Sentence) (h : Heading) where
         stands = node-read s (moreWord s) n x b (k .node .fit) (r .stands);
       }
 
-  words-read : (todo done : List Node) (x : Reading) → All (WordKept (means p)) todo → Counted (length done) todo → length done + length todo ≤ wordLimit
+  words-read : (todo done : List Node) (x : Reading) → Each (WordKept (means p)) todo → Counted (length done) todo → length done + length todo ≤ wordLimit
       → edgeCount done + edgeCount todo ≤ edgeLimit → PartRead p (made h done []) ss x → PartRead p (made h (done ++ todo) []) ss (read x (joined (map nodeLine todo)))
   words-read [] done x k c few room r = subst (λ (ws : List Node). PartRead p (made h ws []) ss x) (sym (append-nil done)) r
   words-read (n ∷ todo) done x k c few room r =
@@ -100,15 +101,15 @@ module _ (p : Preamble) (ss : List Sentence) (h : Heading) where
           stands = node-read s (morePhrase s) n x b (k .node .fit) (r .stands);
         }
 
-    phrases-read : (todo : List Node) (i : ℕ) (done : List Node) (x : Reading) → All (PhraseKept (means p)) todo → All (λ (n : Node). n .number < i) done → Rising nodeNumber i todo
+    phrases-read : (todo : List Node) (i : ℕ) (done : List Node) (x : Reading) → Each (PhraseKept (means p)) todo → Each (λ (n : Node). n .number < i) done → Rising nodeNumber i todo
         → edgeCount ws + edgeCount done + edgeCount todo ≤ edgeLimit → PartRead p (made h ws done) ss x → PartRead p (made h ws (done ++ todo)) ss (read x (joined (map nodeLine todo)))
     phrases-read [] i done x k below rise room r = subst (λ (ps : List Node). PartRead p (made h ws ps) ss x) (sym (append-nil done)) r
     phrases-read (n ∷ todo) i done x k below rise room r =
         let m = n .number in
         let one = phrase-read n done x (k .0) (below-lacks nodeNumber i m done below (rise .0)) (omega arith) r in
         let more =
-        all-last (λ (q : Node). q .number < suc m) done n
-        (all-weaker (λ (q : Node). q .number < i) (λ (q : Node). q .number < suc m) (λ q z. omega (arith, rise .0)) done below) (omega arith) in
+        each-more (λ (q : Node). q .number < suc m) done n
+        (each-then (λ (q : Node). q .number < i) (λ (q : Node). q .number < suc m) (λ q z. omega (arith, rise .0)) done below) (omega arith) in
         let all = phrases-read todo (suc m) (done ++ (n ∷ [])) (read x (nodeLine n)) (k .1) more (rise .1) (omega (arith, edges-append done (n ∷ []))) one in
         subst (λ (y : Reading). PartRead p (made h ws (done ++ (n ∷ todo))) ss y) (sym (read-append x (nodeLine n) (joined (map nodeLine todo))))
         (subst (λ (ps : List Node). PartRead p (made h ws ps) ss (read (read x (nodeLine n)) (joined (map nodeLine todo)))) (append-assoc done (n ∷ []) todo) all)
@@ -200,22 +201,22 @@ module _ (p : Preamble) (ss : List Sentence) where
 -- ---- the sentences by number
 
 module _ (p : Preamble) where
-  pub sentences-read : (todo : List Sentence) (i : ℕ) (done : List Sentence) (x : Reading) → All (λ (s : Sentence). SentenceKept (means p) s × Rising nodeNumber 0 (s .phrases)) todo
-      → All (λ (s : Sentence). sentenceNumberOf s < i) done → Rising sentenceNumberOf i todo → Stands (behindSentence p) done x
+  pub sentences-read : (todo : List Sentence) (i : ℕ) (done : List Sentence) (x : Reading) → Each (λ (s : Sentence). SentenceKept (means p) s × Rising nodeNumber 0 (s .phrases)) todo
+      → Each (λ (s : Sentence). sentenceNumberOf s < i) done → Rising sentenceNumberOf i todo → Stands (behindSentence p) done x
       → Stands (behindSentence p) (done ++ todo) (read x (joined (map sentenceText todo)))
   sentences-read [] i done x k below rise st = subst (λ (ss : List Sentence). Stands (behindSentence p) ss x) (sym (append-nil done)) st
   sentences-read (s ∷ todo) i done x k below rise st =
       let n = sentenceNumberOf s in
       let one = sentence-read p done false s x (k .0 .0) (k .0 .1) (below-lacks sentenceNumberOf i n done below (rise .0)) st in
       let more =
-      all-last (λ (q : Sentence). sentenceNumberOf q < suc n) done s
-      (all-weaker (λ (q : Sentence). sentenceNumberOf q < i) (λ (q : Sentence). sentenceNumberOf q < suc n) (λ q z. omega (arith, rise .0)) done below) (omega arith) in
+      each-more (λ (q : Sentence). sentenceNumberOf q < suc n) done s
+      (each-then (λ (q : Sentence). sentenceNumberOf q < i) (λ (q : Sentence). sentenceNumberOf q < suc n) (λ q z. omega (arith, rise .0)) done below) (omega arith) in
       let all = sentences-read todo (suc n) (done ++ (s ∷ [])) (read x (sentenceText s)) (k .1) more (rise .1) one in
       subst (Stands (behindSentence p) (done ++ (s ∷ todo))) (sym (read-append x (sentenceText s) (joined (map sentenceText todo))))
       (subst (λ (ss : List Sentence). Stands (behindSentence p) ss (read (read x (sentenceText s)) (joined (map sentenceText todo)))) (append-assoc done (s ∷ []) todo) all)
 
   -- the first stands behind the tables
-  pub all-sentences-read : (s : Sentence) (todo : List Sentence) (x : Reading) → All (λ (s : Sentence). SentenceKept (means p) s × Rising nodeNumber 0 (s .phrases)) (s ∷ todo)
+  pub all-sentences-read : (s : Sentence) (todo : List Sentence) (x : Reading) → Each (λ (s : Sentence). SentenceKept (means p) s × Rising nodeNumber 0 (s .phrases)) (s ∷ todo)
       → Rising sentenceNumberOf 0 (s ∷ todo) → Stands (top p) [] x → Stands (behindSentence p) (s ∷ todo) (read x (joined (map sentenceText (s ∷ todo))))
   all-sentences-read s todo x k rise st =
       let one = sentence-read p [] true s x (k .0 .0) (k .0 .1) refl st in

@@ -6,19 +6,20 @@ use mathlib.Core.Path.{_≡_, refl, sym, ap, _∙_, subst}
 use mathlib.Core.Bool.{true}
 use mathlib.Core.List.{List, [], _∷_, _++_, map, append-assoc, append-nil}
 use lib.ListN.{length, length-append}
-use Rattle.rules.specs.Lists.{bytes, empty}
+use Rattle.rules.specs.Lists.{bytes, empty, Each}
 use Rattle.rules.specs.Texts.{Text, reads}
 use Rattle.rules.specs.Numbers.{wordLimit, edgeLimit, phraseNumber}
 use Rattle.rules.specs.Sentences.{Node, Sentence, listed, edgesOf, endOf}
 use Rattle.rules.specs.Nodes.{wordOf, phraseOf}
 use Rattle.rules.specs.Keywords.{firstColumn, startsPhrase}
 use Rattle.rules.specs.Lines.{Preamble, Phase, inSentence, hand, next, withWord, withPhrase, amongNodes, lineAt}
-use Rattle.rules.specs.GrammarLines.{Each, Differ}
+use Rattle.rules.specs.GrammarLines.{Differ}
+use Rattle.rules.proofs.Elements.{map-append}
 use Rattle.rules.proofs.BareColumns.{columnAt}
 use Rattle.rules.specs.GrammarTables.{TableLines}
 use Rattle.rules.specs.GrammarNodes.{NodeLine, PhraseLine, WordFits, PhraseFits}
 use Rattle.rules.specs.GrammarSentences.{numbersOf, nodesOf, secondaryEdges, nodeLines}
-use Rattle.rules.proofs.SaidOfLists.{map-joined, differ-map-next, false-if-never}
+use Rattle.rules.proofs.SaidOfLists.{differ-map-next, false-if-never}
 use Rattle.rules.proofs.TestsAsFacts.{numbersOfNodes}
 use Rattle.rules.proofs.TablesAsSaid.{Stand}
 use Rattle.rules.proofs.KeywordsAsSaid.{starts-first}
@@ -97,7 +98,7 @@ module _ (p : Preamble) (ts : List TableLines) (stand : Stand (p .tables) ts) (u
   phrases-follow words (q ∷ rest) phrases s a f d room k =
       let ls = nodeLines (nodesOf rest) ++ tail in
       let again = append-assoc phrases (q ∷ []) rest in
-      let nodes : nodesOf (phrases ++ (q ∷ rest)) ≡ nodesOf phrases ++ (q .node ∷ nodesOf rest) = map-joined (λ (p : PhraseLine). p .node) phrases (q ∷ rest) in
+      let nodes : nodesOf (phrases ++ (q ∷ rest)) ≡ nodesOf phrases ++ (q .node ∷ nodesOf rest) = map-append (λ (p : PhraseLine). p .node) phrases (q ∷ rest) in
       one-line (q .node .line) ls (inSentence p s) used (λ line e st.
       let at-first : firstColumn line .bytes ≡ q .node .first = starts-first line st ∙ ap (columnAt 0) e ∙ front-column (q .node .line) (q .node .first) _ (f .0 .node .columns) in
       taken-phrase (Follows ls) line s

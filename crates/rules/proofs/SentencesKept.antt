@@ -8,13 +8,14 @@ use mathlib.Core.Bool.{Bool, true, false, _&&_, _||_}
 use mathlib.Core.List.{List, [], _∷_, _++_, map}
 use lib.ListN.{length, length-append, length-map}
 use lib.Dec.{eqb}
-use Rattle.rules.specs.Lists.{every, counting, sorted}
+use Rattle.rules.specs.Lists.{every, counting, sorted, Each}
 use Rattle.rules.specs.Numbers.{wordLimit, edgeLimit}
 use Rattle.rules.specs.Tables.{Tables}
 use Rattle.rules.specs.Sentences.{Edge, Node, Heading, Sentence, edgeCount, edgesOf, listed, gapless, parented}
 use Rattle.rules.specs.Meaning.{bareEdge, bareNode, bareHeading, nodeNumber, meantSentence}
+use Rattle.rules.proofs.EachElement.{each-more}
 use Rattle.rules.proofs.Conjunctions.{every-append, every-front, every-back, every-map}
-use Rattle.rules.proofs.Elements.{All, all-last, any-map}
+use Rattle.rules.proofs.Elements.{any-map}
 use Rattle.rules.proofs.Sorting.{Distinct, total, total-sorted, any-sorted, every-sorted, length-sorted, all-sorted, distinct-last, sorted-distinct, map-sorted}
 use Rattle.rules.proofs.NodesKept.{WordKept, PhraseKept}
 use Rattle.rules.proofs.Headings.{HeadingKept}
@@ -34,10 +35,10 @@ Counted k (n ∷ ns) = (n .number ≡ k) × Counted (suc k) ns
 -- a sentence that is being read
 pub record PartKept (ts : Tables) (s : Sentence) : Type 0 where
   pub heading : HeadingKept ts (s .heading)
-  pub words : All (WordKept ts) (s .words)
+  pub words : Each (WordKept ts) (s .words)
   pub counted : Counted 0 (s .words)
   pub few : length (s .words) ≤ wordLimit
-  pub phrases : All (PhraseKept ts) (s .phrases)
+  pub phrases : Each (PhraseKept ts) (s .phrases)
   pub distinct : Distinct nodeNumber (s .phrases)
   pub edges : edgesOf s ≤ edgeLimit
 
@@ -67,7 +68,7 @@ module _ (ts : Tables) (s : Sentence) (k : PartKept ts s) (n : Node) (room : edg
   part-word w e h =
       record {
         heading = k .heading;
-        words = all-last (WordKept ts) (s .words) n (k .words) w;
+        words = each-more (WordKept ts) (s .words) n (k .words) w;
         counted = counted-last 0 (s .words) n (k .counted) (omega (arith, e));
         few = omega (arith, length-append (s .words) (n ∷ []));
         phrases = k .phrases;
@@ -83,7 +84,7 @@ module _ (ts : Tables) (s : Sentence) (k : PartKept ts s) (n : Node) (room : edg
         words = k .words;
         counted = k .counted;
         few = k .few;
-        phrases = all-last (PhraseKept ts) (s .phrases) n (k .phrases) p;
+        phrases = each-more (PhraseKept ts) (s .phrases) n (k .phrases) p;
         distinct = distinct-last nodeNumber (s .phrases) n (k .distinct) e;
         edges = omega (arith, edges-append (s .phrases) (n ∷ []));
       }

@@ -18,8 +18,10 @@ use Rattle.rules.specs.GrammarTables.{TableLines}
 use Rattle.rules.specs.GrammarNodes.{NodeLine, PhraseLine, WordFits, PhraseFits}
 use Rattle.rules.specs.GrammarSentences.{SentenceLines, SentenceFits, numbersOf, nodesOf, secondaryEdges, nodeLines, sentenceLines}
 use Rattle.rules.specs.Grammar.{sentenceNumbers}
+use Rattle.rules.proofs.EachElement.{each-more}
+use Rattle.rules.proofs.Elements.{map-append}
 use Rattle.rules.proofs.NoOthers.{no-others}
-use Rattle.rules.proofs.SaidOfLists.{length-map, map-joined, each-more, differ-map-more, or-both-ways}
+use Rattle.rules.proofs.SaidOfLists.{length-map, differ-map-more, or-both-ways}
 use Rattle.rules.proofs.TestsAsFacts.{reads-are, numbersOfNodes}
 use Rattle.rules.proofs.KeywordsAsSaid.{first-starts, starts-first}
 use Rattle.rules.proofs.HeadsAsSaid.{front-first}
@@ -36,10 +38,10 @@ use Rattle.rules.proofs.LineByLine.{Through}
 pub maps-more : {A B C : Type 0} (f : A → C) (g : B → C) (xs : List A) (ys : List B) (x : A) (y : B) → map f xs ≡ map g ys → f x ≡ g y
     → map f (xs ++ (x ∷ [])) ≡ map g (ys ++ (y ∷ []))
 maps-more {C = C} f g xs ys x y e q =
-    map-joined f xs (x ∷ []) ∙ ap (λ (zs : List C). zs ++ (f x ∷ [])) e ∙ ap (λ (z : C). map g ys ++ (z ∷ [])) q ∙ sym (map-joined g ys (y ∷ []))
+    map-append f xs (x ∷ []) ∙ ap (λ (zs : List C). zs ++ (f x ∷ [])) e ∙ ap (λ (z : C). map g ys ++ (z ∷ [])) q ∙ sym (map-append g ys (y ∷ []))
 
 pub nodes-more : (ps : List PhraseLine) (p : PhraseLine) → nodesOf (ps ++ (p ∷ [])) ≡ nodesOf ps ++ (p .node ∷ [])
-nodes-more ps p = map-joined (λ (p : PhraseLine). p .node) ps (p ∷ [])
+nodes-more ps p = map-append (λ (p : PhraseLine). p .node) ps (p ∷ [])
 
 pub edges-more : (ns : List NodeLine) (n : NodeLine) → length (secondaryEdges (ns ++ (n ∷ []))) ≡ length (secondaryEdges ns) + length (n .secondary)
 edges-more ns n = ap length (joined-more (λ (n : NodeLine). n .secondary) ns n) ∙ length-append (secondaryEdges ns) (n .secondary)
@@ -97,7 +99,7 @@ module _ (K : Phase → List ℕ → Type 0) (used : List ℕ) (done : List (Lis
                     used-are =
                         ap (λ (ns : List ℕ). ns ++ (s .heading .number ∷ [])) (r .prior .used-are)
                         ∙ ap (λ (n : ℕ). sentenceNumbers (r .prior .ss) ++ (n ∷ [])) (r .alike .its-number)
-                        ∙ sym (map-joined (λ (s : SentenceLines). s .head .number) (r .prior .ss) (t ∷ []));
+                        ∙ sym (map-append (λ (s : SentenceLines). s .head .number) (r .prior .ss) (t ∷ []));
                   };
               both = r .both;
               lines =
@@ -159,7 +161,7 @@ module _ (K : Phase → List ℕ → Type 0) (used : List ℕ) (done : List (Lis
                   (append-assoc (r .head .line ∷ nodeLines (r .words)) (nodeLines (nodesOf (r .phrases))) (line .bytes ∷ [])
                   ∙ ap (λ (l : List ℕ). r .head .line ∷ nodeLines (r .words) ++ (nodeLines (nodesOf (r .phrases)) ++ (l ∷ []))) (sym (o .its-line))
                   ∙ ap (λ (ls : List (List ℕ)). r .head .line ∷ nodeLines (r .words) ++ ls)
-                  (sym (map-joined (λ (n : NodeLine). n .line) (nodesOf (r .phrases)) (o .phrase .node ∷ [])) ∙ ap nodeLines (sym more)));
+                  (sym (map-append (λ (n : NodeLine). n .line) (nodesOf (r .phrases)) (o .phrase .node ∷ [])) ∙ ap nodeLines (sym more)));
             };
         starts = starts;
         kept = o .goes-on;
@@ -207,7 +209,7 @@ module _ (K : Phase → List ℕ → Type 0) (used : List ℕ) (done : List (Lis
                   ap (λ (ls : List (List ℕ)). ls ++ (line .bytes ∷ [])) (r .lines)
                   ∙ word-lines (priorLines p used (r .prior)) (nodeLines (r .words)) (nodeLines (nodesOf (r .phrases))) (line .bytes) (r .head .line) (ap (λ (ps : List PhraseLine). nodeLines (nodesOf ps)) none-yet)
                   ∙ ap (λ (ls : List (List ℕ)). priorLines p used (r .prior) ++ (r .head .line ∷ ls ++ nodeLines (nodesOf (r .phrases))))
-                  (ap (λ (l : List ℕ). nodeLines (r .words) ++ (l ∷ [])) (sym (o .its-line)) ∙ sym (map-joined (λ (n : NodeLine). n .line) (r .words) (o .node ∷ [])));
+                  (ap (λ (l : List ℕ). nodeLines (r .words) ++ (l ∷ [])) (sym (o .its-line)) ∙ sym (map-append (λ (n : NodeLine). n .line) (r .words) (o .node ∷ [])));
             };
         starts = starts;
         kept = o .goes-on;

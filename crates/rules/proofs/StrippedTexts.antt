@@ -7,10 +7,10 @@ use mathlib.Core.Logic.{_⊎_, inl, inr}
 use mathlib.Core.Bool.{Bool, true, false}
 use mathlib.Core.List.{List, [], _∷_, _++_, append-nil}
 use lib.ListN.{length, length-append}
-use Rattle.rules.specs.Lists.{pick}
+use Rattle.rules.specs.Lists.{pick, Each}
 use Rattle.rules.specs.Bytes.{white}
 use Rattle.rules.specs.Texts.{Text, unlessWhite, rightTrim, trimFrom, trim}
-use Rattle.rules.specs.GrammarLines.{Each, White, Starts}
+use Rattle.rules.specs.GrammarLines.{White, Starts}
 use Rattle.rules.specs.GrammarColumns.{Stripped}
 use Rattle.rules.proofs.SaidOfLists.{never-both, false-if-never}
 use Rattle.rules.proofs.PlaceFree.{trim-free}

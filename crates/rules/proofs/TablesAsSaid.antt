@@ -16,7 +16,8 @@ use Rattle.rules.specs.Texts.{Text, reads}
 use Rattle.rules.specs.Tables.{Tables, Row, tableNames, placeFrom, tableNamed, noTables, table, there, present, closed, rowsOf, hasId, hasTag, dashes, unknown, reserved, known}
 use Rattle.rules.specs.GrammarLines.{In}
 use Rattle.rules.specs.GrammarTables.{TableLines, whiches, HasRow, Known}
-use Rattle.rules.proofs.SaidOfLists.{in-front, in-either, in-last, in-map, in-mapped, map-joined, or-both-ways, true-or-not}
+use Rattle.rules.proofs.Elements.{map-append}
+use Rattle.rules.proofs.SaidOfLists.{in-front, in-either, in-last, in-map, in-mapped, or-both-ways, true-or-not}
 use Rattle.rules.proofs.TestsAsFacts.{reads-are, has-id, has-tag}
 use Rattle.rules.proofs.RowsAlike.{Alike}
 
@@ -75,7 +76,7 @@ stand-none = record { seven = refl; slot = λ w. subst (λ (o : Option (List Row
 module _ (T : Tables) (ts : List TableLines) (s : Stand T ts) where
   module _ (t : TableLines) (rs : List Row) (h : t .which < 7) (new : In (t .which) (whiches ts) → ⊥) (a : Alike rs (t .rows)) where
     in-which : (w : ℕ) → In w (whiches (ts ++ (t ∷ []))) → In w (whiches ts) ⊎ (w ≡ t .which)
-    in-which w i = either (in-either w (whiches ts) (t .which ∷ []) (rw (map-joined (λ (t : TableLines). t .which) ts (t ∷ [])) at i))
+    in-which w i = either (in-either w (whiches ts) (t .which ∷ []) (rw (map-append (λ (t : TableLines). t .which) ts (t ∷ [])) at i))
       where
         either : In w (whiches ts) ⊎ In w (t .which ∷ []) → In w (whiches ts) ⊎ (w ≡ t .which)
         either (inl i) = inl i
@@ -100,7 +101,7 @@ module _ (T : Tables) (ts : List TableLines) (s : Stand T ts) where
         either (inl i) = k i
         either (inr e) = n e
     slot-other w (some qs) n k = (
-      rw (map-joined (λ (t : TableLines). t .which) ts (t ∷ [])) (in-front w (whiches ts) (t .which ∷ []) (k .0)),
+      rw (map-append (λ (t : TableLines). t .which) ts (t ∷ [])) (in-front w (whiches ts) (t .which ∷ []) (k .0)),
       λ u i q. either u q (in-either u ts (t ∷ []) i),
     )
       where

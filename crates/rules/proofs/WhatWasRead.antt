@@ -4,12 +4,12 @@ use Prim.Native.Nat.{ℕ, _+_, _≤_, _<_}
 use mathlib.Core.Path.{_≡_, sym, ap, _∙_}
 use mathlib.Core.List.{List, [], _∷_, _++_, map, append-assoc, append-nil}
 use lib.ListN.{length}
-use Rattle.rules.specs.Lists.{bytes, joined}
+use Rattle.rules.specs.Lists.{bytes, joined, Each}
 use Rattle.rules.specs.Numbers.{wordLimit, edgeLimit}
 use Rattle.rules.specs.Tables.{Row, origins, editors}
 use Rattle.rules.specs.Sentences.{Sentence}
 use Rattle.rules.specs.Lines.{Preamble, Phase, start, top, inTable, inSentence, behindSentence}
-use Rattle.rules.specs.GrammarLines.{In, Each, Differ}
+use Rattle.rules.specs.GrammarLines.{In, Differ}
 use Rattle.rules.specs.GrammarRows.{RowLine}
 use Rattle.rules.specs.GrammarTables.{TableLines, RowsFit, Names, TableFits, tableLines, whiches}
 use Rattle.rules.specs.GrammarNodes.{NodeLine, PhraseLine, WordFits, PhraseFits}

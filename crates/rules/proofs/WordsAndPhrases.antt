@@ -10,7 +10,7 @@ use mathlib.Core.List.{List, [], _∷_, _++_, map}
 use lib.ListN.{length, drop}
 use lib.Dec.{ltb}
 use borrow.Author.Tests.{leb-true, le-leb, ltb-true, lt-ltb}
-use Rattle.rules.specs.Lists.{bytes}
+use Rattle.rules.specs.Lists.{bytes, Each}
 use Rattle.rules.specs.Texts.{Text, noText}
 use Rattle.rules.specs.Columns.{columns, text, fields, comment}
 use Rattle.rules.specs.Numbers.{wordLimit, edgeLimit, phraseNumber, number, value}
@@ -19,13 +19,13 @@ use Rattle.rules.specs.Tables.{Tables, wordTags, nodeTags}
 use Rattle.rules.specs.Sentences.{Node}
 use Rattle.rules.specs.Nodes.{Pair, secondaryParent, itsPairs, shaped, roomy, behindHash, wordOf, phraseOf}
 use Rattle.rules.specs.Lines.{Phase, Answer, next}
-use Rattle.rules.specs.GrammarLines.{Each}
+use Rattle.rules.proofs.EachElement.{each-then}
 use Rattle.rules.proofs.ColumnsSaid.{said-front}
 use Rattle.rules.proofs.BareColumns.{frontColumns}
 use Rattle.rules.specs.GrammarTables.{TableLines}
 use Rattle.rules.specs.GrammarNodes.{EdgeSaid, NodeLine, PhraseLine, nodeColumns, EdgeFits, WordFits, PhraseFits}
 use Rattle.rules.proofs.PlaceFree.{front-columns}
-use Rattle.rules.proofs.SaidOfLists.{length-map, and-both-ways, not-both-ways, each-then}
+use Rattle.rules.proofs.SaidOfLists.{length-map, and-both-ways, not-both-ways}
 use Rattle.rules.proofs.TestsAsFacts.{good-some, some-good, some-value}
 use Rattle.rules.proofs.TablesAsSaid.{Stand}
 use Rattle.rules.proofs.NodeColumns.{saidPair, PairsAre, shaped-columns, columns-shaped, sideOf, sideSaid}

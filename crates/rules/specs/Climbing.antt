@@ -7,15 +7,10 @@ use mathlib.Core.Bool.{true}
 use mathlib.Core.List.{List, [], _∷_}
 use lib.ListN.{length, getD}
 use lib.Dec.{eqb}
-use Rattle.rules.specs.Lists.{pick, every}
+use Rattle.rules.specs.Lists.{pick, every, Each}
 use Rattle.rules.specs.Tables.{Tables, wordTags, morphTags, nodeTags, edgeTags, secEdgeTags, known}
 use Rattle.rules.specs.Sentences.{Edge, Node, Sentence, knownEditor, knownOrigin, listed}
 use Rattle.rules.specs.Sheets.{nodeWidth, nodes}
-
--- of each element of a list
-abbrev pub Each : {A : Type 0} → (A → Type 0) → List A → Type 0
-Each P [] = Unit
-Each P (x ∷ xs) = P x × Each P xs
 
 -- ---- references
 

@@ -6,9 +6,9 @@ use mathlib.Core.Path.{_≡_}
 use mathlib.Core.Option.{some}
 use mathlib.Core.List.{List, [], _∷_, _++_, map}
 use lib.ListN.{length}
-use Rattle.rules.specs.Lists.{bytes, joined}
+use Rattle.rules.specs.Lists.{bytes, joined, Each}
 use Rattle.rules.specs.Numbers.{fileLimit, formatNumber, number}
-use Rattle.rules.specs.GrammarLines.{Each, Differ, LineFits, linesWritten, Heeded, Starts}
+use Rattle.rules.specs.GrammarLines.{Differ, LineFits, linesWritten, Heeded, Starts}
 use Rattle.rules.specs.GrammarColumns.{Columns}
 use Rattle.rules.specs.GrammarTables.{TableLines, TablesFit, tableLines}
 use Rattle.rules.specs.GrammarSentences.{SentenceLines, SentenceFits, sentenceLines}

@@ -6,9 +6,9 @@ use mathlib.Core.Path.{_≡_}
 use mathlib.Core.Logic.{_⊎_}
 use mathlib.Core.List.{List, [], _∷_, _++_}
 use lib.ListN.{length}
-use Rattle.rules.specs.Lists.{bytes}
+use Rattle.rules.specs.Lists.{bytes, Each}
 use Rattle.rules.specs.Bytes.{percents}
-use Rattle.rules.specs.GrammarLines.{Each, White, Starts}
+use Rattle.rules.specs.GrammarLines.{White, Starts}
 
 -- ---- columns
 

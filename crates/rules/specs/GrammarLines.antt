@@ -5,7 +5,7 @@ use mathlib.Core.Path.{_≡_}
 use mathlib.Core.Logic.{_⊎_}
 use mathlib.Core.List.{List, [], _∷_, _++_, map}
 use lib.ListN.{length}
-use Rattle.rules.specs.Lists.{joined}
+use Rattle.rules.specs.Lists.{Each, joined}
 use Rattle.rules.specs.Bytes.{newline, percents}
 use Rattle.rules.specs.Numbers.{lineLimit}
 
@@ -15,11 +15,6 @@ use Rattle.rules.specs.Numbers.{lineLimit}
 abbrev pub In : {A : Type 0} → A → List A → Type 0
 In x [] = ⊥
 In x (y ∷ ys) = (x ≡ y) ⊎ In x ys
-
--- every one of the list is so
-abbrev pub Each : {A : Type 0} → (A → Type 0) → List A → Type 0
-Each P [] = Unit
-Each P (x ∷ xs) = P x × Each P xs
 
 -- no two of the list are equal
 abbrev pub Differ : {A : Type 0} → List A → Type 0

@@ -7,10 +7,9 @@ use mathlib.Core.Logic.{_⊎_}
 use mathlib.Core.Option.{some}
 use mathlib.Core.List.{List, [], _∷_, _++_, map}
 use lib.ListN.{length}
-use Rattle.rules.specs.Lists.{bytes, joined}
+use Rattle.rules.specs.Lists.{bytes, joined, Each}
 use Rattle.rules.specs.Numbers.{phraseNumber, number, parentNumber}
 use Rattle.rules.specs.Tables.{wordTags, morphTags, nodeTags, edgeTags, secEdgeTags, tagLimit, dashes}
-use Rattle.rules.specs.GrammarLines.{Each}
 use Rattle.rules.specs.GrammarColumns.{Front}
 use Rattle.rules.specs.GrammarTables.{TableLines, Known}
 

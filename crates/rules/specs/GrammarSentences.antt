@@ -6,10 +6,10 @@ use mathlib.Core.Logic.{_⊎_, _↔_}
 use mathlib.Core.Option.{some}
 use mathlib.Core.List.{List, [], _∷_, _++_, map}
 use lib.ListN.{length}
-use Rattle.rules.specs.Lists.{bytes, joined}
+use Rattle.rules.specs.Lists.{bytes, joined, Each}
 use Rattle.rules.specs.Numbers.{wordLimit, edgeLimit, sentenceNumber, originId, date, number, signedId}
 use Rattle.rules.specs.Tables.{origins, editors}
-use Rattle.rules.specs.GrammarLines.{In, Each, Differ}
+use Rattle.rules.specs.GrammarLines.{In, Differ}
 use Rattle.rules.specs.GrammarColumns.{Columns, Front}
 use Rattle.rules.specs.GrammarTables.{TableLines, HasRow}
 use Rattle.rules.specs.GrammarNodes.{EdgeSaid, NodeLine, WordFits, PhraseLine, PhraseFits}

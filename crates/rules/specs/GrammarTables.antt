@@ -6,10 +6,10 @@ use mathlib.Core.Logic.{_⊎_, _↔_}
 use mathlib.Core.Bool.{Bool}
 use mathlib.Core.List.{List, [], _∷_, _++_, map}
 use lib.ListN.{length, getD}
-use Rattle.rules.specs.Lists.{pick, bytes, counting}
+use Rattle.rules.specs.Lists.{pick, bytes, counting, Each}
 use Rattle.rules.specs.Numbers.{rowLimit}
 use Rattle.rules.specs.Tables.{origins, editors, wordTags, tableNames, dashes, unknown}
-use Rattle.rules.specs.GrammarLines.{In, Each, Differ}
+use Rattle.rules.specs.GrammarLines.{In, Differ}
 use Rattle.rules.specs.GrammarColumns.{Columns}
 use Rattle.rules.specs.GrammarRows.{RowLine, ids1, firsts, OriginRow, EditorRow, TagRow}
 

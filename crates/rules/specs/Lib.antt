@@ -25,3 +25,4 @@ pub mod GrammarTables
 pub mod GrammarNodes
 pub mod GrammarSentences
 pub mod Grammar
+pub mod Cutting

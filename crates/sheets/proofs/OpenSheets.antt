@@ -8,16 +8,18 @@ use native.Mathlib.Nat.{mul-suc}
 use native.Mathlib.Omega.{arith}
 use lib.ListN.{length, getD, set, replicate, length-append, length-set, length-map, length-replicate, List·getD-map, List·getD-append, replicate-append-replicate}
 use lib.Seq.{set-append-left, set-getD, set-set, getD-set-same}
-use Rattle.rules.specs.Lists.{joined}
+use Rattle.rules.specs.Lists.{Each, joined}
 use Rattle.rules.specs.Numbers.{rowLimit}
 use Rattle.rules.specs.Tables.{Row, Tables, rowsOf, table, closed, noTables}
 use Rattle.rules.specs.Sheets.{count, rowWidth, rowNumbers, rowsRoom, tableSheetSize, tableSheet}
+use Rattle.rules.proofs.Elements.{set-map}
+use Rattle.rules.proofs.EachElement.{each-then, each-map}
 use Rattle.sheets.specs.Splices.{splice}
 use Rattle.sheets.specs.SheetRows.{tableCount, tableRoom, rowPlace}
 use Rattle.sheets.specs.OpenSheets.{sheetOf, openSheet}
-use Rattle.sheets.specs.Standing.{Each, RowsFit, TableFits, TablesFit}
-use Rattle.sheets.proofs.Each.{each-set, each-map, each-weaker, each-replicate}
-use Rattle.sheets.proofs.Maps.{map-set, map-at}
+use Rattle.sheets.specs.Standing.{RowsFit, TableFits, TablesFit}
+use Rattle.sheets.proofs.Each.{each-set, each-replicate}
+use Rattle.sheets.proofs.Maps.{map-at}
 use Rattle.sheets.proofs.Splices.{splice-behind}
 use Rattle.sheets.proofs.Rooms.{Wide, length-joined, splice-joined, length-room, room-row, room-none, room-cleared}
 
@@ -28,8 +30,8 @@ AllFit tables = Each RowsFit tables
 
 pub rooms-wide : (tables : List (List Row)) → AllFit tables → Wide tableRoom (map rowsRoom tables)
 rooms-wide tables fit =
-    each-map (λ (l : List ℕ). length l ≡ tableRoom) rowsRoom tables
-    (each-weaker RowsFit (λ (rs : List Row). length (rowsRoom rs) ≡ tableRoom) length-room tables fit)
+    each-map rowsRoom (λ (l : List ℕ). length l ≡ tableRoom) tables
+    (each-then RowsFit (λ (rs : List Row). length (rowsRoom rs) ≡ tableRoom) length-room tables fit)
 
 pub length-sheet-of : (counts : List ℕ) (tables : List (List Row)) → length counts ≡ tableCount
     → length tables ≡ tableCount → AllFit tables
@@ -56,7 +58,7 @@ module _ (counts : List ℕ) (tables : List (List Row)) (c : length counts ≡ t
       ∙ ap (λ (l : List ℕ). counts ++ l)
       (splice-joined tableRoom n rooms at vs (rooms-wide tables fit) (omega arith) room
       ∙ ap (λ (l : List ℕ). joined (set rooms n l)) (ap (splice at vs) (map-at rowsRoom tables n [] [] h) ∙ e)
-      ∙ ap joined (sym (map-set rowsRoom tables n rs)))
+      ∙ ap joined (sym (set-map rowsRoom tables n rs)))
 
 pub table-sheet : (ts : Tables) → tableSheet ts ≡ sheetOf (map count ts) (map rowsOf ts)
 unfolding tableSheet sheetOf
@@ -100,7 +102,7 @@ module _ (ts : Tables) (fits : TablesFit ts) where
   rows-seven = length-map ts rowsOf ∙ fits .seven
 
   pub all-fit : AllFit (map rowsOf ts)
-  all-fit = each-map RowsFit rowsOf ts (fits .fit)
+  all-fit = each-map rowsOf RowsFit ts (fits .fit)
 
   pub length-table-sheet : length (tableSheet ts) ≡ tableSheetSize
   length-table-sheet =
@@ -158,8 +160,8 @@ sheet-closed ts n h rs =
     let sized : length (map count ts) ≡ length ts = length-map ts count in
     set-append-left (map count ts) (joined (map rowsRoom (set (map rowsOf ts) n rs))) n (suc (length rs)) (omega arith)
     ∙ ap₂ (λ (counts : List ℕ) (tables : List (List Row)). counts ++ joined (map rowsRoom tables))
-    (sym (map-set count ts n (some rs)))
-    (sym (map-set rowsOf ts n (some rs)))
+    (sym (set-map count ts n (some rs)))
+    (sym (set-map rowsOf ts n (some rs)))
     ∙ sym (table-sheet (closed n rs ts))
 
 pub sheet-given-up : (ts : Tables) → TablesFit ts → (n : ℕ) → n < tableCount → table n ts ≡ none

@@ -1,18 +1,18 @@
 -- Lists of one width, one behind the other, and the room of a table among them. Assumes nothing.
 use mathlib.Core.Path.{_≡_, refl, sym, ap, ap₂, _∙_}
-use mathlib.Core.List.{List, [], _∷_, _++_, map, append-assoc}
+use mathlib.Core.List.{List, [], _∷_, _++_, map}
 use Prim.Native.Nat.{ℕ, zero, suc, _+_, _-_, _*_, _≤_, _<_}
 use native.Mathlib.Nat.{mul-zero, mul-suc, suc-sub-suc, zero-sub, sub-zero, not-suc-le-zero, le-of-suc-le-suc}
 use native.Mathlib.Omega.{arith}
 use lib.ListN.{length, drop, getD, set, replicate, length-append, length-replicate}
 use lib.Seq.{drop-append-add}
-use Rattle.rules.specs.Lists.{joined}
+use Rattle.rules.specs.Lists.{Each, joined}
 use Rattle.rules.specs.Tables.{Row}
 use Rattle.rules.specs.Sheets.{filledUp, rowWidth, rowNumbers, rowsRoom}
+use Rattle.rules.proofs.Elements.{map-append, joined-append}
 use Rattle.sheets.specs.Splices.{splice}
 use Rattle.sheets.specs.SheetRows.{tableRoom}
-use Rattle.sheets.specs.Standing.{Each, RowsFit}
-use Rattle.sheets.proofs.Maps.{map-append}
+use Rattle.sheets.specs.Standing.{RowsFit}
 use Rattle.sheets.proofs.Splices.{splice-seam, splice-behind, splice-within, splice-whole}
 
 -- ---- any width
@@ -60,11 +60,6 @@ module _ (width : ℕ) where
       ap (λ (k : ℕ). splice k vs (xs ++ joined xss)) k
       ∙ splice-behind xs vs (joined xss) (width * n + at)
       ∙ ap (λ (l : List ℕ). xs ++ l) (splice-joined n xss at vs (w .1) (le-of-suc-le-suc h) room)
-
-pub joined-append : (xss yss : List (List ℕ)) → joined (xss ++ yss) ≡ joined xss ++ joined yss
-joined-append [] yss = refl
-joined-append (xs ∷ xss) yss =
-    ap (λ (l : List ℕ). xs ++ l) (joined-append xss yss) ∙ sym (append-assoc xs (joined xss) (joined yss))
 
 pub drop-replicate : (k m : ℕ) → _≡_ {A = List ℕ} (drop k (replicate m 0)) (replicate (m - k) 0)
 drop-replicate zero m = rw sub-zero

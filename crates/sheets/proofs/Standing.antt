@@ -10,9 +10,10 @@ use lib.ListN.{length, take, drop, length-take, length-drop}
 use lib.Seq.{take-nil, take-take, length-take-le}
 use Rattle.rules.specs.Texts.{Text, noText, given}
 use Rattle.rules.specs.Tables.{Row, Tables, rowsOf, closed, noTables}
+use Rattle.rules.proofs.EachElement.{each-then, each-more}
 use Rattle.sheets.specs.SheetRows.{tableCount, textAt}
 use Rattle.sheets.specs.Standing.{Stands, RowStands, RowsStand, TableStands, TablesStand}
-use Rattle.sheets.proofs.Each.{each-set, each-append, each-replicate, each-weaker}
+use Rattle.sheets.proofs.Each.{each-set, each-replicate}
 
 -- a part that ends in the head is the same part of the file
 pub part-of-head : (file : List ℕ) (start len end : ℕ) → start + len ≤ end
@@ -76,11 +77,11 @@ module _ (file longer : List ℕ) (grows : (t : Text) → Stands file t → Stan
   row-stands-in r s = record { first = grows (r .first) (s .first); second = grows (r .second) (s .second) }
 
   pub rows-stand-in : (rs : List Row) → RowsStand file rs → RowsStand longer rs
-  rows-stand-in = each-weaker (RowStands file) (RowStands longer) row-stands-in
+  rows-stand-in = each-then (RowStands file) (RowStands longer) row-stands-in
 
   pub tables-stand-in : (ts : Tables) → TablesStand file ts → TablesStand longer ts
   tables-stand-in =
-      each-weaker (TableStands file) (TableStands longer) (λ t. rows-stand-in (rowsOf t))
+      each-then (TableStands file) (TableStands longer) (λ t. rows-stand-in (rowsOf t))
 
 module _ (file : List ℕ) (end further : ℕ) (h : end ≤ further) where
   pub rows-stand-further : (rs : List Row) → RowsStand (take end file) rs → RowsStand (take further file) rs
@@ -100,7 +101,7 @@ module _ (file : List ℕ) (end : ℕ) where
 
 module _ (file : List ℕ) where
   pub rows-stand-more : (rs : List Row) (r : Row) → RowsStand file rs → RowStands file r → RowsStand file (rs ++ (r ∷ []))
-  rows-stand-more rs r s one = each-append (RowStands file) rs (r ∷ []) s (one, tt)
+  rows-stand-more rs r s one = each-more (RowStands file) rs r s one
 
   pub none-stand : TablesStand file noTables
   none-stand = each-replicate (TableStands file) tableCount none tt

@@ -2,16 +2,13 @@
 use Prim.Native.Nat.{ℕ, _+_, _*_, _≤_, _<_}
 use mathlib.Core.Path.{_≡_}
 use mathlib.Core.Option.{Option}
-use mathlib.Core.List.{List, [], _∷_}
+use mathlib.Core.List.{List}
 use lib.ListN.{length, take, drop, getD}
+use Rattle.rules.specs.Lists.{Each}
 use Rattle.rules.specs.Texts.{Text}
 use Rattle.rules.specs.Numbers.{rowLimit}
 use Rattle.rules.specs.Tables.{Row, Tables, rowsOf}
 use Rattle.sheets.specs.SheetRows.{tableCount}
-
-abbrev pub Each : {A : Type 0} → (A → Type 0) → List A → Type 0
-Each P [] = Unit {0}
-Each P (x ∷ xs) = P x × Each P xs
 
 abbrev pub RowsFit : List Row → Type 0
 RowsFit rs = length rs ≤ rowLimit

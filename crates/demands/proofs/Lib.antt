@@ -1,0 +1,5 @@
+pub mod Outcomes
+pub mod Accepted
+pub mod SentenceNumbers
+pub mod CutSurveyed
+pub mod Records

@@ -1,0 +1,3 @@
+pub mod Surveying
+pub mod Cutting
+pub mod Opening

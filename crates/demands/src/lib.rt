@@ -1,0 +1,1 @@
+// What the three demands say of a call of the library: statements in specs/, theorems in proofs/. No code.
