@@ -3,3 +3,4 @@ pub mod Accepted
 pub mod SentenceNumbers
 pub mod CutSurveyed
 pub mod Records
+pub mod TidySurveyed

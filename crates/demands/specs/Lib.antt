@@ -1,3 +1,4 @@
 pub mod Surveying
 pub mod Cutting
 pub mod Opening
+pub mod Tidying

@@ -11,8 +11,9 @@ use Rattle.rules.specs.Lists.{pick, between, every, same, Each}
 use Rattle.rules.specs.Bytes.{white, legal, ignored, percents}
 use Rattle.rules.specs.Columns.{goesOn}
 use Rattle.rules.specs.GrammarLines.{Legal, White, Ignored, Heeded, no-line, ignored-line, heeded-line, Starts}
+use Rattle.rules.proofs.Conjunctions.{false-if-never}
 use Rattle.rules.proofs.EachElement.{each-then}
-use Rattle.rules.proofs.SaidOfLists.{every-each, each-every, and-both-ways, or-both-ways, not-both-ways, false-if-never}
+use Rattle.rules.proofs.SaidOfLists.{every-each, each-every, and-both-ways, or-both-ways, not-both-ways}
 use Rattle.rules.proofs.TestsAsFacts.{leb-is, eqb-is, same-is}
 
 between-said : (low high b : ℕ) → (between low high b ≡ true) ↔ ((low ≤ b) × (b ≤ high))

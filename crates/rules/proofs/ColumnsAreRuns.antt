@@ -12,11 +12,12 @@ use Rattle.rules.specs.Bytes.{white}
 use Rattle.rules.specs.Texts.{Text}
 use Rattle.rules.specs.Columns.{Column, goesOn, columnsFrom, texts}
 use Rattle.rules.specs.GrammarLines.{White}
+use Rattle.rules.proofs.Conjunctions.{false-if-never}
 use Rattle.rules.proofs.BareColumns.{allColumns}
 use Rattle.rules.specs.GrammarColumns.{Run, Parted, Begins, no-column, one-column}
 use Rattle.rules.proofs.ColumnLaws.{columnOf, columns-skip, columns-run}
 use Rattle.rules.proofs.PlaceFree.{all-columns}
-use Rattle.rules.proofs.SaidOfLists.{true-or-not, never-both, false-if-never}
+use Rattle.rules.proofs.SaidOfLists.{true-or-not, never-both}
 use Rattle.rules.proofs.BytesAsSaid.{white-said, every-said}
 
 -- ---- what stands in a line is all that begins it

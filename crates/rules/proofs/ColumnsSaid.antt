@@ -13,10 +13,11 @@ use Rattle.rules.specs.Bytes.{percents}
 use Rattle.rules.specs.Texts.{Text}
 use Rattle.rules.specs.Columns.{Column, columnsFrom, column, written, texts, fields}
 use Rattle.rules.specs.GrammarLines.{White}
+use Rattle.rules.proofs.Conjunctions.{false-if-never}
 use Rattle.rules.proofs.BareColumns.{allColumns, frontColumns, restBehind}
 use Rattle.rules.specs.GrammarColumns.{Begins, no-column, one-column, Columns, Front}
 use Rattle.rules.proofs.ColumnLaws.{columnOf}
-use Rattle.rules.proofs.SaidOfLists.{length-map, false-if-never}
+use Rattle.rules.proofs.SaidOfLists.{length-map}
 use Rattle.rules.proofs.TestsAsFacts.{same-is}
 use Rattle.rules.proofs.ColumnsAreRuns.{one-run, white-none, columns-begin, columns-only, columns-whole}
 

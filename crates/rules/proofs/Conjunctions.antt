@@ -32,6 +32,10 @@ pub or-right : (a b : Bool) → (a || b) ≡ false → b ≡ false
 or-right true b e = cc
 or-right false b e = e
 
+pub false-if-never : (a : Bool) → (a ≡ true → ⊥) → a ≡ false
+false-if-never true n = absurd (n refl)
+false-if-never false n = refl
+
 pub or-found : (a b : Bool) → b ≡ true → (a || b) ≡ true
 or-found true b e = refl
 or-found false b e = e

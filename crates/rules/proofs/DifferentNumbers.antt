@@ -9,7 +9,7 @@ use lib.Dec.{eqb}
 use lib.ListN.{length}
 use borrow.Author.Tests.{eqb-true, eqb-false, eq-eqb, ne-eqb}
 use Rattle.rules.specs.Lists.{pick, every, member, counting}
-use Rattle.rules.proofs.Conjunctions.{and-left, and-right, and-both, not-true, or-left, or-right, every-first, every-rest}
+use Rattle.rules.proofs.Conjunctions.{and-left, and-right, and-both, not-true, or-left, or-right, false-if-never, or-found, every-first, every-rest}
 
 -- two tests that imply each other
 pub both-ways : (a b : Bool) → (a ≡ true → b ≡ true) → (b ≡ true → a ≡ true) → a ≡ b
@@ -83,10 +83,6 @@ distinct-added (m ∷ ns) n d e =
 
 -- ---- every, number by number
 
-pub either : (a b : Bool) → b ≡ true → (a || b) ≡ true
-either true b e = refl
-either false b e = e
-
 pub every-member : (f : ℕ → Bool) (ns : List ℕ) (n : ℕ) → every f ns ≡ true → member n ns ≡ true → f n ≡ true
 every-member f [] n e m = absurd (let z : _≡_ {A = ℕ} 0 1 = cc in omega arith)
 every-member f (k ∷ ns) n e m = by (eqb n k) refl m (every-member f ns n (every-rest f k ns e))
@@ -98,11 +94,7 @@ every-member f (k ∷ ns) n e m = by (eqb n k) refl m (every-member f ns n (ever
 pub every-each : (f : ℕ → Bool) (ns : List ℕ) → ((n : ℕ) → member n ns ≡ true → f n ≡ true) → every f ns ≡ true
 every-each f [] h = refl
 every-each f (k ∷ ns) h =
-    and-both (f k) (every f ns) (h k (rw (eq-eqb k k refl))) (every-each f ns (λ n m. h n (either (eqb n k) (member n ns) m)))
-
-pub absent : (a : Bool) → (a ≡ true → ⊥) → a ≡ false
-absent true h = absurd (h refl)
-absent false h = refl
+    and-both (f k) (every f ns) (h k (rw (eq-eqb k k refl))) (every-each f ns (λ n m. h n (or-found (eqb n k) (member n ns) m)))
 
 -- ---- the numbers counted from a place on
 
@@ -132,5 +124,5 @@ pub counting-distinct : (from count : ℕ) → distinct (counting from count) �
 counting-distinct from zero = refl
 counting-distinct from (suc count) =
     and-both (not (member from (counting (suc from) count))) (distinct (counting (suc from) count))
-    (ap not (absent (member from (counting (suc from) count)) (λ e. omega (arith, counting-told from (suc from) count e .0))))
+    (ap not (false-if-never (member from (counting (suc from) count)) (λ e. omega (arith, counting-told from (suc from) count e .0))))
     (counting-distinct (suc from) count)

@@ -20,12 +20,13 @@ use Rattle.rules.specs.Sentences.{Heading, knownEditor, headingOf}
 use Rattle.rules.specs.Lines.{Phase, Answer, next}
 use Rattle.rules.specs.GrammarLines.{In}
 use Rattle.rules.specs.GrammarColumns.{Front}
+use Rattle.rules.proofs.Conjunctions.{false-if-never}
 use Rattle.rules.proofs.ColumnsSaid.{front-said, said-front}
 use Rattle.rules.proofs.BareColumns.{frontColumns, columnAt}
 use Rattle.rules.specs.GrammarTables.{TableLines, whiches, HasRow}
 use Rattle.rules.specs.GrammarSentences.{HeadLine, HeadFits}
 use Rattle.rules.proofs.PlaceFree.{column-there, front-columns}
-use Rattle.rules.proofs.SaidOfLists.{and-both-ways, or-both-ways, not-both-ways, false-if-never}
+use Rattle.rules.proofs.SaidOfLists.{and-both-ways, or-both-ways, not-both-ways}
 use Rattle.rules.proofs.TestsAsFacts.{reads-are, good-some, some-good, some-value}
 use Rattle.rules.proofs.TablesAsSaid.{Stand, is-there, has-row}
 use Rattle.rules.proofs.LineByLine.{Through, through-held, held-through, bytesOf}

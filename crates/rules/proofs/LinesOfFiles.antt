@@ -15,11 +15,12 @@ use Rattle.rules.specs.Texts.{Text}
 use Rattle.rules.specs.Lines.{Phase, start, behindSentence, Answer, refuse, go, hand, taken, step, atEnd}
 use Rattle.rules.specs.Reading.{Handed, Reading, begin, numbers, ended, closing, read, outcome}
 use Rattle.rules.specs.GrammarLines.{Legal, linesWritten, LineFits}
+use Rattle.rules.proofs.Conjunctions.{false-if-never}
 use Rattle.rules.proofs.EachElement.{each-then, each-map, each-mapped}
 use Rattle.rules.proofs.Elements.{map-append}
 use Rattle.rules.proofs.ReadLines.{hasNewline, read-part, read-line, read-fault}
 use Rattle.rules.proofs.BytesAsSaid.{legal-said, every-said, heededOf}
-use Rattle.rules.proofs.SaidOfLists.{and-both-ways, never-both, false-if-never}
+use Rattle.rules.proofs.SaidOfLists.{and-both-ways, never-both}
 use Rattle.rules.proofs.RefusalNumbers.{FromOne, step-from-one}
 use Rattle.rules.proofs.LineByLine.{Through, Read, Takes, read-takes, takes-read, takes-end, takes-then, heededTexts, heeded-bytes, Accepting, bytesOf}
 

@@ -11,7 +11,8 @@ use Rattle.rules.specs.Lists.{pick}
 use Rattle.rules.specs.Bytes.{percents}
 use Rattle.rules.specs.Texts.{Text, startsComment, frontBytes, behindFrom, behind}
 use Rattle.rules.specs.GrammarColumns.{NoPair, NameAndNote}
-use Rattle.rules.proofs.SaidOfLists.{never-both, false-if-never}
+use Rattle.rules.proofs.Conjunctions.{false-if-never}
+use Rattle.rules.proofs.SaidOfLists.{never-both}
 use Rattle.rules.proofs.TestsAsFacts.{same-is}
 
 -- ---- two adjacent percent signs

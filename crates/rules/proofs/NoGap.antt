@@ -10,10 +10,10 @@ use lib.ListN.{length}
 use borrow.Author.Tests.{eqb-true, eq-eqb, leb-true, le-leb, lt-ltb, le-ltb, ltb-true, ltb-false}
 use Rattle.rules.specs.Lists.{pick, every, member, counting}
 use Rattle.rules.specs.Sentences.{Node, listed, gapless}
-use Rattle.rules.proofs.Conjunctions.{and-left, and-right, and-both, every-append}
+use Rattle.rules.proofs.Conjunctions.{and-left, and-right, and-both, false-if-never, or-found, every-append}
 use Rattle.rules.proofs.Counting.{length-counting}
 use Rattle.rules.proofs.Largest.{larger, larger-left, larger-right, larger-assoc}
-use Rattle.rules.proofs.DifferentNumbers.{both-ways, distinct, distinct-added, among, no-more, either, absent, every-member, every-each, counting-told, counting-inside, counting-distinct}
+use Rattle.rules.proofs.DifferentNumbers.{both-ways, distinct, distinct-added, among, no-more, every-member, every-each, counting-told, counting-inside, counting-distinct}
 
 -- ---- the highest of numbers from 500 on, 499 if there is none
 
@@ -39,7 +39,7 @@ top-reached [] h = absurd (omega arith)
 top-reached (n ∷ ns) h = by (ltb n (top ns)) h (top-reached ns)
   where
     by : (t : Bool) → 499 < pick t (top ns) n → (499 < top ns → member (top ns) ns ≡ true) → (eqb (pick t (top ns) n) n || member (pick t (top ns) n) ns) ≡ true
-    by true h more = either (eqb (top ns) n) (member (top ns) ns) (more h)
+    by true h more = or-found (eqb (top ns) n) (member (top ns) ns) (more h)
     by false h more = rw (eq-eqb n n refl)
 
 -- ---- different numbers from 500 on fill what is below the highest exactly where that is 499 and their count
@@ -60,7 +60,7 @@ module _ (ns : List ℕ) (low : fromPhrases ns ≡ true) (apart : distinct ns �
   no-higher : filled ns ≡ true → 499 + length ns < top ns → ⊥
   no-higher e h =
       let outside : member (top ns) (counting 500 (length ns)) ≡ false =
-      absent (member (top ns) (counting 500 (length ns))) (λ m. omega (arith, counting-told (top ns) 500 (length ns) m .1)) in
+      false-if-never (member (top ns) (counting 500 (length ns))) (λ m. omega (arith, counting-told (top ns) 500 (length ns) m .1)) in
       let more = no-more (top ns ∷ counting 500 (length ns)) ns
       (and-both (not (member (top ns) (counting 500 (length ns)))) (distinct (counting 500 (length ns))) (ap not outside) (counting-distinct 500 (length ns)))
       (and-both (among ns (top ns)) (filled ns) (top-reached ns (omega arith)) e) in

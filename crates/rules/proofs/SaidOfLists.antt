@@ -99,10 +99,6 @@ true-or-not false = inr refl
 pub never-both : (a : Bool) → a ≡ true → a ≡ false → ⊥
 never-both a t f = false≢true (sym f ∙ t)
 
-pub false-if-never : (a : Bool) → (a ≡ true → ⊥) → a ≡ false
-false-if-never true n = absurd (n refl)
-false-if-never false n = refl
-
 module _ {A : Type 0} (f : A → Bool) where
   pub every-each : (xs : List A) → every f xs ≡ true → Each (λ (x : A). f x ≡ true) xs
   every-each [] e = tt

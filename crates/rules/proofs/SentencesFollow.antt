@@ -14,12 +14,13 @@ use Rattle.rules.specs.Nodes.{wordOf, phraseOf}
 use Rattle.rules.specs.Keywords.{firstColumn, startsPhrase}
 use Rattle.rules.specs.Lines.{Preamble, Phase, inSentence, hand, next, withWord, withPhrase, amongNodes, lineAt}
 use Rattle.rules.specs.GrammarLines.{Differ}
+use Rattle.rules.proofs.Conjunctions.{false-if-never}
 use Rattle.rules.proofs.Elements.{map-append}
 use Rattle.rules.proofs.BareColumns.{columnAt}
 use Rattle.rules.specs.GrammarTables.{TableLines}
 use Rattle.rules.specs.GrammarNodes.{NodeLine, PhraseLine, WordFits, PhraseFits}
 use Rattle.rules.specs.GrammarSentences.{numbersOf, nodesOf, secondaryEdges, nodeLines}
-use Rattle.rules.proofs.SaidOfLists.{differ-map-next, false-if-never}
+use Rattle.rules.proofs.SaidOfLists.{differ-map-next}
 use Rattle.rules.proofs.TestsAsFacts.{numbersOfNodes}
 use Rattle.rules.proofs.TablesAsSaid.{Stand}
 use Rattle.rules.proofs.KeywordsAsSaid.{starts-first}

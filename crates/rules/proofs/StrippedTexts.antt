@@ -12,7 +12,8 @@ use Rattle.rules.specs.Bytes.{white}
 use Rattle.rules.specs.Texts.{Text, unlessWhite, rightTrim, trimFrom, trim}
 use Rattle.rules.specs.GrammarLines.{White, Starts}
 use Rattle.rules.specs.GrammarColumns.{Stripped}
-use Rattle.rules.proofs.SaidOfLists.{never-both, false-if-never}
+use Rattle.rules.proofs.Conjunctions.{false-if-never}
+use Rattle.rules.proofs.SaidOfLists.{never-both}
 use Rattle.rules.proofs.PlaceFree.{trim-free}
 use Rattle.rules.proofs.BytesAsSaid.{white-said}
 

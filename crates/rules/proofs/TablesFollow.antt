@@ -14,13 +14,14 @@ use Rattle.rules.specs.Rows.{rowOf}
 use Rattle.rules.specs.Keywords.{formatOf, tableOpened, tableEnded, firstColumn, startsRow}
 use Rattle.rules.specs.Lines.{Preamble, Phase, start, top, inTable, go, next, cannotStand, atStart, atTop, behindOne, withTable, withRow, amongRows, lineAt}
 use Rattle.rules.specs.GrammarLines.{In, Differ}
+use Rattle.rules.proofs.Conjunctions.{false-if-never}
 use Rattle.rules.proofs.EachElement.{each-back}
 use Rattle.rules.proofs.BareColumns.{columnAt}
 use Rattle.rules.specs.GrammarRows.{RowLine, OriginRow, EditorRow, TagRow}
 use Rattle.rules.specs.GrammarTables.{TableLines, RowsFit, Names, TableFits, tableLines, whiches}
 use Rattle.rules.specs.Grammar.{FormatFits}
 use Rattle.rules.proofs.BytesAsSaid.{Started}
-use Rattle.rules.proofs.SaidOfLists.{differ-map-next, false-if-never}
+use Rattle.rules.proofs.SaidOfLists.{differ-map-next}
 use Rattle.rules.proofs.TestsAsFacts.{reads-are}
 use Rattle.rules.proofs.RowsAsRead.{said-origin, said-editor, said-tag}
 use Rattle.rules.proofs.RowsAlike.{Alike, none-alike, alike-more}
