@@ -1,7 +1,7 @@
--- `survey::with_word` meets its contract. Assumes nothing.
+-- `survey::states::with_word` meets its contract. Assumes nothing.
 use borrow.Author.Needs.{needs}
-use Rattle.survey.proofs.with_word.Statement.{statement}
-use Rattle.survey.proofs.with_word.Tie as tie
+use Rattle.survey.proofs.states.with_word.Statement.{statement}
+use Rattle.survey.proofs.states.with_word.Tie as tie
 
 add-t4 : tie.Need-add-t4
 add-t4 c = search needs

@@ -1,7 +1,7 @@
--- `survey::now_in_table` meets its contract. Assumes nothing.
+-- `survey::states::now_in_table` meets its contract. Assumes nothing.
 use borrow.Author.Needs.{needs}
-use Rattle.survey.proofs.now_in_table.Statement.{statement}
-use Rattle.survey.proofs.now_in_table.Tie as tie
+use Rattle.survey.proofs.states.now_in_table.Statement.{statement}
+use Rattle.survey.proofs.states.now_in_table.Tie as tie
 
 no-tally-requires : tie.Need-no-tally-requires
 no-tally-requires c κs = search needs

@@ -1,7 +1,7 @@
--- `survey::now_handed_out` meets its contract. Assumes nothing.
+-- `survey::states::now_handed_out` meets its contract. Assumes nothing.
 use borrow.Author.Needs.{needs}
-use Rattle.survey.proofs.now_handed_out.Statement.{statement}
-use Rattle.survey.proofs.now_handed_out.Tie as tie
+use Rattle.survey.proofs.states.now_handed_out.Statement.{statement}
+use Rattle.survey.proofs.states.now_handed_out.Tie as tie
 
 no-tally-requires : tie.Need-no-tally-requires
 no-tally-requires c κs = search needs

@@ -1,4 +1,4 @@
--- `survey::write_marks` meets its contract. Assumes nothing.
+-- `survey::buffers::write_marks` meets its contract. Assumes nothing.
 use borrow.Author.Needs.{needs}
 use native.Mathlib.Omega.{arith}
 use Prim.Native.Nat.{_≤_}
@@ -9,8 +9,8 @@ use Rattle.judging.specs.declared.Step.the-variants.{Phrase}
 use Rattle.rules.specs.Numbers.{fileLimit}
 use Rattle.survey.specs.Applying.{marksAfter, Markable}
 use Rattle.survey.proofs.Unwritten.{marks-unwritten}
-use Rattle.survey.proofs.write_marks.Statement.{statement}
-use Rattle.survey.proofs.write_marks.Tie as tie
+use Rattle.survey.proofs.buffers.write_marks.Statement.{statement}
+use Rattle.survey.proofs.buffers.write_marks.Tie as tie
 
 markable : (t : tie.After-step) → Markable (Phrase (t .step .given .0 .0) (t .step .given .0 .1 .0) (t .step .given .0 .1 .1 .0)) (t .before .before .args .s) (length (t .before .before .args .marks .now))
 markable t = subst (λ (y : Step). Markable y (t .before .before .args .s) (length (t .before .before .args .marks .now))) (t .step .given .1) (t .before .before .pre)

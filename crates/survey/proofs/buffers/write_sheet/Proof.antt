@@ -1,4 +1,4 @@
--- `survey::write_sheet` meets its contract. Assumes nothing.
+-- `survey::buffers::write_sheet` meets its contract. Assumes nothing.
 use borrow.Author.Needs.{needs}
 use native.Mathlib.Omega.{arith}
 use Prim.Native.Nat.{_+_, _≤_, _<_}
@@ -11,8 +11,8 @@ use Rattle.rules.specs.Numbers.{fileLimit}
 use Rattle.sheets.specs.SheetRows.{rowPlace}
 use Rattle.survey.specs.Applying.{sheetAfter, Writable}
 use Rattle.survey.proofs.Unwritten.{sheet-unwritten}
-use Rattle.survey.proofs.write_sheet.Statement.{statement}
-use Rattle.survey.proofs.write_sheet.Tie as tie
+use Rattle.survey.proofs.buffers.write_sheet.Statement.{statement}
+use Rattle.survey.proofs.buffers.write_sheet.Tie as tie
 
 abbrev state : tie.After-slice-known → State
 state a = a .before .args .s

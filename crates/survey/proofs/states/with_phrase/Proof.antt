@@ -1,7 +1,7 @@
--- `survey::with_phrase` meets its contract. Assumes nothing.
+-- `survey::states::with_phrase` meets its contract. Assumes nothing.
 use borrow.Author.Needs.{needs}
-use Rattle.survey.proofs.with_phrase.Statement.{statement}
-use Rattle.survey.proofs.with_phrase.Tie as tie
+use Rattle.survey.proofs.states.with_phrase.Statement.{statement}
+use Rattle.survey.proofs.states.with_phrase.Tie as tie
 
 add-t5 : tie.Need-add-t5
 add-t5 c = search needs

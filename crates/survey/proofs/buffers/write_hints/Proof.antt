@@ -1,4 +1,4 @@
--- `survey::write_hints` meets its contract: a row's first text lies in the file. Assumes nothing.
+-- `survey::buffers::write_hints` meets its contract: a row's first text lies in the file. Assumes nothing.
 use borrow.Author.Needs.{needs}
 use native.Mathlib.Omega.{arith}
 use Prim.Native.Nat.{_+_, _≤_, _<_}
@@ -6,8 +6,8 @@ use mathlib.Core.Path.{subst}
 use lib.ListN.{length}
 use Rattle.judging.specs.declared.Step.{Step}
 use Rattle.survey.specs.Applying.{Hintable}
-use Rattle.survey.proofs.write_hints.Statement.{statement}
-use Rattle.survey.proofs.write_hints.Tie as tie
+use Rattle.survey.proofs.buffers.write_hints.Statement.{statement}
+use Rattle.survey.proofs.buffers.write_hints.Tie as tie
 
 abbrev entry : tie.After-step → tie.Start
 entry k = k .before .before .before

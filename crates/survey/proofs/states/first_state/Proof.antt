@@ -1,7 +1,7 @@
--- `survey::first_state` meets its contract. Assumes nothing.
+-- `survey::states::first_state` meets its contract. Assumes nothing.
 use borrow.Author.Needs.{needs}
-use Rattle.survey.proofs.first_state.Statement.{statement}
-use Rattle.survey.proofs.first_state.Tie as tie
+use Rattle.survey.proofs.states.first_state.Statement.{statement}
+use Rattle.survey.proofs.states.first_state.Tie as tie
 
 no-tally-requires : tie.Need-no-tally-requires
 no-tally-requires c κs = search needs

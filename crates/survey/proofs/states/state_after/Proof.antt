@@ -1,4 +1,4 @@
--- `survey::state_after` meets its contract. Assumes nothing.
+-- `survey::states::state_after` meets its contract. Assumes nothing.
 use borrow.Author.Needs.{needs}
 use native.Mathlib.Omega.{arith}
 use Prim.Native.Nat.{_≤_}
@@ -9,8 +9,8 @@ use Rattle.judging.specs.declared.Step.{Step}
 use Rattle.judging.specs.declared.Step.the-variants.{Ignored, Format, TableEnded, SentenceEnded}
 use Rattle.survey.specs.Applying.{inSentence, stateAfter, Following}
 use Rattle.rules.specs.Numbers.{fileLimit}
-use Rattle.survey.proofs.state_after.Statement.{statement}
-use Rattle.survey.proofs.state_after.Tie as tie
+use Rattle.survey.proofs.states.state_after.Statement.{statement}
+use Rattle.survey.proofs.states.state_after.Tie as tie
 
 abbrev step : tie.Start → Step
 step a = a .args .step

@@ -1,7 +1,7 @@
--- `survey::larger_of` meets its contract. Assumes nothing.
+-- `survey::states::larger_of` meets its contract. Assumes nothing.
 use borrow.Author.Tests.{lt-ltb, le-ltb}
-use Rattle.survey.proofs.larger_of.Statement.{statement}
-use Rattle.survey.proofs.larger_of.Tie as tie
+use Rattle.survey.proofs.states.larger_of.Statement.{statement}
+use Rattle.survey.proofs.states.larger_of.Tie as tie
 
 returns : tie.Need-returns
 returns c = rw (lt-ltb (c .before .args .m) (c .before .args .n) (c .if1 .taken))

@@ -1,11 +1,11 @@
--- `survey::write_seen` meets its contract. Assumes nothing.
+-- `survey::buffers::write_seen` meets its contract. Assumes nothing.
 use borrow.Author.Needs.{needs}
 use mathlib.Core.Path.{sym, ap, _∙_, subst}
 use Rattle.judging.specs.declared.Step.{Step}
 use Rattle.survey.specs.Applying.{seenAfter, Addable}
 use Rattle.survey.proofs.Unwritten.{seen-unwritten}
-use Rattle.survey.proofs.write_seen.Statement.{statement}
-use Rattle.survey.proofs.write_seen.Tie as tie
+use Rattle.survey.proofs.buffers.write_seen.Statement.{statement}
+use Rattle.survey.proofs.buffers.write_seen.Tie as tie
 
 enum-told : tie.Need-enum-told
 enum-told c = search needs
