@@ -19,8 +19,8 @@ use Rattle.columns.proofs.Steps.{columnBetween, found, missing}
 use Rattle.keywords.specs.Seconds.{endOf}
 use Rattle.keywords.proofs.SecondColumns.{ends-at, columns-are}
 use Rattle.headings.specs.Headings.{placesOf, fiveOf, numbersOn, bytesBetween, numbersAt, Part, PartsOf}
-use Rattle.headings.specs.declared.HeadingColumns.{HeadingColumns}
-use Rattle.headings.specs.declared.FiveColumns.the-variants as five
+use Rattle.headings.specs.declared.bos_columns.HeadingColumns.{HeadingColumns}
+use Rattle.headings.specs.declared.bos_columns.FiveColumns.the-variants as five
 
 -- ---- step by step
 

@@ -20,7 +20,7 @@ use Rattle.texts.specs.Spans.{spanOf}
 use Rattle.texts.specs.declared.Span.{Span}
 use Rattle.texts.proofs.Trims.{trim-inside}
 use Rattle.headings.specs.Headings.{behindOf, bytesBetween}
-use Rattle.headings.specs.declared.Behind.the-variants.{Comment, Another}
+use Rattle.headings.specs.declared.bos_columns.Behind.the-variants.{Comment, Another}
 
 module _ (s : List ℕ) (at : ℕ) where
   pub nothing-behind : columnAt s at ≡ Missing → behindOf (columnsFrom at (drop at s)) ≡ Comment (record { start = 0; len = 0 })

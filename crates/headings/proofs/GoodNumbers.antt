@@ -9,8 +9,8 @@ use Rattle.rules.specs.Columns.{Column, written}
 use Rattle.rules.specs.Numbers.{sentenceNumber, originId, date, number, signedId}
 use Rattle.numbers.proofs.Told.{number-tells, signed-tells}
 use Rattle.headings.specs.Headings.{numbersOf, numbersOn}
-use Rattle.headings.specs.declared.HeadingNumbers.{HeadingNumbers}
-use Rattle.headings.specs.declared.FourNumbers.the-variants.{Good}
+use Rattle.headings.specs.declared.bos_columns.HeadingNumbers.{HeadingNumbers}
+use Rattle.headings.specs.declared.bos_columns.FourNumbers.the-variants.{Good}
 
 record Four (n e d o : Option ℕ) (x : HeadingNumbers) : Type 0 where
   number : n ≡ some (x .number)

@@ -16,8 +16,8 @@ use Rattle.rules.specs.Sentences as sentences
 use Rattle.rules.specs.Sentences.{knownEditor, knownOrigin, headingOf}
 use Rattle.rules.proofs.RuleLaws.{inOrder, in-order}
 use Rattle.headings.specs.Headings.{numbersOf, numbersOn, headingAnswer, judgedHeading}
-use Rattle.headings.specs.declared.FourNumbers.{FourNumbers}
-use Rattle.headings.specs.declared.FourNumbers.the-variants as four
+use Rattle.headings.specs.declared.bos_columns.FourNumbers.{FourNumbers}
+use Rattle.headings.specs.declared.bos_columns.FourNumbers.the-variants as four
 use Rattle.headings.specs.declared.HeadingAnswer.{HeadingAnswer}
 use Rattle.headings.specs.declared.HeadingAnswer.the-variants.{Heading, Refused}
 

@@ -14,9 +14,9 @@ use Rattle.rules.specs.Tables.{Tables, origins, editors, present}
 use Rattle.rules.specs.Sentences as sentences
 use Rattle.rules.specs.Sentences.{knownEditor, knownOrigin, headingOf}
 use Rattle.headings.specs.Headings.{numbersOn, headingAnswer, judgedHeading}
-use Rattle.headings.specs.declared.HeadingNumbers.{HeadingNumbers}
-use Rattle.headings.specs.declared.FourNumbers.{FourNumbers}
-use Rattle.headings.specs.declared.FourNumbers.the-variants as four
+use Rattle.headings.specs.declared.bos_columns.HeadingNumbers.{HeadingNumbers}
+use Rattle.headings.specs.declared.bos_columns.FourNumbers.{FourNumbers}
+use Rattle.headings.specs.declared.bos_columns.FourNumbers.the-variants as four
 use Rattle.headings.specs.declared.HeadingAnswer.the-variants.{Heading, Refused}
 use Rattle.headings.proofs.Refusals.{RefusedBy}
 use Rattle.headings.proofs.GoodNumbers.{NumbersAre, numbers-told}

@@ -12,12 +12,12 @@ use Rattle.rules.specs.Tables.{Tables}
 use Rattle.rules.specs.Sentences.{headingOf}
 use Rattle.texts.specs.declared.Span.{Span}
 use Rattle.headings.specs.Headings.{fiveOf, behindOf, numbersOn, numbersAt, PartsOf, headingAnswer, judgedHeading}
-use Rattle.headings.specs.declared.HeadingColumns.{HeadingColumns}
-use Rattle.headings.specs.declared.HeadingNumbers.{HeadingNumbers}
-use Rattle.headings.specs.declared.FiveColumns.the-variants.{Whole}
-use Rattle.headings.specs.declared.Behind.the-variants.{Comment, Another}
-use Rattle.headings.specs.declared.FourNumbers.{FourNumbers}
-use Rattle.headings.specs.declared.FourNumbers.the-variants as four
+use Rattle.headings.specs.declared.bos_columns.HeadingColumns.{HeadingColumns}
+use Rattle.headings.specs.declared.bos_columns.HeadingNumbers.{HeadingNumbers}
+use Rattle.headings.specs.declared.bos_columns.FiveColumns.the-variants.{Whole}
+use Rattle.headings.specs.declared.bos_columns.Behind.the-variants.{Comment, Another}
+use Rattle.headings.specs.declared.bos_columns.FourNumbers.{FourNumbers}
+use Rattle.headings.specs.declared.bos_columns.FourNumbers.the-variants as four
 use Rattle.headings.specs.declared.HeadingAnswer.the-variants.{Refused}
 use Rattle.headings.proofs.ColumnSteps.{Five, whole-tells, parts-are, numbers-are, behind-is}
 use Rattle.headings.proofs.Comments.{Commented, comment-tells, another-tells}

@@ -15,14 +15,14 @@ use Rattle.rules.specs.Tables.{Tables, origins, editors, present}
 use Rattle.rules.specs.Sentences as sentences
 use Rattle.texts.specs.Spans.{spanOf}
 use Rattle.keywords.specs.Seconds.{endOf}
-use Rattle.headings.specs.declared.HeadingColumns.{HeadingColumns}
-use Rattle.headings.specs.declared.FiveColumns.{FiveColumns}
-use Rattle.headings.specs.declared.FiveColumns.the-variants as five
-use Rattle.headings.specs.declared.Behind.{Behind}
-use Rattle.headings.specs.declared.Behind.the-variants as behind
-use Rattle.headings.specs.declared.HeadingNumbers.{HeadingNumbers}
-use Rattle.headings.specs.declared.FourNumbers.{FourNumbers}
-use Rattle.headings.specs.declared.FourNumbers.the-variants as four
+use Rattle.headings.specs.declared.bos_columns.HeadingColumns.{HeadingColumns}
+use Rattle.headings.specs.declared.bos_columns.FiveColumns.{FiveColumns}
+use Rattle.headings.specs.declared.bos_columns.FiveColumns.the-variants as five
+use Rattle.headings.specs.declared.bos_columns.Behind.{Behind}
+use Rattle.headings.specs.declared.bos_columns.Behind.the-variants as behind
+use Rattle.headings.specs.declared.bos_columns.HeadingNumbers.{HeadingNumbers}
+use Rattle.headings.specs.declared.bos_columns.FourNumbers.{FourNumbers}
+use Rattle.headings.specs.declared.bos_columns.FourNumbers.the-variants as four
 use Rattle.headings.specs.declared.HeadingAnswer.{HeadingAnswer}
 use Rattle.headings.specs.declared.HeadingAnswer.the-variants.{Heading, Refused}
 

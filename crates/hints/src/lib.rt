@@ -1,10 +1,9 @@
-// Where to look first for a tag among the rows of its table. A hint is only a guess: no promise depends on it.
+// Where to look first for a tag among the rows of its table: 512 guesses for each of the seven. A hint is only a guess,
+// and no answer depends on it.
 ghost use mathlib.Core.Path.{_≡_};
 ghost use Prim.Native.Nat.{_<_};
 ghost use lib.ListN.{getD, set};
 ghost use Rattle.hints.specs.Places.{hintPlace};
-
-// 512 guesses for each of the seven tables.
 
 fn wide(b: u8) -> usize
     ensures { λ r. ⌜ (r ≡ b) × (r < 256) ⌝ }

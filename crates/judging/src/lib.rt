@@ -1,28 +1,22 @@
 // What a line is, where it stands: each kind of line has its judge, and the dispatchers only match.
+mod in_sentence;
+
 ghost use mathlib.Core.Path.{_≡_};
-ghost use Prim.Native.Nat.{ℕ, _+_, _≤_, _<_};
-ghost use lib.Dec.{leb, eqb};
+ghost use Prim.Native.Nat.{_≤_, _<_};
 ghost use lib.ListN.{length};
 ghost use Rattle.rules.specs.Bytes.{classTable};
-ghost use Rattle.rules.specs.Numbers.{fileLimit, edgeLimit};
-ghost use Rattle.rules.specs.Rules.{broken};
 ghost use Rattle.rules.specs.Rows.{rowOf};
-ghost use Rattle.rules.specs.Sentences.{headingOf, endRules};
-ghost use Rattle.rules.specs.Nodes.{wordOf, phraseOf};
+ghost use Rattle.rules.specs.Sentences.{headingOf};
 ghost use Rattle.rules.specs.Keywords.{firstColumn};
 ghost use Rattle.seen.specs.Bits.{bitAt};
 ghost use Rattle.sheets.specs.SheetRows.{tableCount, rowPlace, rowsFrom, tablesIn};
-ghost use Rattle.tags.specs.Tabled.{Tabled};
 ghost use Rattle.rows.specs.Ready.{RowsReady};
-ghost use Rattle.nodes.specs.Answers.{marked};
-ghost use Rattle.judging.specs.Takings.{taking, sentenceBegun, takenRow, takenWord, takenPhrase, ended, takenFirst, takenBehind, takenAtTop, takenInTable, takenInSentence};
-ghost use Rattle.judging.specs.Judging.{asStep, lineIn, frontBy, judged, Ready, Countable, Judgeable};
-use headings::EndAnswer;
+ghost use Rattle.judging.specs.Takings.{taking, sentenceBegun, takenRow, takenFirst, takenBehind, takenAtTop, takenInTable};
+ghost use Rattle.judging.specs.Judging.{asStep, lineIn, judged, Ready, Judgeable};
 use headings::HeadingAnswer;
 use keywords::FormatAnswer;
 use keywords::Kind;
 use keywords::TableAnswer;
-use nodes::NodeAnswer;
 use rows::RowAnswer;
 
 // Where a reading stands.
@@ -195,100 +189,6 @@ fn row(
     }
 }
 
-// #EOS
-fn sentence_end(head: &[u8], at: usize, t: Tally, classes: &[u8; 256]) -> Step
-    requires { ⌜ (now classes ≡ classTable) × (t .phrases ≤ fileLimit) ⌝ }
-    ensures { λ r. ⌜ r ≡ asStep (ended (broken (endRules (t .number) (eqb (t .«highest_phrase») (499 + t .phrases)) (leb (t .«highest_parent») (499 + t .phrases)) (lineIn (now (head .entry)) at)))) ⌝ }
-{
-    let last = 499 + t.phrases;
-    let no_gap = t.highest_phrase == last;
-    let no_absent = t.highest_parent <= last;
-    match headings::sentence_end_line(head, at, t.number, no_gap, no_absent, classes) {
-        EndAnswer::Ended => Step::SentenceEnded,
-        EndAnswer::Refused(n) => Step::Refused(n),
-    }
-}
-
-fn word(
-    head: &[u8],
-    at: usize,
-    t: Tally,
-    sheet: &[u32],
-    hints: &[u8; 3584],
-    classes: &[u8; 256],
-) -> Step
-    requires { ⌜ (now classes ≡ classTable) × Tabled (now head) (now sheet) × (at ≤ length (now head)) × (length (now head) ≤ fileLimit) × (t .edges ≤ edgeLimit) ⌝ }
-    ensures { λ r. ⌜ r ≡ asStep (taking takenWord (wordOf (tablesIn (now (head .entry)) (now (sheet .entry))) (t .words) (eqb (t .phrases) 0) (t .edges) (lineIn (now (head .entry)) at))) ⌝ }
-{
-    let no_phrase = t.phrases == 0;
-    match nodes::word_line(head, at, sheet, hints, t.words, no_phrase, t.edges, classes) {
-        NodeAnswer::Taken {
-            number: _,
-            edges,
-            highest,
-        } => Step::Word { edges, highest },
-        NodeAnswer::Refused(n) => Step::Refused(n),
-    }
-}
-
-fn phrase(
-    head: &[u8],
-    at: usize,
-    edges: u32,
-    stamp: u32,
-    sheet: &[u32],
-    hints: &[u8; 3584],
-    marks: &[u32],
-    classes: &[u8; 256],
-) -> Step
-    requires { ⌜ (now classes ≡ classTable) × Tabled (now head) (now sheet) × (at ≤ length (now head)) × (length (now head) ≤ fileLimit) × (edges ≤ edgeLimit) × (length (now marks) ≡ 500) ⌝ }
-    ensures { λ r. ⌜ r ≡ asStep (taking takenPhrase (phraseOf (tablesIn (now (head .entry)) (now (sheet .entry))) (marked (now (marks .entry)) stamp) edges (lineIn (now (head .entry)) at))) ⌝ }
-{
-    match nodes::phrase_line(head, at, sheet, hints, marks, stamp, edges, classes) {
-        NodeAnswer::Taken {
-            number,
-            edges: more,
-            highest,
-        } => Step::Phrase {
-            number,
-            edges: more,
-            highest,
-        },
-        NodeAnswer::Refused(n) => Step::Refused(n),
-    }
-}
-
-fn line_in_sentence(
-    head: &[u8],
-    at: usize,
-    s: State,
-    sheet: &[u32],
-    hints: &[u8; 3584],
-    marks: &[u32],
-    classes: &[u8; 256],
-) -> Step
-    requires { ⌜ (now classes ≡ classTable) × Tabled (now head) (now sheet) × (at ≤ length (now head)) × (length (now head) ≤ fileLimit) × Countable s (now marks) ⌝ }
-    ensures { λ r. ⌜ r ≡ asStep (takenInSentence (lineIn (now (head .entry)) at) (firstColumn (lineIn (now (head .entry)) at)) (tablesIn (now (head .entry)) (now (sheet .entry))) (frontBy s (now (marks .entry)))) ⌝ }
-{
-    let t = s.tally;
-    match keywords::kind_of(head, at, classes) {
-        Kind::SentenceEnd => sentence_end(head, at, t, classes),
-        Kind::Phrase => phrase(
-            head,
-            at,
-            t.edges,
-            s.handed + 1,
-            sheet,
-            hints,
-            marks,
-            classes,
-        ),
-        Kind::Plain => word(head, at, t, sheet, hints, classes),
-        Kind::LoneHash => word(head, at, t, sheet, hints, classes),
-        _ => Step::Refused(6),
-    }
-}
-
 // What the line that starts at `at` is taken for; `head` is the file up to its end.
 pub fn judge(
     head: &[u8],
@@ -311,7 +211,15 @@ pub fn judge(
         Standing::Start => first_line(head, at, classes),
         Standing::Top => line_at_top(head, at, sheet, seen, classes),
         Standing::InTable => line_in_table(head, at, s.table, s.rows, sheet, classes),
-        Standing::InSentence => line_in_sentence(head, at, s, sheet, hints, marks, classes),
+        Standing::InSentence => in_sentence::line_in_sentence(
+            head,
+            at,
+            s,
+            sheet,
+            hints,
+            marks,
+            classes,
+        ),
         Standing::BehindSentence => line_behind_sentence(head, at, sheet, seen, classes),
     }
 }

@@ -9,13 +9,10 @@ ghost use Rattle.sheets.specs.SheetRows.{tablesIn};
 ghost use Rattle.tags.specs.Tabled.{Tabled};
 ghost use Rattle.nodes.specs.Fields.{fieldsFrom, textBetween, Lies};
 ghost use Rattle.nodes.specs.Faults.{tagFault, parentAt, secondaryAt, pairAt, pairsOf};
-ghost use Rattle.rules.proofs.Largest.{larger};
 use crate::places;
 use crate::places::Field;
 use numbers::Number;
 use numbers::PhraseNumber;
-
-const SEC_EDGE_TAGS: usize = 6;
 
 // Of two numbers of refusal the smaller; 0 is none.
 pub fn lesser_fault(m: u32, n: u32) -> u32
@@ -28,12 +25,6 @@ pub fn lesser_fault(m: u32, n: u32) -> u32
         return m;
     }
     if m <= n { m } else { n }
-}
-
-pub fn larger_number(m: u32, n: u32) -> u32
-    ensures { λ r. ⌜ r ≡ larger m n ⌝ }
-{
-    if m < n { n } else { m }
 }
 
 pub fn tag_fault(
@@ -151,7 +142,7 @@ pub fn pair_at(
     requires { ⌜ Tabled (now head) (now sheet) × (now classes ≡ classTable) × Lies (now head) label «label_end» × Lies (now head) parent «parent_end» ⌝ }
     ensures { λ r. ⌜ r ≡ pairAt (tablesIn (now (head .entry)) (now (sheet .entry))) number (textBetween (now (head .entry)) label «label_end») (textBetween (now (head .entry)) parent «parent_end») ⌝ }
 {
-    let tag = tag_fault(head, sheet, hints, SEC_EDGE_TAGS, label, label_end);
+    let tag = tag_fault(head, sheet, hints, sheets::SEC_EDGE_TAGS, label, label_end);
     let read = secondary_at(head, number, parent, parent_end, classes);
     Parent {
         number: read.number,
@@ -212,7 +203,7 @@ pub fn pairs_from(
             parent_end,
             classes,
         );
-        highest = larger_number(highest, pair.number);
+        highest = numbers::larger_of(highest, pair.number);
         fault = lesser_fault(fault, pair.fault);
         count += 1;
         at = parent_end;

@@ -22,15 +22,6 @@ use numbers::PhraseNumber;
 use places::Fields;
 use places::Five;
 
-// The tables of tags, by their places in the sheet.
-const WORD_TAGS: usize = 2;
-
-const MORPH_TAGS: usize = 3;
-
-const NODE_TAGS: usize = 4;
-
-const EDGE_TAGS: usize = 5;
-
 // The number where a rule is broken, else 0.
 fn fault_unless(holds: bool, number: u32) -> u32
     ensures { λ r. ⌜ r ≡ wrong number holds ⌝ }
@@ -55,11 +46,11 @@ fn own_of(
         head,
         sheet,
         hints,
-        MORPH_TAGS,
+        sheets::MORPH_TAGS,
         f.morphology,
         f.morphology_end,
     );
-    let edge = faults::tag_fault(head, sheet, hints, EDGE_TAGS, f.edge, f.edge_end);
+    let edge = faults::tag_fault(head, sheet, hints, sheets::EDGE_TAGS, f.edge, f.edge_end);
     let parent = faults::parent_at(
         head,
         number,
@@ -103,7 +94,7 @@ fn tally_of(
     let shape = fault_unless(pairs.whole, 7);
     Tally {
         edges: pairs.count,
-        highest: faults::larger_number(own.number, pairs.highest),
+        highest: numbers::larger_of(own.number, pairs.highest),
         fault: faults::lesser_fault(shape, faults::lesser_fault(own.fault, pairs.fault)),
     }
 }
@@ -163,7 +154,7 @@ pub fn word_line(
     let Five::Whole(f) = five else {
         return NodeAnswer::Refused(7);
     };
-    let tally = tally_of(head, sheet, hints, WORD_TAGS, words, f, classes);
+    let tally = tally_of(head, sheet, hints, sheets::WORD_TAGS, words, f, classes);
     let room = room_fault(words, edges, tally.edges);
     let fault = faults::lesser_fault(tally.fault, room);
     answer(fault, words, tally.edges, tally.highest)
@@ -191,10 +182,10 @@ pub fn phrase_line(
     let end = f.first_end;
     let read = PhraseNumber::read(&head[digits..end], classes);
     let Number::Good(number) = read else {
-        let tally = tally_of(head, sheet, hints, NODE_TAGS, 0, f, classes);
+        let tally = tally_of(head, sheet, hints, sheets::NODE_TAGS, 0, f, classes);
         return NodeAnswer::Refused(faults::lesser_fault(8, tally.fault));
     };
-    let tally = tally_of(head, sheet, hints, NODE_TAGS, number, f, classes);
+    let tally = tally_of(head, sheet, hints, sheets::NODE_TAGS, number, f, classes);
     let fresh = marks[(number - PhraseNumber::LOWEST) as usize] != stamp;
     let again = fault_unless(fresh, 17);
     let room = room_fault(0, edges, tally.edges);

@@ -5,6 +5,7 @@ ghost use Rattle.rules.specs.Lists.{same, bytes};
 ghost use Rattle.rules.specs.Bytes.{classTable};
 ghost use Rattle.rules.specs.Numbers.{plain, number, sentenceNumber, originId, date, formatNumber, phraseNumber, signedId, parentNumber};
 ghost use Rattle.rules.specs.Keywords.{digits};
+ghost use Rattle.rules.proofs.Largest.{larger};
 ghost use Rattle.numbers.specs.Answers.{asNumber, kind};
 ghost use Rattle.numbers.specs.Ranges.{rangeOf};
 
@@ -173,6 +174,12 @@ impl EditorId {
 
 // The id of a tag's row is bounded and held like an editor's.
 pub type RowId = EditorId;
+
+pub fn larger_of(m: u32, n: u32) -> u32
+    ensures { λ r. ⌜ r ≡ larger m n ⌝ }
+{
+    if m < n { n } else { m }
+}
 
 pub enum NodeRange {
     Root,

@@ -19,7 +19,7 @@ use Rattle.rows.specs.Answers.{rowAnswer, idOf, judgedRow}
 use Rattle.rows.specs.Parts.{originParts, tagParts}
 use Rattle.rows.specs.Tags.{tagTexts, tagInPlace}
 use Rattle.rows.specs.declared.Id.{Id}
-use Rattle.rows.specs.declared.Parts.{Parts}
+use Rattle.rows.specs.declared.parts.Parts.{Parts}
 use Rattle.rows.specs.declared.RowAnswer.{RowAnswer}
 use Rattle.rows.specs.declared.RowAnswer.the-variants as answers
 use Rattle.rows.proofs.Firsts.{first-stands}

@@ -12,9 +12,9 @@ use Rattle.texts.specs.Spans.{spanOf}
 use Rattle.texts.specs.declared.Span.{Span}
 use Rattle.texts.proofs.Percents.{front-trimmed, behind-trimmed}
 use Rattle.rows.specs.Parts.{firstOf, flagOf, originParts, tagParts}
-use Rattle.rows.specs.declared.First.{First}
-use Rattle.rows.specs.declared.Flag.{Flag}
-use Rattle.rows.specs.declared.Parts.{Parts}
+use Rattle.rows.specs.declared.parts.First.{First}
+use Rattle.rows.specs.declared.parts.Flag.{Flag}
+use Rattle.rows.specs.declared.parts.Parts.{Parts}
 use Rattle.rows.proofs.Firsts.{left, next, next-within, others, rest-trimmed, rest-front, rest-behind}
 
 -- equal part by part

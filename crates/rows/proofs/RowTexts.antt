@@ -15,7 +15,7 @@ use Rattle.texts.proofs.Percents.{front-trimmed, behind-trimmed}
 use Rattle.sheets.specs.Standing.{Stands}
 use Rattle.sheets.proofs.Standing.{stands-whole}
 use Rattle.rows.specs.Parts.{originParts, tagParts, PartsFit}
-use Rattle.rows.specs.declared.Parts.{Parts}
+use Rattle.rows.specs.declared.parts.Parts.{Parts}
 use Rattle.rows.proofs.Firsts.{left, next, next-within, first-stands, others, rest-trimmed, rest-front, rest-behind}
 use Rattle.rows.proofs.Spans.{span-fits, trim-stands}
 use Rattle.rows.proofs.RowParts.{lineAt}

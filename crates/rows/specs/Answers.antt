@@ -10,7 +10,7 @@ use Rattle.numbers.specs.declared.Number.{Number}
 use Rattle.numbers.specs.declared.Number.the-variants.{Good, Bad}
 use Rattle.rows.specs.declared.Id.{Id}
 use Rattle.rows.specs.declared.Kept.{Kept}
-use Rattle.rows.specs.declared.Parts.{Parts}
+use Rattle.rows.specs.declared.parts.Parts.{Parts}
 use Rattle.rows.specs.declared.RowAnswer.{RowAnswer}
 use Rattle.rows.specs.declared.RowAnswer.the-variants as answers
 

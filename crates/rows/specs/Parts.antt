@@ -10,9 +10,9 @@ use Rattle.rules.specs.Numbers.{fileLimit}
 use Rattle.rules.specs.Rows.{yes, isFlag}
 use Rattle.texts.specs.Spans.{spanOf}
 use Rattle.texts.specs.declared.Span.{Span}
-use Rattle.rows.specs.declared.First.{First}
-use Rattle.rows.specs.declared.Flag.{Flag}
-use Rattle.rows.specs.declared.Parts.{Parts}
+use Rattle.rows.specs.declared.parts.First.{First}
+use Rattle.rows.specs.declared.parts.Flag.{Flag}
+use Rattle.rows.specs.declared.parts.Parts.{Parts}
 
 -- where the bytes behind the first of these columns start: at the line's end if there is none
 abbrev pub placeBehind : ℕ → List lines.Column → ℕ

@@ -9,6 +9,21 @@ ghost use Rattle.sheets.specs.Splices.{splice};
 ghost use Rattle.sheets.specs.SheetRows.{rowAt, rowsFrom, tagAmong};
 ghost use Rattle.sheets.specs.Standing.{RowInside, Inside};
 
+// The places of the seven tables in the sheet.
+pub const ORIGINS: usize = 0;
+
+pub const EDITORS: usize = 1;
+
+pub const WORD_TAGS: usize = 2;
+
+pub const MORPH_TAGS: usize = 3;
+
+pub const NODE_TAGS: usize = 4;
+
+pub const EDGE_TAGS: usize = 5;
+
+pub const SEC_EDGE_TAGS: usize = 6;
+
 // Whether one of the rows from a place on has this id + 1.
 pub fn has_id(sheet: &[u32], place: usize, rows: usize, id1: u32) -> bool
     requires { ⌜ place + 6 * rows ≤ length (now sheet) ⌝ }

@@ -2,7 +2,6 @@
 ghost use mathlib.Core.Path.{_≡_};
 ghost use Prim.Native.Nat.{_+_, _≤_};
 ghost use Rattle.rules.specs.Numbers.{fileLimit};
-ghost use Rattle.rules.proofs.Largest.{larger};
 ghost use Rattle.survey.specs.Applying.{firstTally, withWord, withPhrase, outside, amongRows, inSentence, handedOut, stateAfter, Following};
 ghost use Rattle.rules.specs.Lines.{start};
 ghost use Rattle.judging.specs.States.{noTally, stateOf};
@@ -37,12 +36,6 @@ pub fn first_tally(number: u32) -> Tally
     }
 }
 
-pub fn larger_of(m: u32, n: u32) -> u32
-    ensures { λ r. ⌜ r ≡ larger m n ⌝ }
-{
-    if m < n { n } else { m }
-}
-
 pub fn with_word(t: Tally, edges: u32, highest: u32) -> Tally
     requires { ⌜ (t .words ≤ fileLimit) × (t .edges + edges ≤ fileLimit) ⌝ }
     ensures { λ r. ⌜ r ≡ withWord t edges highest ⌝ }
@@ -53,7 +46,7 @@ pub fn with_word(t: Tally, edges: u32, highest: u32) -> Tally
         phrases: t.phrases,
         edges: t.edges + edges,
         highest_phrase: t.highest_phrase,
-        highest_parent: larger_of(t.highest_parent, highest),
+        highest_parent: numbers::larger_of(t.highest_parent, highest),
     }
 }
 
@@ -66,8 +59,8 @@ pub fn with_phrase(t: Tally, number: u32, edges: u32, highest: u32) -> Tally
         words: t.words,
         phrases: t.phrases + 1,
         edges: t.edges + edges,
-        highest_phrase: larger_of(t.highest_phrase, number),
-        highest_parent: larger_of(t.highest_parent, highest),
+        highest_phrase: numbers::larger_of(t.highest_phrase, number),
+        highest_parent: numbers::larger_of(t.highest_parent, highest),
     }
 }
 

@@ -8,18 +8,11 @@ ghost use Rattle.rules.specs.Sentences.{knownEditor, knownOrigin};
 ghost use Rattle.sheets.specs.SheetRows.{tablesIn};
 ghost use Rattle.tags.specs.Tabled.{Counted, Tabled, rowsIn};
 
-// The tables in the order of the sheet.
-const ORIGINS: usize = 0;
-
-const EDITORS: usize = 1;
-
-const MORPH_TAGS: usize = 3;
-
 // Tags have at most 10 bytes, those of MORPHTAG 32.
 pub fn tag_limit(table: usize) -> usize
     ensures { λ r. ⌜ r ≡ tagLimit table ⌝ }
 {
-    if table == MORPH_TAGS { 32 } else { 10 }
+    if table == sheets::MORPH_TAGS { 32 } else { 10 }
 }
 
 // Two bytes, both b, as -- and %% are.
@@ -87,12 +80,12 @@ pub fn knows_editor(sheet: &[u32], id1: u32) -> bool
     if id1 < 2 {
         return true;
     }
-    has_row(sheet, EDITORS, id1)
+    has_row(sheet, sheets::EDITORS, id1)
 }
 
 pub fn knows_origin(sheet: &[u32], n: u32) -> bool
     requires { ⌜ Counted (now sheet) × (n ≤ 65535) ⌝ }
     ensures { λ r. ⌜ ((head : List ℕ) → r ≡ knownOrigin (tablesIn head (now (sheet .entry))) n) ⌝ }
 {
-    has_row(sheet, ORIGINS, n + 1)
+    has_row(sheet, sheets::ORIGINS, n + 1)
 }

@@ -14,11 +14,11 @@ use Rattle.sheets.specs.SheetRows.{tablesIn}
 use Rattle.seen.specs.Bits.{bitAt}
 use Rattle.texts.specs.declared.Span.{Span}
 use Rattle.headings.specs.Headings.{fiveOf, behindOf, numbersAt}
-use Rattle.headings.specs.declared.HeadingColumns.{HeadingColumns}
-use Rattle.headings.specs.declared.HeadingNumbers.{HeadingNumbers}
-use Rattle.headings.specs.declared.FiveColumns.the-variants.{Whole}
-use Rattle.headings.specs.declared.Behind.the-variants.{Comment}
-use Rattle.headings.specs.declared.FourNumbers.the-variants.{Good}
+use Rattle.headings.specs.declared.bos_columns.HeadingColumns.{HeadingColumns}
+use Rattle.headings.specs.declared.bos_columns.HeadingNumbers.{HeadingNumbers}
+use Rattle.headings.specs.declared.bos_columns.FiveColumns.the-variants.{Whole}
+use Rattle.headings.specs.declared.bos_columns.Behind.the-variants.{Comment}
+use Rattle.headings.specs.declared.bos_columns.FourNumbers.the-variants.{Good}
 use Rattle.headings.proofs.ColumnSteps.{short-tells}
 use Rattle.headings.proofs.Comments.{comment-inside}
 use Rattle.headings.proofs.GoodNumbers.{NumbersAre}

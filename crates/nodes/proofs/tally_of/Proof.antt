@@ -16,8 +16,8 @@ pairs-from-requires c κs = search needs
 fault-unless-requires : tie.Need-fault-unless-requires
 fault-unless-requires c κs = search needs
 
-larger-number-requires : tie.Need-larger-number-requires
-larger-number-requires c κs = search needs
+larger-of-requires : tie.Need-larger-of-requires
+larger-of-requires c κs = search needs
 
 lesser-fault-requires : tie.Need-lesser-fault-requires
 lesser-fault-requires c κs = search needs
@@ -31,8 +31,8 @@ returns c =
     let p = u .before in
     let s = p .before .before .before .before in
     tally-is (tablesIn (s .args .head .now) (s .args .sheet .now)) (s .args .number) (s .args .tags) (fiveTexts (s .args .head .now) (s .args .f)) _ _ _ _ _ _
-    (p .before .own-of .ensures) (p .pairs-from .ensures) (u .fault-unless .ensures) (c .before .before .larger-number .ensures)
+    (p .before .own-of .ensures) (p .pairs-from .ensures) (u .fault-unless .ensures) (c .before .before .larger-of .ensures)
     (c .before .lesser-fault .ensures) (c .lesser-fault2 .ensures)
 
 pub tally-of-spec : {M : Type 1} → statement M
-tally-of-spec = tie.close (tie.spec own-of-requires pairs-from-requires fault-unless-requires larger-number-requires lesser-fault-requires lesser-fault-requires-2 returns)
+tally-of-spec = tie.close (tie.spec own-of-requires pairs-from-requires fault-unless-requires larger-of-requires lesser-fault-requires lesser-fault-requires-2 returns)

@@ -6,7 +6,7 @@ use Rattle.rules.specs.Tables.{Row, wordTags}
 use Rattle.numbers.specs.Answers.{asNumber}
 use Rattle.sheets.specs.SheetRows.{rowsFrom}
 use Rattle.rows.specs.Answers.{idOf}
-use Rattle.rows.specs.declared.Parts.{Parts}
+use Rattle.rows.specs.declared.parts.Parts.{Parts}
 use Rattle.rows.proofs.Firsts.{first-stands}
 use Rattle.rows.proofs.Spans.{span-inside}
 use Rattle.rows.proofs.RowTexts.{idText, tagText, tag-stands, tag-id, tag-first, tag-fits}

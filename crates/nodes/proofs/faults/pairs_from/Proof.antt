@@ -140,8 +140,8 @@ pair-at-requires c κs =
     let b = parent-step k in
     (s .pre .0, s .pre .1, record { some = a .some; inside = a .inside }, record { some = b .some; inside = b .inside })
 
-larger-number-requires : tie.Need-larger-number-requires Inv-loop μ-loop
-larger-number-requires c κs = search needs
+larger-of-requires : tie.Need-larger-of-requires Inv-loop μ-loop
+larger-of-requires c κs = search needs
 
 lesser-fault-requires : tie.Need-lesser-fault-requires Inv-loop μ-loop
 lesser-fault-requires c κs = search needs
@@ -167,7 +167,7 @@ loop-again c =
     let l = place (label k) in (
       omega (arith, l .loop .inv),
       b .inside,
-      rw (c .lesser-fault .ensures, c .before .larger-number .ensures, p .pair-at .ensures) (more k),
+      rw (c .lesser-fault .ensures, c .before .larger-of .ensures, p .pair-at .ensures) (more k),
     )
 
 returns-3 : tie.Need-returns-3 Inv-loop μ-loop
@@ -177,4 +177,4 @@ returns-3 c =
     ∙ told l [] (none-behind (head l) (l .loop .at) (c .loop-test .left))
 
 pub pairs-from-spec : {M : Type 1} → statement M
-pairs-from-spec = tie.close (tie.spec Inv-loop μ-loop loop-holds next-field-requires enum-known-found enum-told returns next-field-requires-2 enum-known-found-2 enum-told-2 returns-2 pair-at-requires larger-number-requires lesser-fault-requires add-count loop-less loop-again returns-3)
+pairs-from-spec = tie.close (tie.spec Inv-loop μ-loop loop-holds next-field-requires enum-known-found enum-told returns next-field-requires-2 enum-known-found-2 enum-told-2 returns-2 pair-at-requires larger-of-requires lesser-fault-requires add-count loop-less loop-again returns-3)

@@ -1,0 +1,14 @@
+-- `numbers::larger_of` meets its contract: by the order of the two.
+-- Assumes nothing.
+use borrow.Author.Tests.{lt-ltb, le-ltb}
+use Rattle.numbers.proofs.larger_of.Statement.{statement}
+use Rattle.numbers.proofs.larger_of.Tie as tie
+
+returns : tie.Need-returns
+returns c = rw (lt-ltb (c .before .args .m) (c .before .args .n) (c .if1 .taken))
+
+returns-2 : tie.Need-returns-2
+returns-2 c = rw (le-ltb (c .before .args .m) (c .before .args .n) (c .if1 .left))
+
+pub larger-of-spec : {M : Type 1} → statement M
+larger-of-spec = tie.close (tie.spec returns returns-2)
