@@ -10,8 +10,7 @@ use Rattle.rules.specs.Numbers.{fileLimit}
 use Rattle.rules.specs.Reading.{numbers}
 use Rattle.rules.specs.Sheets.{tableSheet, seenSet}
 use Rattle.rules.specs.Survey.{SurveyOutcome, surveyOf, told, nothingRead, sheetsFit, afterSurvey}
-use Rattle.survey.specs.Promise.{outcome}
-use Rattle.survey.specs.Closing.{numbersOf}
+use Rattle.survey.specs.Promise.{outcome, numbersOf}
 use Rattle.demands.specs.Surveying.{Surveying, Sized, SameOutcome, Untouched}
 
 -- ---- afterSurvey, case by case

@@ -9,8 +9,7 @@ use Rattle.rules.specs.Reading.{Handed, numbers}
 use Rattle.rules.specs.Sheets.{tableSheet, seenSet, sentenceSheet}
 use Rattle.rules.specs.Survey.{lastEnd, surveyOf, told, nothingRead, sheetsFit, afterSurvey}
 use Rattle.rules.specs.Climbing.{Resolves, parentIn, parentOn, EveryChainClimbs}
-use Rattle.survey.specs.Promise.{outcome}
-use Rattle.survey.specs.Closing.{numbersOf}
+use Rattle.survey.specs.Promise.{outcome, numbersOf}
 use Rattle.survey.specs.declared.Surveyed.{Surveyed}
 
 -- the number of a sentence handed out

@@ -19,7 +19,8 @@ use Rattle.sheets.proofs.OpenSheets.{sheet-given-up, count-of-table}
 use Rattle.judging.specs.States.{stateOf}
 use Rattle.survey.specs.Keeping.{sheetOf, Kept}
 use Rattle.survey.specs.Walks.{keptOf, walkOf}
-use Rattle.survey.specs.Closing.{closingNumber, givenUp, numbersOf, toldOf, stateIn}
+use Rattle.survey.specs.Closing.{closingNumber, givenUp, toldOf, stateIn}
+use Rattle.survey.specs.Promise.{numbersOf}
 
 missing : (a b : Option (List Row)) (m n : ℕ) → m ≡ count a → n ≡ count b → _≡_ {A = ℕ} (pick (eqb m 0 || eqb n 0) 13 0) (pick (there a && there b) 0 13)
 missing none b m n p q = rw p

@@ -9,8 +9,7 @@ use Rattle.rules.specs.Lines.{tablesAt}
 use Rattle.rules.specs.Reading.{begin, numbers, read}
 use Rattle.rules.specs.Survey.{answered, nothingRead, told, sheetsFit, fileFits, surveyOf, afterSurvey}
 use Rattle.survey.specs.declared.Surveyed.{Surveyed}
-use Rattle.survey.specs.Promise.{outcome}
-use Rattle.survey.specs.Closing.{numbersOf}
+use Rattle.survey.specs.Promise.{outcome, numbersOf}
 
 module _ (file sheet seen : List ℕ) (r : Surveyed) where
   abbrev pub Promised : List ℕ → List ℕ → Type 0

@@ -16,7 +16,8 @@ use Rattle.survey.specs.Walks.{keptOf, walkOf, Walked}
 use Rattle.judging.specs.declared.State.{State}
 use Rattle.survey.specs.declared.Walk.{Walk}
 use Rattle.survey.proofs.Turning.{sheet-length}
-use Rattle.survey.specs.Closing.{givenUp, numbersOf, toldOf, stateIn}
+use Rattle.survey.specs.Closing.{givenUp, toldOf, stateIn}
+use Rattle.survey.specs.Promise.{numbersOf}
 use Rattle.survey.proofs.Closings.{given-up-is, told-is, state-is}
 
 seat : (head ns : List ℕ) (c e : ℕ) (ph : Phase) → Kept head ns ph → stateOf c e ph .table < 7

@@ -1,5 +1,5 @@
--- What a step leaves of the state, the table sheet, the seen set and the marks; end is the place behind the line.
--- Assumes nothing.
+-- For inner functions: what a step leaves of the state, the table sheet, the seen set and the marks, and what that needs;
+-- end is the place behind the line. Assumes nothing.
 use Prim.Native.Nat.{ℕ, _+_, _-_, _*_, _≤_, _<_}
 use mathlib.Core.Path.{_≡_}
 use mathlib.Core.Bool.{false}

@@ -1,12 +1,11 @@
--- What is done where the lines end: the refusals of the file's end, an unfinished table, and the answer. Document 01,
--- "The numbers of refusal". Assumes nothing.
+-- For inner functions: what is done where the lines end, that is the refusals of the file's end, an unfinished table, and
+-- the answer. Assumes nothing.
 use Prim.Native.Nat.{ℕ}
 use mathlib.Core.Bool.{_||_}
 use mathlib.Core.List.{List}
 use lib.Dec.{eqb}
 use lib.ListN.{getD, replicate}
 use Rattle.rules.specs.Lists.{pick}
-use Rattle.rules.specs.Survey.{Told}
 use Rattle.sheets.specs.Splices.{splice}
 use Rattle.sheets.specs.SheetRows.{tableRoom, rowPlace}
 use Rattle.judging.specs.declared.Standing.{Standing}
@@ -31,10 +30,6 @@ givenUp Top n sheet = sheet
 givenUp InTable n sheet = splice (rowPlace n 0) (replicate tableRoom 0) sheet
 givenUp InSentence n sheet = sheet
 givenUp BehindSentence n sheet = sheet
-
--- the four numbers
-abbrev pub numbersOf : Told → Surveyed
-numbersOf t = record { refusal = t .refusal; place = t .place; sentences = t .sentences; «sound_end» = t .soundEnd }
 
 -- number and place of a refusal, and what was handed out before it
 abbrev pub answerOf : ℕ → ℕ → State → Surveyed

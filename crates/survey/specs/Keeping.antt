@@ -1,5 +1,5 @@
--- What holds of a reading between two lines: its table sheet, its marks, and what is known of what it has read so far.
--- Assumes nothing.
+-- For inner functions: what holds of a reading between two lines, that is its table sheet, its marks, and what is known of
+-- what it has read so far. Assumes nothing.
 use Prim.Native.Nat.{ℕ, suc, _≤_, _<_}
 use mathlib.Core.Path.{_≡_}
 use mathlib.Core.Bool.{true, false}

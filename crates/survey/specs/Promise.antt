@@ -1,7 +1,7 @@
--- What the survey answers and leaves in the two buffers, as one outcome of rules/Survey. Assumes nothing.
+-- The promise: what the survey answers and leaves in the two buffers, as one outcome of rules/Survey. Assumes nothing.
 use Prim.Native.Nat.{ℕ}
 use mathlib.Core.List.{List}
-use Rattle.rules.specs.Survey.{SurveyOutcome}
+use Rattle.rules.specs.Survey.{Told, SurveyOutcome}
 use Rattle.survey.specs.declared.Surveyed.{Surveyed}
 
 abbrev pub outcome : Surveyed → List ℕ → List ℕ → SurveyOutcome
@@ -11,3 +11,7 @@ outcome r tables seen =
       tables = tables;
       seen = seen;
     }
+
+-- the four numbers that are told
+abbrev pub numbersOf : Told → Surveyed
+numbersOf t = record { refusal = t .refusal; place = t .place; sentences = t .sentences; «sound_end» = t .soundEnd }

@@ -1,4 +1,4 @@
--- How far a reading came, as the survey tells it. Assumes nothing.
+-- For inner functions: how far a reading came, as the survey tells it. Assumes nothing.
 use Prim.Native.Nat.{ℕ}
 use mathlib.Core.Path.{_≡_}
 use mathlib.Core.Option.{Option, none, some}
