@@ -1,5 +1,7 @@
 // The columns of a line, found one by one: a column is a run of bytes that aren't white. A cursor is a place by value,
 // and each step hands back the next one.
+pub mod reader;
+
 ghost use mathlib.Core.Path.{_≡_};
 ghost use Prim.Native.Nat.{_+_};
 ghost use lib.ListN.{drop};

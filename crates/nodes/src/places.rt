@@ -3,7 +3,6 @@ ghost use mathlib.Core.Path.{_≡_};
 ghost use Rattle.rules.specs.Bytes.{classTable};
 ghost use Rattle.nodes.specs.Fields.{fieldsFrom, firstField, firstFive};
 use columns::Column;
-use columns::Cursor;
 
 // The next field, from its first byte to behind its last; none stands behind the line's end or a column %%.
 pub enum Field {
@@ -15,7 +14,7 @@ pub fn next_field(head: &[u8], at: usize, classes: &[u8; 256]) -> Field
     requires { ⌜ now classes ≡ classTable ⌝ }
     ensures { λ r. ⌜ r ≡ firstField (fieldsFrom (now (head .entry)) at) ⌝ }
 {
-    let column = Cursor::new(at).next(head, classes);
+    let column = columns::reader::column_at(head, at, classes);
     let Column::Found {
         start,
         end,

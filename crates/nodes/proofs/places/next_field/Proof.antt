@@ -1,4 +1,4 @@
--- `nodes::places::next_field` meets its contract: the column that the cursor comes to is the next field unless it is exactly %%.
+-- `nodes::places::next_field` meets its contract: the column that the reader comes to is the next field unless it is exactly %%.
 -- Assumes nothing.
 use borrow.Author.Needs.{needs}
 use native.Mathlib.Omega.{arith}
@@ -14,14 +14,14 @@ use Rattle.nodes.proofs.FieldSteps.{none-missing, none-percents, one-mo
 use Rattle.nodes.proofs.places.next_field.Statement.{statement}
 use Rattle.nodes.proofs.places.next_field.Tie as tie
 
-abbrev head : tie.After-next → List ℕ
-head s = s .before .before .before .args .head .now
+abbrev head : tie.After-column-at → List ℕ
+head s = s .before .before .args .head .now
 
-abbrev at : tie.After-next → ℕ
-at s = s .before .before .before .args .at
+abbrev at : tie.After-column-at → ℕ
+at s = s .before .before .args .at
 
-step : (s : tie.After-next) → columnAt (head s) (at s) ≡ s .next .result
-step s = sym (s .next .ensures ∙ ap (columnAt (head s)) (s .before .new .ensures))
+step : (s : tie.After-column-at) → columnAt (head s) (at s) ≡ s .column-at .result
+step s = sym (s .column-at .ensures)
 
 -- the column that was found
 abbrev start : tie.After-column → ℕ
@@ -39,11 +39,8 @@ column k = step (k .before .before) ∙ k .column .given .1
 whole : (k : tie.After-column) → Step (head (k .before .before)) (at (k .before .before)) (start k) (end k) (next k)
 whole k = found (head (k .before .before)) (at (k .before .before)) (start k) (end k) (next k) (column k)
 
-new-requires : tie.Need-new-requires
-new-requires c κs = search needs
-
-next-requires : tie.Need-next-requires
-next-requires c κs = search needs
+column-at-requires : tie.Need-column-at-requires
+column-at-requires c κs = search needs
 
 enum-known-column : tie.Need-enum-known-column
 enum-known-column c = search needs
@@ -86,8 +83,7 @@ pub next-field-spec : {M : Type 1} → statement M
 next-field-spec =
     tie.close
     (tie.spec
-    new-requires
-    next-requires
+    column-at-requires
     enum-known-column
     enum-told
     returns
