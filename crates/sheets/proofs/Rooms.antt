@@ -67,7 +67,7 @@ drop-replicate (suc k) zero = rw zero-sub
 drop-replicate (suc k) (suc m) = rw suc-sub-suc (drop-replicate k m)
 
 -- unused room takes what comes next
-splice-filled : (size : ℕ) (ns vs : List ℕ) (at : ℕ) → length ns ≡ at
+pub splice-filled : (size : ℕ) (ns vs : List ℕ) (at : ℕ) → length ns ≡ at
     → splice at vs (filledUp size 0 ns) ≡ filledUp size 0 (ns ++ vs)
 splice-filled size ns vs at e =
     let grown : length (ns ++ vs) ≡ length ns + length vs = length-append ns vs in

@@ -5,7 +5,7 @@ use Prim.Native.Nat.{ℕ, suc, _+_, _-_, _≤_, _<_}
 use native.Mathlib.Nat.{add-zero, zero-add, add-assoc}
 use native.Mathlib.Omega.{arith}
 use lib.ListN.{length, take, drop, getD, set, replicate, length-append, length-drop, length-replicate, take-append-drop, replicate-append-replicate}
-use lib.Seq.{length-take-le, take-at, drop-cons, take-append-add, drop-append-add, take-append-le, drop-append-le, set-at, append-snoc, drop-length}
+use lib.Seq.{length-take-le, take-at, drop-cons, take-append-add, drop-append-add, take-append-le, drop-append-le, set-at, append-snoc, drop-length, drop-drop}
 use Rattle.sheets.specs.Splices.{splice}
 
 -- right behind the first list
@@ -46,6 +46,16 @@ length-splice vs l at h =
     let t : length (take at l) ≡ at = length-take-le at l (omega arith) in
     let d : length (drop (at + length vs) l) ≡ length l - (at + length vs) = length-drop (at + length vs) l in
     simp length-append (omega arith)
+
+-- one splice right behind another
+pub splice-next : (us vs l : List ℕ) (at : ℕ) → at + length us ≤ length l → splice (at + length us) vs (splice at us l) ≡ splice at (us ++ vs) l
+unfolding splice
+splice-next us vs l at h =
+    let t : length (take at l) ≡ at = length-take-le at l (omega arith) in
+    let front : length (take at l ++ us) ≡ at + length us = length-append (take at l) us ∙ ap (λ (m : ℕ). m + length us) t in
+    let grown : at + length us + length vs ≡ at + length (us ++ vs) = simp length-append (omega arith) in
+    splice-seam (take at l ++ us) vs (drop (at + length us) l) (at + length us) front
+    ∙ ap₂ (λ (x y : List ℕ). x ++ y) (append-assoc (take at l) us vs) (drop-drop (length vs) (at + length us) l ∙ ap (λ (m : ℕ). drop m l) grown)
 
 -- one element more
 pub splice-more : (vs l : List ℕ) (at v : ℕ) → at + length vs < length l

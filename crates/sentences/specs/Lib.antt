@@ -1,0 +1,3 @@
+pub mod OpenSentences
+pub mod NodeRecords
+pub mod FlatEdges
