@@ -17,14 +17,14 @@ use Rattle.rules.specs.Tables.{Tables, wordTags, nodeTags}
 use Rattle.rules.specs.Nodes.{pairsField, behindHash, wordOf, phraseOf}
 use Rattle.rules.proofs.RuleLaws.{lesser}
 use Rattle.rules.proofs.LesserLaws.{wrong}
-use Rattle.nodes.specs.Fields.{lineAt, fieldsFrom, firstFive, textBetween, Placed, fiveTexts}
+use Rattle.fields.specs.Fields.{lineAt, fieldsFrom, firstFive, textBetween, Placed, fiveTexts}
 use Rattle.nodes.specs.Faults.{tallyOf}
 use Rattle.nodes.specs.Answers.{nodeAnswer, answered}
-use Rattle.nodes.specs.declared.places.Fields.{Fields}
-use Rattle.nodes.specs.declared.places.Five.the-variants.{Whole, Short}
+use Rattle.fields.specs.declared.Fields.{Fields}
+use Rattle.fields.specs.declared.Five.the-variants.{Whole, Short}
 use Rattle.nodes.specs.declared.NodeAnswer.the-variants.{Refused}
 use Rattle.nodes.specs.declared.Tally.{Tally}
-use Rattle.nodes.proofs.FiveFields.{FiveSteps, five-texts, five-tells, five-short, five-placed}
+use Rattle.fields.proofs.FiveFields.{FiveSteps, five-texts, five-tells, five-short, five-placed}
 use Rattle.nodes.proofs.Tallies.{edges-fit}
 use Rattle.nodes.proofs.NodeAnswers.{word-behind-phrase, word-short, word-tallied, phrase-short, phrase-tallied, phrase-misnumbered}
 

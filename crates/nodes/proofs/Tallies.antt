@@ -11,13 +11,13 @@ use Rattle.rules.specs.Tables.{Tables, morphTags, edgeTags, secEdgeTags}
 use Rattle.rules.specs.Nodes.{pairs, parentField, pairsField, itsTag, itsMorphology, itsEdge}
 use Rattle.rules.proofs.RuleLaws.{lesser}
 use Rattle.rules.proofs.LesserLaws.{wrong}
-use Rattle.nodes.specs.Fields.{fieldsFrom}
+use Rattle.fields.specs.Fields.{fieldsFrom}
 use Rattle.nodes.specs.Faults.{tagFault, parentAt, secondaryAt, pairAt, pairsOf, ownOf, tallyOf}
 use Rattle.rules.proofs.Largest.{larger}
 use Rattle.nodes.specs.declared.faults.Parent.{Parent}
 use Rattle.nodes.specs.declared.faults.Pairs.{Pairs}
 use Rattle.nodes.specs.declared.Tally.{Tally}
-use Rattle.nodes.proofs.FieldSteps.{fields-fit}
+use Rattle.fields.proofs.FieldSteps.{fields-fit}
 
 module _ (ts : Tables) (its-number : ℕ) where
   pub pair-is : (label parent : Text) (tag fault : ℕ) (p : Parent)

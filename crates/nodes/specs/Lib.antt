@@ -1,3 +1,2 @@
-pub mod Fields
 pub mod Faults
 pub mod Answers

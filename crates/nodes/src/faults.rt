@@ -7,10 +7,9 @@ ghost use Rattle.rules.specs.Numbers.{fileLimit};
 ghost use Rattle.rules.proofs.RuleLaws.{lesser};
 ghost use Rattle.sheets.specs.SheetRows.{tablesIn};
 ghost use Rattle.tags.specs.Tabled.{Tabled};
-ghost use Rattle.nodes.specs.Fields.{fieldsFrom, textBetween, Lies};
+ghost use Rattle.fields.specs.Fields.{fieldsFrom, textBetween, Lies};
 ghost use Rattle.nodes.specs.Faults.{tagFault, parentAt, secondaryAt, pairAt, pairsOf};
-use crate::places;
-use crate::places::Field;
+use fields::Field;
 use numbers::Number;
 use numbers::PhraseNumber;
 
@@ -174,7 +173,7 @@ pub fn pairs_from(
     let mut highest: u32 = 0;
     let mut fault: u32 = 0;
     while at < head.len() {
-        let found = places::next_field(head, at, classes);
+        let found = fields::next_field(head, at, classes);
         let Field::Found(label, label_end) = found else {
             return Pairs {
                 count,
@@ -183,7 +182,7 @@ pub fn pairs_from(
                 whole: true,
             };
         };
-        let found = places::next_field(head, label_end, classes);
+        let found = fields::next_field(head, label_end, classes);
         let Field::Found(parent, parent_end) = found else {
             return Pairs {
                 count,

@@ -1,6 +1,5 @@
 // A word line and a phrase line: what the survey is told of them.
 mod faults;
-mod places;
 
 ghost use mathlib.Core.Path.{_≡_};
 ghost use mathlib.Core.Bool.{_&&_};
@@ -13,14 +12,14 @@ ghost use Rattle.rules.specs.Nodes.{wordOf, phraseOf};
 ghost use Rattle.rules.proofs.LesserLaws.{wrong};
 ghost use Rattle.sheets.specs.SheetRows.{tablesIn};
 ghost use Rattle.tags.specs.Tabled.{Tabled};
-ghost use Rattle.nodes.specs.Fields.{lineAt, Placed, fiveTexts};
+ghost use Rattle.fields.specs.Fields.{lineAt, Placed, fiveTexts};
 ghost use Rattle.nodes.specs.Faults.{ownOf, tallyOf};
 ghost use Rattle.nodes.specs.Answers.{nodeAnswer, answered, marked};
 use faults::Parent;
+use fields::Fields;
+use fields::Five;
 use numbers::Number;
 use numbers::PhraseNumber;
-use places::Fields;
-use places::Five;
 
 // The number where a rule is broken, else 0.
 fn fault_unless(holds: bool, number: u32) -> u32
@@ -150,7 +149,7 @@ pub fn word_line(
     if !no_phrase {
         return NodeAnswer::Refused(6);
     }
-    let five = places::five_fields(head, at, classes);
+    let five = fields::five_fields(head, at, classes);
     let Five::Whole(f) = five else {
         return NodeAnswer::Refused(7);
     };
@@ -174,7 +173,7 @@ pub fn phrase_line(
     requires { ⌜ Tabled (now head) (now sheet) × (now classes ≡ classTable) × (at ≤ length (now head)) × (length (now head) ≤ fileLimit) × (edges ≤ edgeLimit) × (length (now marks) ≡ 500) ⌝ }
     ensures { λ r. ⌜ r ≡ nodeAnswer (phraseOf (tablesIn (now (head .entry)) (now (sheet .entry))) (marked (now (marks .entry)) stamp) edges (lineAt (now (head .entry)) at)) ⌝ }
 {
-    let five = places::five_fields(head, at, classes);
+    let five = fields::five_fields(head, at, classes);
     let Five::Whole(f) = five else {
         return NodeAnswer::Refused(7);
     };

@@ -2,7 +2,7 @@
 -- Assumes nothing.
 use borrow.Author.Needs.{needs}
 use Rattle.sheets.specs.SheetRows.{tablesIn}
-use Rattle.nodes.specs.Fields.{fiveTexts}
+use Rattle.fields.specs.Fields.{fiveTexts}
 use Rattle.nodes.proofs.Tallies.{own-is}
 use Rattle.nodes.proofs.own_of.Statement.{statement}
 use Rattle.nodes.proofs.own_of.Tie as tie

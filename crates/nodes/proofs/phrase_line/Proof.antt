@@ -16,10 +16,10 @@ use Rattle.rules.specs.Numbers.{phraseNumber, number}
 use Rattle.sheets.specs.SheetRows.{tablesIn}
 use Rattle.numbers.proofs.Told.{Within, good-tells, bad-tells, number-tells}
 use Rattle.rules.specs.Numbers.{decimal}
-use Rattle.nodes.specs.Fields.{fieldsFrom, firstFive, Placed}
+use Rattle.fields.specs.Fields.{fieldsFrom, firstFive, Placed}
 use Rattle.nodes.specs.Answers.{marked}
-use Rattle.nodes.specs.declared.places.Fields.{Fields}
-use Rattle.nodes.specs.declared.places.Five.the-variants.{Whole}
+use Rattle.fields.specs.declared.Fields.{Fields}
+use Rattle.fields.specs.declared.Five.the-variants.{Whole}
 use Rattle.nodes.proofs.LineAnswers.{phrase-line-short, line-placed, line-edges-fit, phrase-line-told, phrase-line-misnumbered}
 use Rattle.nodes.proofs.phrase_line.Statement.{statement}
 use Rattle.nodes.proofs.phrase_line.Tie as tie

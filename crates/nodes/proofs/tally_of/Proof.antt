@@ -2,7 +2,7 @@
 -- Assumes nothing.
 use borrow.Author.Needs.{needs}
 use Rattle.sheets.specs.SheetRows.{tablesIn}
-use Rattle.nodes.specs.Fields.{fiveTexts}
+use Rattle.fields.specs.Fields.{fiveTexts}
 use Rattle.nodes.proofs.Tallies.{tally-is}
 use Rattle.nodes.proofs.tally_of.Statement.{statement}
 use Rattle.nodes.proofs.tally_of.Tie as tie

@@ -9,10 +9,10 @@ use mathlib.Core.List.{List}
 use Rattle.rules.specs.Tables.{Tables}
 use Rattle.rules.specs.Nodes.{wordOf}
 use Rattle.sheets.specs.SheetRows.{tablesIn}
-use Rattle.nodes.specs.Fields.{lineAt, fieldsFrom, firstFive}
+use Rattle.fields.specs.Fields.{lineAt, fieldsFrom, firstFive}
 use Rattle.nodes.specs.Answers.{nodeAnswer}
-use Rattle.nodes.specs.declared.places.Fields.{Fields}
-use Rattle.nodes.specs.declared.places.Five.the-variants.{Whole}
+use Rattle.fields.specs.declared.Fields.{Fields}
+use Rattle.fields.specs.declared.Five.the-variants.{Whole}
 use Rattle.nodes.specs.declared.NodeAnswer.{NodeAnswer}
 use Rattle.nodes.proofs.LineAnswers.{word-line-late, word-line-short, line-placed, line-edges-fit, word-line-told}
 use Rattle.nodes.proofs.word_line.Statement.{statement}

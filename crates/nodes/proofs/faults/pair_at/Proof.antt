@@ -2,7 +2,7 @@
 -- Assumes nothing.
 use borrow.Author.Needs.{needs}
 use Rattle.sheets.specs.SheetRows.{tablesIn}
-use Rattle.nodes.specs.Fields.{textBetween}
+use Rattle.fields.specs.Fields.{textBetween}
 use Rattle.nodes.proofs.Tallies.{pair-is}
 use Rattle.nodes.proofs.faults.pair_at.Statement.{statement}
 use Rattle.nodes.proofs.faults.pair_at.Tie as tie

@@ -10,13 +10,13 @@ use Rattle.rules.specs.Texts.{Text}
 use Rattle.rules.specs.Tables.{Tables}
 use Rattle.rules.proofs.RuleLaws.{lesser}
 use Rattle.sheets.specs.SheetRows.{tablesIn}
-use Rattle.nodes.specs.Fields.{fieldsFrom, textBetween}
+use Rattle.fields.specs.Fields.{fieldsFrom, textBetween}
 use Rattle.nodes.specs.Faults.{pairAt, pairsOf}
 use Rattle.rules.proofs.Largest.{larger}
 use Rattle.nodes.specs.declared.faults.Pairs.{Pairs}
 use Rattle.nodes.specs.declared.faults.Parent.{Parent}
-use Rattle.nodes.proofs.FieldSteps.{FieldStep, none-behind, field-end, field-found}
-use Rattle.nodes.proofs.FiveFields.{then}
+use Rattle.fields.proofs.FieldSteps.{FieldStep, none-behind, field-end, field-found}
+use Rattle.fields.proofs.FiveFields.{then}
 use Rattle.nodes.proofs.PairWalk.{soFar, pairs-start, pairs-end, pairs-odd, pairs-more}
 use Rattle.nodes.proofs.faults.pairs_from.Statement.{statement}
 use Rattle.nodes.proofs.faults.pairs_from.Tie as tie

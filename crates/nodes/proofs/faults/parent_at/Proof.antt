@@ -11,7 +11,7 @@ use Rattle.rules.specs.Texts.{Text}
 use Rattle.rules.specs.Numbers.{parentNumber}
 use Rattle.rules.proofs.LesserLaws.{wrong}
 use Rattle.numbers.proofs.Told.{good-tells, bad-tells}
-use Rattle.nodes.specs.Fields.{textBetween}
+use Rattle.fields.specs.Fields.{textBetween}
 use Rattle.nodes.specs.Faults.{parentAt}
 use Rattle.nodes.proofs.FaultLaws.{parentIs, parent-bad, parent-root, parent-phrase}
 use Rattle.nodes.proofs.faults.parent_at.Statement.{statement}

@@ -9,7 +9,7 @@ use lib.Dec.{ltb}
 use Rattle.rules.specs.Texts.{Text}
 use Rattle.rules.proofs.LesserLaws.{wrong}
 use Rattle.numbers.proofs.Told.{good-tells, bad-tells}
-use Rattle.nodes.specs.Fields.{textBetween}
+use Rattle.fields.specs.Fields.{textBetween}
 use Rattle.nodes.specs.Faults.{secondaryAt}
 use Rattle.nodes.proofs.FaultLaws.{parentIs, secondary-bad, secondary-phrase}
 use Rattle.nodes.proofs.faults.secondary_at.Statement.{statement}

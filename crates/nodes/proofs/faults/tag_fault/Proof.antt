@@ -9,7 +9,7 @@ use Rattle.rules.specs.Texts.{Text}
 use Rattle.rules.specs.Tables.{Tables, tagLimit, known}
 use Rattle.rules.proofs.LesserLaws.{wrong}
 use Rattle.sheets.specs.SheetRows.{tablesIn}
-use Rattle.nodes.specs.Fields.{textBetween}
+use Rattle.fields.specs.Fields.{textBetween}
 use Rattle.nodes.specs.Faults.{tagFault}
 use Rattle.nodes.proofs.FaultLaws.{length-between, tag-long, tag-short}
 use Rattle.nodes.proofs.faults.tag_fault.Statement.{statement}

@@ -8,10 +8,10 @@ use mathlib.Core.List.{List, [], _∷_}
 use lib.Dec.{leb}
 use lib.ListN.{length}
 use Rattle.rules.specs.Texts.{Text}
-use Rattle.nodes.specs.Fields.{fieldsFrom, endOf, textBetween, firstFive, Placed, fiveTexts}
-use Rattle.nodes.specs.declared.places.Fields.{Fields}
-use Rattle.nodes.specs.declared.places.Five.the-variants.{Whole, Short}
-use Rattle.nodes.proofs.FieldSteps.{FieldStep, end-between, head-step}
+use Rattle.fields.specs.Fields.{fieldsFrom, endOf, textBetween, firstFive, Placed, fiveTexts}
+use Rattle.fields.specs.declared.Fields.{Fields}
+use Rattle.fields.specs.declared.Five.the-variants.{Whole, Short}
+use Rattle.fields.proofs.FieldSteps.{FieldStep, end-between, head-step}
 
 pub record FiveSteps (head : List ℕ) (at : ℕ) (f : Fields) : Type 0 where
   pub first : FieldStep head at (f .first) (f .«first_end»)

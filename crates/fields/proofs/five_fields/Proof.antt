@@ -1,14 +1,14 @@
--- `nodes::places::five_fields` meets its contract: five steps, each from the end of the field in front of it; where one finds no
+-- `fields::five_fields` meets its contract: five steps, each from the end of the field in front of it; where one finds no
 -- field the line is short. Assumes nothing.
 use borrow.Author.Needs.{needs}
 use Prim.Native.Nat.{ℕ}
 use mathlib.Core.Path.{sym, ap, _∙_}
 use mathlib.Core.List.{List}
-use Rattle.nodes.specs.Fields.{firstFive}
-use Rattle.nodes.proofs.FieldSteps.{FieldStep, field-end, field-found}
-use Rattle.nodes.proofs.FiveFields.{then, five-whole}
-use Rattle.nodes.proofs.places.five_fields.Statement.{statement}
-use Rattle.nodes.proofs.places.five_fields.Tie as tie
+use Rattle.fields.specs.Fields.{firstFive}
+use Rattle.fields.proofs.FieldSteps.{FieldStep, field-end, field-found}
+use Rattle.fields.proofs.FiveFields.{then, five-whole}
+use Rattle.fields.proofs.five_fields.Statement.{statement}
+use Rattle.fields.proofs.five_fields.Tie as tie
 
 abbrev head : tie.After-shared-slice-known → List ℕ
 head s = s .before .args .head .now

@@ -16,8 +16,8 @@ use Rattle.columns.specs.declared.Column as cursor
 use Rattle.columns.specs.declared.Column.the-variants as cursor-variants
 use Rattle.columns.specs.declared.Cursor.{Cursor}
 use Rattle.columns.proofs.Steps.{Step, missing, found}
-use Rattle.nodes.specs.Fields.{fieldsFrom, endOf, textBetween, firstField}
-use Rattle.nodes.specs.declared.places.Field.the-variants.{Found, End}
+use Rattle.fields.specs.Fields.{fieldsFrom, endOf, textBetween, firstField}
+use Rattle.fields.specs.declared.Field.the-variants.{Found, End}
 
 -- a field that is found, and what is left behind it
 pub record FieldStep (head : List ℕ) (at a e : ℕ) : Type 0 where

@@ -1,4 +1,4 @@
--- `nodes::places::next_field` meets its contract: the column that the reader comes to is the next field unless it is exactly %%.
+-- `fields::next_field` meets its contract: the column that the reader comes to is the next field unless it is exactly %%.
 -- Assumes nothing.
 use borrow.Author.Needs.{needs}
 use native.Mathlib.Omega.{arith}
@@ -9,10 +9,10 @@ use Rattle.columns.specs.Cursors.{columnAt}
 use Rattle.columns.specs.declared.Column.the-variants.{Found}
 use Rattle.columns.specs.declared.Cursor.{Cursor}
 use Rattle.columns.proofs.Steps.{Step, found}
-use Rattle.nodes.specs.Fields.{firstField}
-use Rattle.nodes.proofs.FieldSteps.{none-missing, none-percents, one-more, step-first}
-use Rattle.nodes.proofs.places.next_field.Statement.{statement}
-use Rattle.nodes.proofs.places.next_field.Tie as tie
+use Rattle.fields.specs.Fields.{firstField}
+use Rattle.fields.proofs.FieldSteps.{none-missing, none-percents, one-more, step-first}
+use Rattle.fields.proofs.next_field.Statement.{statement}
+use Rattle.fields.proofs.next_field.Tie as tie
 
 abbrev head : tie.After-column-at → List ℕ
 head s = s .before .before .args .head .now

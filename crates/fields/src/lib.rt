@@ -1,7 +1,7 @@
 // Where the fields of a node line stand.
 ghost use mathlib.Core.Path.{_≡_};
 ghost use Rattle.rules.specs.Bytes.{classTable};
-ghost use Rattle.nodes.specs.Fields.{fieldsFrom, firstField, firstFive};
+ghost use Rattle.fields.specs.Fields.{fieldsFrom, firstField, firstFive};
 use columns::Column;
 
 // The next field, from its first byte to behind its last; none stands behind the line's end or a column %%.

@@ -5,11 +5,11 @@ use mathlib.Core.List.{List, [], _∷_}
 use lib.ListN.{length, take, drop}
 use Rattle.rules.specs.Texts.{Text}
 use Rattle.rules.specs.Columns.{columnsFrom, fields}
-use Rattle.nodes.specs.declared.places.Field.{Field}
-use Rattle.nodes.specs.declared.places.Field.the-variants.{Found, End}
-use Rattle.nodes.specs.declared.places.Fields.{Fields}
-use Rattle.nodes.specs.declared.places.Five.{Five}
-use Rattle.nodes.specs.declared.places.Five.the-variants.{Whole, Short}
+use Rattle.fields.specs.declared.Field.{Field}
+use Rattle.fields.specs.declared.Field.the-variants.{Found, End}
+use Rattle.fields.specs.declared.Fields.{Fields}
+use Rattle.fields.specs.declared.Five.{Five}
+use Rattle.fields.specs.declared.Five.the-variants.{Whole, Short}
 
 -- the line that starts at a place, in the file up to the line's end
 abbrev pub lineAt : List ℕ → ℕ → Text

@@ -1,0 +1,2 @@
+pub mod FieldSteps
+pub mod FiveFields
