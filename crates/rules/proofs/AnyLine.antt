@@ -1,5 +1,5 @@
 -- What the columns of any line are: solid texts of the line's bytes, one behind the other with a white byte between two,
--- and a comment without white bytes at its ends. By one step along the bytes. Assumes nothing.
+-- and a comment without white bytes at its ends. By one step along the bytes.
 use Prim.Native.Nat.{ℕ, suc, _+_, _≤_}
 use native.Mathlib.Omega.{arith}
 use mathlib.Core.Path.{_≡_, refl, sym, ap, _∙_}
@@ -11,7 +11,7 @@ use borrow.Author.Tests.{not-false}
 use Rattle.rules.specs.Lists.{pick, empty, every, same}
 use Rattle.rules.specs.Bytes.{white, legal, percents}
 use Rattle.rules.specs.Texts.{Text, trim, trimFrom}
-use Rattle.rules.specs.Columns.{Column, goesOn, longer, lastByte, columnsFrom, fields, comment}
+use Rattle.rules.specs.Columns.{Column, goesOn, withFirst, lastByte, columnsFrom, fields, comment}
 use Rattle.rules.proofs.ColumnLaws.{columns-on, columns-last}
 use Rattle.rules.proofs.Conjunctions.{and-left, and-right, and-both, not-true}
 use Rattle.rules.proofs.TrimLaws.{Trimmed, trimmed-nothing, trim-trim, trim-every, trim-length}
@@ -22,7 +22,7 @@ use Rattle.rules.proofs.PrintedLines.{black, solid, field, remark}
 abbrev pub solidColumn : Column → Bool
 solidColumn c = solid (c .text .bytes)
 
-longer-solid : (at b : ℕ) (cs : List Column) → white b ≡ false → every solidColumn cs ≡ true → every solidColumn (longer at b cs) ≡ true
+longer-solid : (at b : ℕ) (cs : List Column) → white b ≡ false → every solidColumn cs ≡ true → every solidColumn (withFirst at b cs) ≡ true
 longer-solid at b [] e s = refl
 longer-solid at b (c ∷ cs) e s =
     let t = c .text .bytes in
@@ -35,7 +35,7 @@ columns-solid at [] = refl
 columns-solid at (b ∷ bs) = by (white b) (goesOn bs) refl (columns-solid (suc at) bs)
   where
     by : (t g : Bool) → white b ≡ t → every solidColumn (columnsFrom (suc at) bs) ≡ true
-        → every solidColumn (pick t (columnsFrom (suc at) bs) (pick g (longer at b (columnsFrom (suc at) bs)) (lastByte at b bs ∷ columnsFrom (suc at) bs))) ≡ true
+        → every solidColumn (pick t (columnsFrom (suc at) bs) (pick g (withFirst at b (columnsFrom (suc at) bs)) (lastByte at b bs ∷ columnsFrom (suc at) bs))) ≡ true
     by true g e s = s
     by false true e s = longer-solid at b (columnsFrom (suc at) bs) e s
     by false false e s = rw (e, s)
@@ -46,7 +46,7 @@ lawful c = every legal c
 abbrev pub lawfulColumn : Column → Bool
 lawfulColumn c = lawful (c .text .bytes) && lawful (c .after .bytes)
 
-longer-lawful : (at b : ℕ) (cs : List Column) → legal b ≡ true → every lawfulColumn cs ≡ true → every lawfulColumn (longer at b cs) ≡ true
+longer-lawful : (at b : ℕ) (cs : List Column) → legal b ≡ true → every lawfulColumn cs ≡ true → every lawfulColumn (withFirst at b cs) ≡ true
 longer-lawful at b [] e a = refl
 longer-lawful at b (c ∷ cs) e a = rw e a
 
@@ -56,7 +56,7 @@ columns-lawful at [] a = refl
 columns-lawful at (b ∷ bs) a = by (white b) (goesOn bs) (columns-lawful (suc at) bs (and-right (legal b) (lawful bs) a))
   where
     by : (t g : Bool) → every lawfulColumn (columnsFrom (suc at) bs) ≡ true
-        → every lawfulColumn (pick t (columnsFrom (suc at) bs) (pick g (longer at b (columnsFrom (suc at) bs)) (lastByte at b bs ∷ columnsFrom (suc at) bs))) ≡ true
+        → every lawfulColumn (pick t (columnsFrom (suc at) bs) (pick g (withFirst at b (columnsFrom (suc at) bs)) (lastByte at b bs ∷ columnsFrom (suc at) bs))) ≡ true
     by true g i = i
     by false true i = longer-lawful at b (columnsFrom (suc at) bs) (and-left (legal b) (lawful bs) a) i
     by false false i = rw (and-left (legal b) (lawful bs) a, and-right (legal b) (lawful bs) a, i)
@@ -134,7 +134,7 @@ abbrev pub unled : Bool → ℕ
 unled true = 1
 unled false = 0
 
-spaced-longer : (at b : ℕ) (cs : List Column) (m : ℕ) → Spaced cs m → Spaced (longer at b cs) (suc m)
+spaced-longer : (at b : ℕ) (cs : List Column) (m : ℕ) → Spaced cs m → Spaced (withFirst at b cs) (suc m)
 spaced-longer at b [] m s = tt
 spaced-longer at b (c ∷ cs) m s = (omega (arith, s .0), s .1, s .2)
 
@@ -144,10 +144,10 @@ columns-spaced at [] = tt
 columns-spaced at (b ∷ bs) = by (white b) (goesOn bs) refl (columns-spaced (suc at) bs)
   where
     by : (t g : Bool) → goesOn bs ≡ g → Spaced (columnsFrom (suc at) bs) (length bs + unled g)
-        → Spaced (pick t (columnsFrom (suc at) bs) (pick g (longer at b (columnsFrom (suc at) bs)) (lastByte at b bs ∷ columnsFrom (suc at) bs))) (suc (length bs) + unled (not t))
+        → Spaced (pick t (columnsFrom (suc at) bs) (pick g (withFirst at b (columnsFrom (suc at) bs)) (lastByte at b bs ∷ columnsFrom (suc at) bs))) (suc (length bs) + unled (not t))
     by true true e s = spaced-more (columnsFrom (suc at) bs) (length bs + 1) (suc (length bs) + 0) (omega arith) s
     by true false e s = spaced-more (columnsFrom (suc at) bs) (length bs + 0) (suc (length bs) + 0) (omega arith) s
-    by false true e s = spaced-more (longer at b (columnsFrom (suc at) bs)) (suc (length bs + 1)) (suc (length bs) + 1) (omega arith) (spaced-longer at b (columnsFrom (suc at) bs) (length bs + 1) s)
+    by false true e s = spaced-more (withFirst at b (columnsFrom (suc at) bs)) (suc (length bs + 1)) (suc (length bs) + 1) (omega arith) (spaced-longer at b (columnsFrom (suc at) bs) (length bs + 1) s)
     by false false e s = (omega arith, e, spaced-more (columnsFrom (suc at) bs) (length bs + 0) (length bs) (omega arith) s)
 
 remark-le : (w : ℕ) (x : List ℕ) → length (remark w x) ≤ 4 + length x
@@ -175,31 +175,31 @@ spaced-room w (c ∷ cs) m s = by (same (c .text .bytes) percents) refl (spaced-
     by true e i = omega (arith, s .0, percents-length (c .text .bytes) e, remark-length w (c .after .start) (c .after .bytes) (s .1))
     by false e i = omega (arith, s .0)
 
--- the columns in front of the comment and the comment, printed, are no longer than the line
+-- the columns in front of the comment and the comment, printed, are no withFirst than the line
 pub line-room : (w at : ℕ) (bs : List ℕ)
     → room (bytesOf (fields (columnsFrom at bs))) + length (remark w (comment (columnsFrom at bs) .bytes)) ≤ length bs + unled (goesOn bs)
 line-room w at bs = spaced-room w (columnsFrom at bs) (length bs + unled (goesOn bs)) (columns-spaced at bs)
 
 -- ---- a line that starts with its first column
 
-pub record Begun (at : ℕ) (bs : List ℕ) : Type 0 where
+pub record BegunBy (at : ℕ) (bs : List ℕ) : Type 0 where
   pub first : Column
   pub others : List Column
   pub form : columnsFrom at bs ≡ first ∷ others
   pub whole : bs ≡ first .text .bytes ++ first .after .bytes
   pub ends : goesOn (first .after .bytes) ≡ false
 
-pub begun : (at : ℕ) (bs : List ℕ) → goesOn bs ≡ true → Begun at bs
-begun at [] g = absurd (false≢true g)
-begun at (b ∷ bs) g = by (goesOn bs) refl (λ q. begun (suc at) bs q)
+pub begun-by : (at : ℕ) (bs : List ℕ) → goesOn bs ≡ true → BegunBy at bs
+begun-by at [] g = absurd (false≢true g)
+begun-by at (b ∷ bs) g = by (goesOn bs) refl (λ q. begun-by (suc at) bs q)
   where
-    by : (t : Bool) → goesOn bs ≡ t → (goesOn bs ≡ true → Begun (suc at) bs) → Begun at (b ∷ bs)
+    by : (t : Bool) → goesOn bs ≡ t → (goesOn bs ≡ true → BegunBy (suc at) bs) → BegunBy at (b ∷ bs)
     by true e more =
         let s = more e in
         record {
           first = record { text = record { start = at; bytes = b ∷ s .first .text .bytes }; after = s .first .after };
           others = s .others;
-          form = columns-on at b bs (not-true (white b) g) e ∙ ap (longer at b) (s .form);
+          form = columns-on at b bs (not-true (white b) g) e ∙ ap (withFirst at b) (s .form);
           whole = ap (λ (l : List ℕ). b ∷ l) (s .whole);
           ends = s .ends;
         }

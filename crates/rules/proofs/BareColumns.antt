@@ -1,9 +1,9 @@
 -- The reading's columns of a line's bytes alone, as if the line stood at the file's beginning: the words in which laws tie
--- the reading to the grammar. Assumes nothing.
+-- the reading to the grammar.
 use Prim.Native.Nat.{ℕ}
 use mathlib.Core.List.{List, map}
 use Rattle.rules.specs.Texts.{Text, trim}
-use Rattle.rules.specs.Columns.{columnsFrom, column, written, texts, fields}
+use Rattle.rules.specs.Columns.{columnsFrom, column, written, texts, fields, comment}
 
 -- all columns of a line
 abbrev pub allColumns : List ℕ → List (List ℕ)
@@ -12,6 +12,10 @@ allColumns line = map (λ (t : Text). t .bytes) (texts (columnsFrom 0 line))
 -- the columns in front of the comment, which the first column that is exactly %% begins
 abbrev pub frontColumns : List ℕ → List (List ℕ)
 frontColumns line = map (λ (t : Text). t .bytes) (fields (columnsFrom 0 line))
+
+-- the comment
+abbrev pub commentOf : List ℕ → List ℕ
+commentOf line = comment (columnsFrom 0 line) .bytes
 
 -- a column of a line, counted from 0
 abbrev pub columnAt : ℕ → List ℕ → List ℕ

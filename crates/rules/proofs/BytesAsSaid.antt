@@ -1,5 +1,5 @@
 -- The tests of bytes and lines hold exactly where the grammar says so: legal and white bytes, lines that are ignored, lines
--- that start with their first column. Assumes nothing.
+-- that start with their first column.
 use Prim.Native.Nat.{ℕ, _≤_}
 use native.Mathlib.Omega.{arith}
 use mathlib.Core.Path.{_≡_, refl, sym, ap, _∙_, subst}
@@ -16,7 +16,7 @@ use Rattle.rules.proofs.EachElement.{each-then}
 use Rattle.rules.proofs.SaidOfLists.{every-each, each-every, and-both-ways, or-both-ways, not-both-ways}
 use Rattle.rules.proofs.TestsAsFacts.{leb-is, eqb-is, same-is}
 
-between-said : (low high b : ℕ) → (between low high b ≡ true) ↔ ((low ≤ b) × (b ≤ high))
+pub between-said : (low high b : ℕ) → (between low high b ≡ true) ↔ ((low ≤ b) × (b ≤ high))
 between-said low high b = (
   λ e. let p = and-both-ways (leb low b) (leb b high) .0 e in (leb-is low b .0 (p .0), leb-is b high .0 (p .1)),
   λ p. and-both-ways (leb low b) (leb b high) .1 (leb-is low b .1 (p .0), leb-is b high .1 (p .1)),

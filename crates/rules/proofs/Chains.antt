@@ -1,5 +1,5 @@
 -- Chains of parents, whatever gives the parents: where each step leads to 0 or to a larger phrase number, and phrases are
--- numbered from 500 up to a last one, a chain climbs to 0 in no more steps than there are numbers left. Assumes nothing.
+-- numbered from 500 up to a last one, a chain climbs to 0 in no more steps than there are numbers left.
 use Prim.Native.Nat.{ℕ, zero, suc, _+_, _≤_, _<_}
 use native.Mathlib.Omega.{arith}
 use mathlib.Core.Path.{_≡_, refl, ap, _∙_}

@@ -1,5 +1,4 @@
 -- The rule of the byte classes, computed over all 256 bytes and carried to each: every walk along bytes cites it.
--- Assumes nothing.
 use mathlib.Core.Path.{_≡_, refl, ap, _∙_}
 use mathlib.Core.Bool.{Bool, true, false, not}
 use Prim.Native.Nat.{ℕ, _<_}

@@ -1,5 +1,5 @@
 -- Laws of a line's columns: white bytes in front are in no column, and a run of bytes that aren't white, with a white
--- byte or nothing behind it, is one column. By one step along the bytes. Assumes nothing.
+-- byte or nothing behind it, is one column. By one step along the bytes.
 use Prim.Native.Nat.{ℕ, suc, _+_, _<_}
 use native.Mathlib.Nat.{add-zero, add-suc, suc-add, zero-lt-suc, not-suc-le-zero}
 use mathlib.Core.Path.{_≡_, sym, ap, _∙_}
@@ -9,7 +9,7 @@ use lib.ListN.{length}
 use Rattle.rules.specs.Lists.{every, any}
 use Rattle.rules.specs.Bytes.{white}
 use Rattle.rules.proofs.Conjunctions.{and-left, and-right, or-left, or-right}
-use Rattle.rules.specs.Columns.{Column, goesOn, longer, lastByte, columnsFrom}
+use Rattle.rules.specs.Columns.{Column, goesOn, withFirst, lastByte, columnsFrom}
 
 -- the column of these bytes at a place, with the rest of its line
 abbrev pub columnOf : ℕ → List ℕ → List ℕ → Column
@@ -20,7 +20,7 @@ pub columns-white : (at b : ℕ) (rest : List ℕ) → white b ≡ true → colu
 unfolding columnsFrom
 columns-white at b rest e = rw e
 
-pub columns-on : (at b : ℕ) (rest : List ℕ) → white b ≡ false → goesOn rest ≡ true → columnsFrom at (b ∷ rest) ≡ longer at b (columnsFrom (suc at) rest)
+pub columns-on : (at b : ℕ) (rest : List ℕ) → white b ≡ false → goesOn rest ≡ true → columnsFrom at (b ∷ rest) ≡ withFirst at b (columnsFrom (suc at) rest)
 unfolding columnsFrom
 columns-on at b rest e g = rw (e, g)
 
@@ -43,5 +43,5 @@ columns-run at (b ∷ x ∷ xs) rest h e g =
     let more : any white (x ∷ xs) ≡ false = or-right (white b) (any white (x ∷ xs)) e in
     let on : goesOn (x ∷ xs ++ rest) ≡ true = ap not (or-left (white x) (any white xs) more) in
     columns-on at b (x ∷ xs ++ rest) (or-left (white b) (any white (x ∷ xs)) e) on
-    ∙ ap (longer at b) (columns-run (suc at) (x ∷ xs) rest (zero-lt-suc (length xs)) more g)
+    ∙ ap (withFirst at b) (columns-run (suc at) (x ∷ xs) rest (zero-lt-suc (length xs)) more g)
     ∙ simp (add-suc, suc-add)

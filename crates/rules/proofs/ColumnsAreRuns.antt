@@ -1,5 +1,5 @@
 -- The columns of a line are the runs of its bytes that aren't white, all of them and no others, and behind each stands the
--- rest of the line. By one step along the columns. Assumes nothing.
+-- rest of the line. By one step along the columns.
 use Prim.Native.Nat.{ℕ, zero, suc, _+_, _≤_}
 use native.Mathlib.Omega.{arith}
 use mathlib.Core.Path.{_≡_, refl, sym, ap, _∙_, subst}

@@ -1,5 +1,5 @@
 -- A line has these columns, begins with these, or has these in front of its comment, exactly where the reading's columns say
--- so. By one step along the columns. Assumes nothing.
+-- so. By one step along the columns.
 use Prim.Native.Nat.{ℕ, zero, suc, _+_, _≤_, _<_}
 use native.Mathlib.Omega.{arith}
 use mathlib.Core.Path.{_≡_, refl, sym, ap, _∙_, subst}
@@ -14,11 +14,12 @@ use Rattle.rules.specs.Texts.{Text}
 use Rattle.rules.specs.Columns.{Column, columnsFrom, column, written, texts, fields}
 use Rattle.rules.specs.GrammarLines.{White}
 use Rattle.rules.proofs.Conjunctions.{false-if-never}
-use Rattle.rules.proofs.BareColumns.{allColumns, frontColumns, restBehind}
+use Rattle.rules.proofs.BareColumns.{allColumns, frontColumns, commentOf, restBehind}
 use Rattle.rules.specs.GrammarColumns.{Begins, no-column, one-column, Columns, Front}
 use Rattle.rules.proofs.ColumnLaws.{columnOf}
 use Rattle.rules.proofs.SaidOfLists.{length-map}
 use Rattle.rules.proofs.TestsAsFacts.{same-is}
+use Rattle.rules.proofs.CommentsAsSaid.{Commented, comment-skip, comment-said, said-comment}
 use Rattle.rules.proofs.ColumnsAreRuns.{one-run, white-none, columns-begin, columns-only, columns-whole}
 
 -- ---- all columns
@@ -143,12 +144,19 @@ halves (x ∷ xs) ys (one-column gap e w r p b) =
     let h = halves xs ys b in
     record { between = h .between; first = one-column gap e w r p (h .first); second = h .second }
 
-pub front-said : (l : List ℕ) (xs : List (List ℕ)) → frontColumns l ≡ xs → Front l xs
+pub front-said : (l : List ℕ) (xs : List (List ℕ)) → frontColumns l ≡ xs → Front l xs (commentOf l)
 front-said l xs e =
     let w = columns-whole l in
     let f = subst (Fronts (allColumns l)) (sym (front-of (columnsFrom 0 l)) ∙ e) (fronts (allColumns l)) in
     let h = halves xs (f .back) (subst (λ (cs : List (List ℕ)). Begins l cs (w .0)) (f .are) (w .1)) in
-    record { rest = h .between; begins = h .first; no-sign = f .no-sign; then-comment = by (h .between) (w .0) (w .2) (f .back) (f .next) (h .second) }
+    record {
+      rest = h .between;
+      begins = h .first;
+      no-sign = f .no-sign;
+      then-comment =
+          subst (Commented (h .between)) (sym (comment-skip (h .first) (f .no-sign) 0))
+          (comment-said (h .between) (by (h .between) (w .0) (w .2) (f .back) (f .next) (h .second)));
+    }
   where
     nothing : {m r : List ℕ} → Begins m [] r → Each White r → Each White m
     nothing no-column w = w
@@ -158,10 +166,14 @@ front-said l xs e =
     by m r w ys (inl e) b = inl (nothing (subst (λ (ys : List (List ℕ)). Begins m ys r) e b) w)
     by m r w ys (inr k) b = inr (begins-some (subst (λ (ys : List (List ℕ)). Begins m ys r) (k .1) b) 1)
 
-pub said-front : (l : List ℕ) (xs : List (List ℕ)) → Front l xs → frontColumns l ≡ xs
-said-front l xs f =
-    front-of (columnsFrom 0 l) ∙ ap frontOf (columns-begin (f .begins)) ∙ front-only xs (allColumns (f .rest)) (f .no-sign) (by (f .then-comment))
-  where
-    by : Each White (f .rest) ⊎ ((comment : List ℕ) × Begins (f .rest) (percents ∷ []) comment) → (allColumns (f .rest) ≡ []) ⊎ ((more : List (List ℕ)) × (allColumns (f .rest) ≡ percents ∷ more))
-    by (inl w) = inl (ap (λ (ds : List Column). map (λ (t : Text). t .bytes) (texts ds)) (white-none 0 (f .rest) w))
-    by (inr c) = inr (allColumns (c .0), columns-begin (c .1))
+module _ (l : List ℕ) (xs : List (List ℕ)) (text : List ℕ) (f : Front l xs text) where
+  pub said-front : frontColumns l ≡ xs
+  said-front =
+      front-of (columnsFrom 0 l) ∙ ap frontOf (columns-begin (f .begins)) ∙ front-only xs (allColumns (f .rest)) (f .no-sign) (by (f .then-comment))
+    where
+      by : Commented (f .rest) text → (allColumns (f .rest) ≡ []) ⊎ ((more : List (List ℕ)) × (allColumns (f .rest) ≡ percents ∷ more))
+      by (inl w) = inl (ap (λ (ds : List Column). map (λ (t : Text). t .bytes) (texts ds)) (white-none 0 (f .rest) (w .0)))
+      by (inr c) = inr (allColumns (c .0), columns-begin (c .1))
+
+  pub front-comment : commentOf l ≡ text
+  front-comment = comment-skip (f .begins) (f .no-sign) 0 ∙ said-comment (f .rest) text (f .then-comment)

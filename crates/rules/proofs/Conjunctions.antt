@@ -1,4 +1,4 @@
--- What tests joined by "and" tell, of two and of every element of a list. Assumes nothing.
+-- What tests joined by "and" tell, of two and of every element of a list.
 use Prim.Native.Nat.{ℕ}
 use native.Mathlib.Omega.{arith}
 use mathlib.Core.Path.{_≡_, refl, sym, ap, _∙_}

@@ -1,4 +1,4 @@
--- Laws of the numbers counted from a place on, and of a test that is computed at each of them. Assumes nothing.
+-- Laws of the numbers counted from a place on, and of a test that is computed at each of them.
 use mathlib.Core.Path.{_≡_, refl, sym, ap, _∙_, subst}
 use mathlib.Core.Bool.{Bool, true, false, _&&_}
 use mathlib.Core.List.{map}

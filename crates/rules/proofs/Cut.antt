@@ -1,5 +1,5 @@
 -- What further bytes do to a reading: nothing handed out is touched, and what is added ends behind them. For whatever a
--- step is: it is never unfolded here. Assumes nothing.
+-- step is: it is never unfolded here.
 use Prim.Native.Nat.{ℕ, suc, _+_, _≤_, _<_}
 use native.Mathlib.Nat.{add-zero}
 use native.Mathlib.Omega.{arith}
@@ -14,10 +14,10 @@ use borrow.Author.Tests.{le-leb, lt-leb}
 use Rattle.rules.specs.Lists.{pick, Each}
 use Rattle.rules.specs.Bytes.{newline}
 use Rattle.rules.specs.Rules.{Fault}
-use Rattle.rules.specs.Lines.{Preamble, behindSentence, Answer, refuse, go, hand, step}
-use Rattle.rules.specs.Reading.{Handed, Reading, line, numbers, ended, longer, later, sound, byteUnless, byte, read}
+use Rattle.rules.specs.Phases.{Preamble, behindSentence, Answer, refuse, go, hand, step}
+use Rattle.rules.specs.Reading.{Handed, Reading, line, numbers, ended, withByte, later, sound, byteUnless, byte, read}
 use Rattle.rules.specs.Survey.{lastEnd}
-use Rattle.rules.specs.Cutting.{endsWithin, within}
+use Rattle.rules.specs.Cutting.{endsWithin, endedWithin}
 use Rattle.rules.proofs.EachElement.{each-then}
 
 -- ---- the sentences of the first bytes
@@ -28,20 +28,20 @@ ends-within n h k = le-leb (h .end) _ (omega (arith, k))
 ends-behind : (n : ℕ) (h : Handed) → n < h .end → endsWithin n h ≡ false
 ends-behind n h k = lt-leb (h .end) _ (omega (arith, k))
 
-pub within-all : (n : ℕ) (hs : List Handed) → Each (λ (h : Handed). h .end ≤ n) hs → within n hs ≡ hs
+pub within-all : (n : ℕ) (hs : List Handed) → Each (λ (h : Handed). h .end ≤ n) hs → endedWithin n hs ≡ hs
 within-all n [] a = refl
 within-all n (h ∷ hs) a = rw (ends-within n h (a .0), within-all n hs (a .1))
 
-pub within-none : (n : ℕ) (hs : List Handed) → Each (λ (h : Handed). n < h .end) hs → within n hs ≡ []
+pub within-none : (n : ℕ) (hs : List Handed) → Each (λ (h : Handed). n < h .end) hs → endedWithin n hs ≡ []
 within-none n [] a = refl
 within-none n (h ∷ hs) a = rw (ends-behind n h (a .0), within-none n hs (a .1))
 
-pub within-append : (n : ℕ) (gs hs : List Handed) → within n (gs ++ hs) ≡ within n gs ++ within n hs
+pub within-append : (n : ℕ) (gs hs : List Handed) → endedWithin n (gs ++ hs) ≡ endedWithin n gs ++ endedWithin n hs
 within-append n [] hs = refl
 within-append n (g ∷ gs) hs = by (endsWithin n g) (within-append n gs hs)
   where
-    by : (t : Bool) → within n (gs ++ hs) ≡ within n gs ++ within n hs
-        → pick t (g ∷ within n (gs ++ hs)) (within n (gs ++ hs)) ≡ pick t (g ∷ within n gs) (within n gs) ++ within n hs
+    by : (t : Bool) → endedWithin n (gs ++ hs) ≡ endedWithin n gs ++ endedWithin n hs
+        → pick t (g ∷ endedWithin n (gs ++ hs)) (endedWithin n (gs ++ hs)) ≡ pick t (g ∷ endedWithin n gs) (endedWithin n gs) ++ endedWithin n hs
     by true e = ap (λ (l : List Handed). g ∷ l) e
     by false e = e
 
@@ -66,7 +66,7 @@ pub record Gave (r s : Reading) : Type 0 where
   pub rested : Rested s
 
 by-answer : (r : Reading) (b : ℕ) (t : Bool) (a : Answer)
-    → Quiet r (pick t (ended r a) (longer r b)) ⊎ Gave r (pick t (ended r a) (longer r b))
+    → Quiet r (pick t (ended r a) (withByte r b)) ⊎ Gave r (pick t (ended r a) (withByte r b))
 by-answer r b true (refuse q) = inl (record { one = refl; unchanged = refl })
 by-answer r b true (go p) = inl (record { one = refl; unchanged = refl })
 by-answer r b true (hand p s) =

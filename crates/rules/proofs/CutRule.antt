@@ -1,4 +1,4 @@
--- Demand 3, the cut rule: a file cut anywhere, with nothing or any bytes behind the cut. Assumes nothing.
+-- Demand 3, the cut rule: a file cut anywhere, with nothing or any bytes behind the cut.
 use Prim.Native.Nat.{ℕ, _≤_, _<_}
 use native.Mathlib.Nat.{zero-add}
 use native.Mathlib.Omega.{arith}
@@ -11,9 +11,9 @@ use borrow.Author.Tests.{le-leb}
 use Rattle.rules.specs.Lists.{Each}
 use Rattle.rules.specs.Numbers.{fileLimit}
 use Rattle.rules.specs.Reading.{Handed, Reading, begin, read}
-use Rattle.rules.specs.Lines.{tablesAt}
+use Rattle.rules.specs.Phases.{tablesAt}
 use Rattle.rules.specs.Survey.{lastEnd, surveyOf}
-use Rattle.rules.specs.Cutting.{within, soundPart, SoundPart, CutRule}
+use Rattle.rules.specs.Cutting.{endedWithin, soundPart, SoundPart, CutRule}
 use Rattle.rules.proofs.EachElement.{each-then}
 use Rattle.rules.proofs.ReadLines.{read-append}
 use Rattle.rules.proofs.NoLateTable.{Late, late-tables, read-late}
@@ -50,8 +50,8 @@ rested-tables p q r =
 
 -- ---- the sentences whose end line lies in the kept part come first
 
--- the bytes p of a file p ++ q hand out just the sentences that end within them
-kept : (p q : List ℕ) → within (length p) (read begin (p ++ q) .handed) ≡ read begin p .handed
+-- the bytes p of a file p ++ q hand out just the sentences that end endedWithin them
+kept : (p q : List ℕ) → endedWithin (length p) (read begin (p ++ q) .handed) ≡ read begin p .handed
 kept p q =
     let g = grow begin p in
     let k = grow (read begin p) q in
@@ -61,14 +61,14 @@ kept p q =
     (each-then (λ (h : Handed). h .end ≤ read begin p .at) (λ (h : Handed). h .end ≤ length p) (λ h i. omega (arith, at)) (g .more) (g .sooner)) in
     let high : Each (λ (h : Handed). length p < h .end) (k .more) =
     each-then (λ (h : Handed). read begin p .at < h .end) (λ (h : Handed). length p < h .end) (λ h i. omega (arith, at)) (k .more) (k .later) in
-    ap (λ (r : Reading). within (length p) (r .handed)) (read-append begin p q)
-    ∙ ap (within (length p)) (k .handed)
+    ap (λ (r : Reading). endedWithin (length p) (r .handed)) (read-append begin p q)
+    ∙ ap (endedWithin (length p)) (k .handed)
     ∙ within-append (length p) (read begin p .handed) (k .more)
     ∙ rw (within-all (length p) (read begin p .handed) low, within-none (length p) (k .more) high) (append-nil (read begin p .handed))
 
 record Front (p q x : List ℕ) : Type 0 where
   pub others : List Handed
-  pub first : surveyOf (p ++ x) .handed ≡ within (length p) (surveyOf (p ++ q) .handed) ++ others
+  pub first : surveyOf (p ++ x) .handed ≡ endedWithin (length p) (surveyOf (p ++ q) .handed) ++ others
   pub alone : x ≡ [] → others ≡ []
 
 front : (p q x : List ℕ) → length (p ++ q) ≤ fileLimit → length (p ++ x) ≤ fileLimit → Front p q x
@@ -78,7 +78,7 @@ front p q x h k =
       others = g .more;
       first =
           handed-read (p ++ x) k ∙ ap (λ (r : Reading). r .handed) (read-append begin p x) ∙ g .handed
-          ∙ ap (λ (l : List Handed). l ++ g .more) (sym (ap (within (length p)) (handed-read (p ++ q) h) ∙ kept p q));
+          ∙ ap (λ (l : List Handed). l ++ g .more) (sym (ap (endedWithin (length p)) (handed-read (p ++ q) h) ∙ kept p q));
       alone = nothing-more (read begin p) x;
     }
 
@@ -115,6 +115,6 @@ cut-rule f n x h k m =
       alone = c .alone;
       sound = sound-part (take n f ++ x) m;
       first =
-          subst (λ (l : List ℕ). surveyOf (take n f ++ x) .handed ≡ within n (surveyOf l .handed) ++ c .others) whole
-          (subst (λ (i : ℕ). surveyOf (take n f ++ x) .handed ≡ within i (surveyOf (take n f ++ drop n f) .handed) ++ c .others) (length-take-le n f h) (c .first));
+          subst (λ (l : List ℕ). surveyOf (take n f ++ x) .handed ≡ endedWithin n (surveyOf l .handed) ++ c .others) whole
+          (subst (λ (i : ℕ). surveyOf (take n f ++ x) .handed ≡ endedWithin i (surveyOf (take n f ++ drop n f) .handed) ++ c .others) (length-take-le n f h) (c .first));
     }

@@ -1,5 +1,5 @@
 -- A number is written in one way, and read back from it: digits that follow each other from the highest on, without a
--- leading zero. By induction on the count of digits allowed. Assumes nothing.
+-- leading zero. By induction on the count of digits allowed.
 use mathlib.Core.Path.{_≡_, refl, sym, ap, ap₂, _∙_}
 use mathlib.Core.Logic.{_⊎_, inl, inr}
 use mathlib.Core.Bool.{Bool, true, false, not, _&&_, false≢true, and-false}
@@ -11,9 +11,9 @@ use native.Mathlib.Omega.{arith}
 use lib.Dec.{leb, ltb, eqb}
 use borrow.Author.Tests.{le-leb, leb-true, lt-ltb, le-ltb, ltb-true, ltb-false, ne-eqb, eqb-true, eqb-false, not-true}
 use Rattle.rules.proofs.Conjunctions.{and-both, both, every-joined}
-use Rattle.rules.specs.Lists.{pick, between, bytes, empty, every, same, member}
+use Rattle.rules.specs.Lists.{pick, between, bytes, empty, every, same}
 use Rattle.rules.specs.Bytes.{white, digit, legal}
-use Rattle.rules.specs.Numbers.{Kind, idPlusOne, valueFrom, plain, decimal, within, number, plusOne, signedId, parentNumber}
+use Rattle.rules.specs.Numbers.{Kind, idPlusOne, valueFrom, plain, decimal, within, number, plusOne, signedId}
 use Rattle.rules.specs.Tidy.{digitsWithin, digitsOf, idDigits}
 
 -- ---- tests that hold together
@@ -23,7 +23,7 @@ digit-range b e = let p = both (leb 48 b) (leb b 57) e in (leb-true 48 b (p .0),
 
 -- ---- values
 
-value-last : (v : ℕ) (xs : List ℕ) (d : ℕ) → valueFrom v (xs ++ (d ∷ [])) ≡ valueFrom v xs * 10 + (d - 48)
+pub value-last : (v : ℕ) (xs : List ℕ) (d : ℕ) → valueFrom v (xs ++ (d ∷ [])) ≡ valueFrom v xs * 10 + (d - 48)
 unfolding valueFrom
 value-last v [] d = refl
 value-last v (x ∷ xs) d = value-last (v * 10 + (x - 48)) xs d
@@ -102,10 +102,6 @@ digits-read-back n =
 pub number-read-back : (k : Kind) (n : ℕ) → k .lowest ≤ n → n ≤ k .highest → number k (digitsOf n) ≡ some n
 number-read-back k n l h = rw (digits-read-back n, le-leb (k .lowest) n l, le-leb n (k .highest) h)
 
-pub parent-read-back : (n : ℕ) → (n ≡ 0) ⊎ ((500 ≤ n) × (n ≤ 999)) → parentNumber (digitsOf n) ≡ some n
-parent-read-back n (inl z) = rw (digits-read-back n, z)
-parent-read-back n (inr p) = rw (digits-read-back n, ne-eqb n 0 (λ z. omega arith), le-leb 500 n (p .0), le-leb n 999 (p .1))
-
 -- digits are never -1
 no-minus : (xs : List ℕ) → every digit xs ≡ true → same xs (bytes "-1") ≡ false
 no-minus [] e = refl
@@ -147,16 +143,6 @@ digit-not-white b e = let r = digit-range b e in rw (ne-eqb b 9 (λ z. omega ari
 pub digit-legal : (b : ℕ) → digit b ≡ true → legal b ≡ true
 digit-legal b e = let r = digit-range b e in rw (ne-eqb b 9 (λ z. omega arith), le-leb 32 b (omega arith), le-leb b 127 (omega arith))
 
--- no digit is a byte that is none
-digit-not : (x : ℕ) → digit x ≡ false → (b : ℕ) → digit b ≡ true → not (eqb x b) ≡ true
-digit-not x n b e = rw (ne-eqb x b (λ z. false≢true (sym n ∙ ap digit z ∙ e)))
-
-lacks : (x : ℕ) (xs : List ℕ) → every (λ (b : ℕ). not (eqb x b)) xs ≡ true → member x xs ≡ false
-lacks x [] e = refl
-lacks x (y ∷ ys) e =
-    let b = both (not (eqb x y)) (every (λ (b : ℕ). not (eqb x b)) ys) e in
-    rw (not-true (eqb x y) (b .0)) (lacks x ys (b .1))
-
 pub digits-not-white : (n : ℕ) → every (λ (b : ℕ). not (white b)) (digitsOf n) ≡ true
 digits-not-white = digits-every (λ (b : ℕ). not (white b)) digit-not-white
 
@@ -168,14 +154,6 @@ digits-legal = digits-every legal digit-legal
 
 pub id-legal : (i : ℕ) → every legal (idDigits i) ≡ true
 id-legal = id-every legal digit-legal refl
-
--- a byte that is no digit, as 10, 35 and 37, stands in no number
-pub digits-lack : (x : ℕ) → digit x ≡ false → (n : ℕ) → member x (digitsOf n) ≡ false
-digits-lack x h n = lacks x (digitsOf n) (digits-every (λ (b : ℕ). not (eqb x b)) (digit-not x h) n)
-
--- nor in an id, unless it is the sign
-pub id-lacks : (x : ℕ) → digit x ≡ false → eqb x 45 ≡ false → (i : ℕ) → member x (idDigits i) ≡ false
-id-lacks x h s i = lacks x (idDigits i) (id-every (λ (b : ℕ). not (eqb x b)) (digit-not x h) (ap not s) i)
 
 -- ---- one writing
 

@@ -1,5 +1,5 @@
 -- Different numbers that all stand in a list are no more than the list has: each takes a place of its own from it. And
--- numbers counted from a place on are different. Assumes nothing.
+-- numbers counted from a place on are different.
 use Prim.Native.Nat.{ℕ, zero, suc, _+_, _≤_, _<_}
 use native.Mathlib.Omega.{arith}
 use mathlib.Core.Path.{_≡_, refl, sym, ap, _∙_}

@@ -1,4 +1,4 @@
--- Laws of what holds of each element of a list: along lists joined and mapped. By one step along the list. Assumes nothing.
+-- Laws of what holds of each element of a list: along lists joined and mapped. By one step along the list.
 use mathlib.Core.Path.{_≡_}
 use mathlib.Core.Bool.{Bool, true}
 use mathlib.Core.List.{List, [], _∷_, _++_, map}

@@ -1,5 +1,5 @@
 -- A row of EDITOR that was granted is fit to be printed, and read back from the printed line. From the line's rules, one
--- by one. Assumes nothing.
+-- by one.
 use Prim.Native.Nat.{ℕ, _+_, _≤_, _<_}
 use native.Mathlib.Omega.{arith}
 use mathlib.Core.Path.{_≡_, refl, ap, _∙_}
@@ -17,7 +17,7 @@ use Rattle.rules.specs.Numbers.{rowLimit, signedId, good, value}
 use Rattle.rules.specs.Rules.{Rule, rule, granted}
 use Rattle.rules.specs.Tables.{Row, hasId}
 use Rattle.rules.specs.Rows.{roomFor, editorRow}
-use Rattle.rules.specs.Lines.{Answer, refuse, next}
+use Rattle.rules.specs.Phases.{Answer, refuse, next}
 use Rattle.rules.specs.Meaning.{bareRow}
 use Rattle.rules.specs.Tidy.{tab, idDigits}
 use Rattle.rules.proofs.Conjunctions.{not-true}

@@ -1,4 +1,4 @@
--- Laws of lists that are mapped and joined. By one step along the list. Assumes nothing.
+-- Laws of lists that are mapped and joined. By one step along the list.
 use Prim.Native.Nat.{ℕ, zero, suc}
 use mathlib.Core.Path.{_≡_, refl, sym, ap, _∙_}
 use mathlib.Core.Bool.{Bool, _||_}
@@ -9,6 +9,12 @@ use Rattle.rules.specs.Lists.{any, joined}
 pub map-append : {A B : Type 0} (f : A → B) (xs ys : List A) → map f (xs ++ ys) ≡ map f xs ++ map f ys
 map-append f [] ys = refl
 map-append f (x ∷ xs) ys = ap (λ (l : List _). f x ∷ l) (map-append f xs ys)
+
+-- two lists that are mapped to the same, and one more of each
+pub maps-more : {A B C : Type 0} (f : A → C) (g : B → C) (xs : List A) (ys : List B) (x : A) (y : B) → map f xs ≡ map g ys → f x ≡ g y
+    → map f (xs ++ (x ∷ [])) ≡ map g (ys ++ (y ∷ []))
+maps-more {C = C} f g xs ys x y e q =
+    map-append f xs (x ∷ []) ∙ ap (λ (zs : List C). zs ++ (f x ∷ [])) e ∙ ap (λ (z : C). map g ys ++ (z ∷ [])) q ∙ sym (map-append g ys (y ∷ []))
 
 pub map-map : {A B C : Type 0} (f : B → C) (g : A → B) (xs : List A) → map f (map g xs) ≡ map (λ (x : A). f (g x)) xs
 map-map f g [] = refl

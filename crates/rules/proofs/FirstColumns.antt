@@ -1,5 +1,4 @@
--- What the tests of a line's first column tell of it: it is there, and in a phrase's the digits stand behind #. Assumes
--- nothing.
+-- What the tests of a line's first column tell of it: it is there, and in a phrase's the digits stand behind #.
 use Prim.Native.Nat.{ℕ}
 use mathlib.Core.Path.{_≡_, refl, ap, _∙_}
 use mathlib.Core.Bool.{Bool, true, false, not, _||_, false≢true}

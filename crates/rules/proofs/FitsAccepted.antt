@@ -1,114 +1,162 @@
--- A file that fits the grammar is accepted. Sentence by sentence, behind the tables. Assumes nothing.
+-- A file that contains what the grammar says is accepted, and what is read of it is that. Sentence by sentence, behind the
+-- tables.
 use Prim.Native.Nat.{ℕ, _+_}
 use native.Mathlib.Omega.{arith}
 use mathlib.Core.Path.{_≡_, refl, sym, ap, _∙_, subst}
 use mathlib.Core.Bool.{Bool}
-use mathlib.Core.List.{List, [], _∷_, _++_, map, append-assoc}
+use mathlib.Core.Option.{Option}
+use mathlib.Core.List.{List, [], _∷_, _++_, map, append-assoc, append-nil}
 use lib.ListN.{length}
 use borrow.Author.Tests.{le-leb}
 use Rattle.rules.specs.Lists.{pick, bytes, joined, member, Each}
 use Rattle.rules.specs.Texts.{Text}
 use Rattle.rules.specs.Numbers.{fileLimit}
-use Rattle.rules.specs.Tables.{Tables, origins, editors}
-use Rattle.rules.specs.Sentences.{headingOf}
+use Rattle.rules.specs.Tables.{noTables, origins, editors}
+use Rattle.rules.specs.Sentences.{Sentence, headingOf}
 use Rattle.rules.specs.Keywords.{firstColumn}
-use Rattle.rules.specs.Lines.{Preamble, Phase, start, top, inSentence, behindSentence, hand, next, behindOne, beginning, atTop, lineAt}
-use Rattle.rules.specs.Reading.{begin, read, outcome}
+use Rattle.rules.specs.Phases.{Preamble, Phase, start, top, inSentence, behindSentence, hand, next, begun, formatAt, tablesAt}
+use Rattle.rules.specs.Reading.{Handed, Reading, begin, read}
 use Rattle.rules.specs.Survey.{answered, nothingRead, surveyOf}
+use Rattle.rules.specs.GrammarNumbers.{sentenceRange}
+use Rattle.rules.specs.GrammarContent.{RowContent, SentenceContent, Content}
+use Rattle.rules.specs.GrammarSurvey.{tableRead, sentenceRead, contentOf}
 use Rattle.rules.specs.GrammarLines.{In, Differ, Starts}
+use Rattle.rules.proofs.Takings.{goBegun, answerBehind, answerTop, answerAt}
 use Rattle.rules.proofs.EachElement.{each-then}
-use Rattle.rules.proofs.Elements.{map-append}
+use Rattle.rules.proofs.Elements.{map-map, maps-more}
 use Rattle.rules.proofs.BareColumns.{columnAt}
 use Rattle.rules.specs.GrammarTables.{TableLines, tableLines, whiches}
-use Rattle.rules.specs.GrammarSentences.{SentenceLines, SentenceFits, EosFits, nodesOf, nodeLines, sentenceLines}
-use Rattle.rules.specs.Grammar.{Fits, sentenceNumbers}
+use Rattle.rules.specs.GrammarSentences.{SentenceLines, SentenceFits, EosFits, nodesOf, nodeLines, sentenceLines, sentenceSays}
+use Rattle.rules.specs.Grammar.{Contains, sentenceNumbers}
 use Rattle.rules.proofs.Same.{same-false}
 use Rattle.rules.proofs.BytesAsSaid.{Started, started-said, heededOf, heeded-only}
 use Rattle.rules.proofs.SaidOfLists.{differ-map-next}
 use Rattle.rules.proofs.TestsAsFacts.{is-member}
-use Rattle.rules.proofs.TablesAsSaid.{Stand, stand-none, is-there}
+use Rattle.rules.proofs.TablesAsSaid.{Stand, stand-none, is-there, tables-say}
 use Rattle.rules.proofs.KeywordsAsSaid.{keyword-first}
 use Rattle.rules.proofs.HeadsAsSaid.{front-column, head-grants}
-use Rattle.rules.proofs.SentenceEnds.{end-grants}
+use Rattle.rules.proofs.SentenceEnds.{SentenceAlike, end-grants}
 use Rattle.rules.proofs.TablesFollow.{Follows, one-line, keyword-reads, other-keyword, format-follows, tables-follow}
 use Rattle.rules.proofs.SentencesFollow.{words-follow, phrases-follow, taken-end}
-use Rattle.rules.proofs.LineByLine.{Through, Accepting, bytesOf, heededTexts, heeded-bytes}
-use Rattle.rules.proofs.LinesOfFiles.{placed, placed-bytes, takes-accepted}
+use Rattle.rules.proofs.LineByLine.{numbersIn, Through, bytesOf, heededTexts, heeded-bytes}
+use Rattle.rules.proofs.LinesOfFiles.{placed, placed-bytes, sentencesOf, Reaches, Ended, takes-accepted}
+
+-- ---- a sentence as read, and as said
+
+same-sentence : (s : Sentence) (t : SentenceLines) → SentenceAlike s (t .head) (t .words) (t .phrases) → sentenceRead s ≡ sentenceSays t
+same-sentence s t a = cc
+
+numbers-same : (out : List Sentence) (done : List SentenceLines) → map sentenceRead out ≡ map sentenceSays done → numbersIn out ≡ sentenceNumbers done
+numbers-same out done e =
+    sym (map-map (λ (s : SentenceContent). s .heading .number) sentenceRead out)
+    ∙ ap (map (λ (s : SentenceContent). s .heading .number)) e
+    ∙ map-map (λ (s : SentenceContent). s .heading .number) sentenceSays done
 
 -- nothing follows where a file may end
-ends-here : (ph : Phase) (used : List ℕ) → Accepting ph → Follows [] ph used
-ends-here ph used a [] e s = a
-ends-here ph used a (t ∷ ts) e s = absurd (let z : _≡_ {A = ℕ} 0 1 = cc in omega arith)
+ends-here : (E : Phase → List Sentence → Type 0) (ph : Phase) (out : List Sentence) → E ph out → Follows E [] ph out
+ends-here E ph out a [] e s = a
+ends-here E ph out a (t ∷ ts) e s = absurd (let z : _≡_ {A = ℕ} 0 1 = cc in omega arith)
 
-module _ (p : Preamble) (ts : List TableLines) (stand : Stand (p .tables) ts) (io : In origins (whiches ts)) (ie : In editors (whiches ts)) where
+module _ (E : Phase → List Sentence → Type 0) (p : Preamble) (ts : List TableLines) (stand : Stand (p .tables) ts) (io : In origins (whiches ts)) (ie : In editors (whiches ts)) where
   -- where a sentence may begin
-  abbrev BeginsAt : Phase → List ℕ → Type 1
-  BeginsAt ph used =
-      (K : Phase → List ℕ → Type 0) (line : Text) → Started (line .bytes) → columnAt 0 (line .bytes) ≡ bytes "#BOS"
-      → Through K used (next (beginning line (firstColumn line) p) (headingOf (p .tables) (λ n. member n used) line)) → Through K used (lineAt ph used line (firstColumn line))
+  abbrev BeginsAt : Phase → List Sentence → Type 1
+  BeginsAt ph out =
+      (K : Phase → List Sentence → Type 0) (line : Text) → Started (line .bytes) → columnAt 0 (line .bytes) ≡ bytes "#BOS"
+      → Through K out (next (goBegun p (line .start)) (headingOf (p .tables) (λ n. member n (numbersIn out)) line)) → Through K out (answerAt ph (numbersIn out) line (firstColumn line))
 
-  begins-behind : (used : List ℕ) → BeginsAt (behindSentence p) used
-  unfolding lineAt behindOne
-  begins-behind used K line s q t = rw (keyword-reads line (bytes "#BOS") s q) t
+  begins-behind : (out : List Sentence) → BeginsAt (behindSentence p) out
+  unfolding answerAt answerBehind
+  begins-behind out K line s q t = rw (keyword-reads line (bytes "#BOS") s q) t
 
-  begins-top : (used : List ℕ) → BeginsAt (top p) used
-  unfolding lineAt atTop behindOne
-  begins-top used K line s q t =
+  begins-top : (out : List Sentence) → BeginsAt (top p) out
+  unfolding answerAt answerTop answerBehind
+  begins-top out K line s q t =
       rw (other-keyword line (bytes "#BOS") (bytes "#BOT") s q (same-false (bytes "#BOS") (bytes "#BOT") refl), keyword-reads line (bytes "#BOS") s q) t
 
-  sentence-follows : (t : SentenceLines) (rest : List (List ℕ)) (ph : Phase) (used : List ℕ) → BeginsAt ph used → SentenceFits ts t → (In (t .head .number) used → ⊥)
-      → Follows rest (behindSentence p) (used ++ (t .head .number ∷ [])) → Follows (sentenceLines t ++ rest) ph used
-  sentence-follows t rest ph used b f new k =
+  sentence-follows : (t : SentenceLines) (rest : List (List ℕ)) (ph : Phase) (out : List Sentence) → BeginsAt ph out → SentenceFits sentenceRange (p .format) ts t
+      → (In (t .head .number) (numbersIn out) → ⊥) → ((s : Sentence) → sentenceRead s ≡ sentenceSays t → Follows E rest (behindSentence p) (out ++ (s ∷ [])))
+      → Follows E (sentenceLines t ++ rest) ph out
+  sentence-follows t rest ph out b f new k =
       let words = nodeLines (t .words) in
       let phrases = nodeLines (nodesOf (t .phrases)) in
-      let itself = t .head .number in
+      let head = t .head in
       let ends = t .eos ∷ rest in
-      subst (λ (ls : List (List ℕ)). Follows ls ph used)
-      (sym (append-assoc (t .head .line ∷ words ++ phrases) (t .eos ∷ []) rest ∙ append-assoc (t .head .line ∷ words) phrases ends))
-      (one-line (t .head .line) (words ++ (phrases ++ ends)) ph used (λ line e st.
-      let keyword = ap (columnAt 0) e ∙ front-column (t .head .line) (bytes "#BOS") _ (f .begins .columns) in
-      b (Follows (words ++ (phrases ++ ends))) line st keyword
-      (head-grants (p .tables) ts stand (Follows (words ++ (phrases ++ ends))) used line (λ n. member n used) (beginning line (firstColumn line) p) (t .head) (sym e) (f .begins) io ie
-      (λ h. new (is-member itself used .0 h))
+      subst (λ (ls : List (List ℕ)). Follows E ls ph out)
+      (sym (append-assoc (head .line ∷ words ++ phrases) (t .eos ∷ []) rest ∙ append-assoc (head .line ∷ words) phrases ends))
+      (one-line E (head .line) (words ++ (phrases ++ ends)) ph out (λ line e st.
+      let keyword = ap (columnAt 0) e ∙ front-column (head .line) (bytes "#BOS") _ (head .comment) (f .begins .columns) in
+      b (Follows E (words ++ (phrases ++ ends))) line st keyword
+      (head-grants (p .tables) ts stand (Follows E (words ++ (phrases ++ ends))) out line (λ n. member n (numbersIn out)) (goBegun p (line .start)) head (sym e) (f .begins) io ie
+      (λ h. new (is-member (head .number) (numbersIn out) .0 h))
       (λ r same.
-      words-follow p ts stand used itself (phrases ++ ends) (t .words) [] (record { heading = r; words = []; phrases = [] })
-      (record { its-number = same; word-sides = refl; phrase-sides = refl; phrase-numbers = refl })
+      words-follow E p ts stand out head (phrases ++ ends) (t .words) [] (begun (line .start) r)
+      (record { heading-is = same; words-are = refl; phrases-are = refl })
       (f .each-word) (f .words-at-most) (omega (arith, f .edges-at-most))
       (λ s a.
-      phrases-follow p ts stand used itself ends (t .words) (t .phrases) [] s a (f .each-phrase) (f .numbered .differ) (f .edges-at-most)
+      phrases-follow E p ts stand out head ends (t .words) (t .phrases) [] s a (f .each-phrase) (f .numbered .differ) (f .edges-at-most)
       (λ s a.
-      one-line (t .eos) rest (inSentence p s) used (λ line e st.
-      let eos = subst (EosFits itself) (sym e) (f .ends) in
-      taken-end p ts stand used itself rest (Follows rest) line s
+      one-line E (t .eos) rest (inSentence p s) out (λ line e st.
+      let eos = subst (EosFits sentenceRange (head .number)) (sym e) (f .ends) in
+      taken-end E p ts stand out head rest (Follows E rest) line s
       (keyword-reads line (bytes "#EOS") st (keyword-first line (bytes "#EOS") (eos .numberText) (eos .columns)))
-      (end-grants s itself (t .words) (t .phrases) a (Follows rest) used line (hand p) eos (λ n l u. f .numbered .no-gap n .1 (l, u)) (f .parents-of-words) (f .parents-of-phrases)
-      (subst (λ (n : ℕ). Follows rest (behindSentence p) (used ++ (n ∷ []))) (sym (a .its-number)) k)))))))))
+      (end-grants s head (t .words) (t .phrases) a (Follows E rest) out line (λ n. hand p s) eos (λ n l u. f .numbered .no-gap n .1 (l, u)) (f .parents-of-words) (f .parents-of-phrases)
+      (k s (same-sentence s t a))))))))))
 
-  sentences-follow : (rest done : List SentenceLines) → Each (SentenceFits ts) rest → Differ (sentenceNumbers (done ++ rest)) → Follows (joined (map sentenceLines rest)) (behindSentence p) (sentenceNumbers done)
-  sentences-follow [] done f d = ends-here (behindSentence p) (sentenceNumbers done) refl
-  sentences-follow (t ∷ rest) done f d =
-      sentence-follows t (joined (map sentenceLines rest)) (behindSentence p) (sentenceNumbers done) (begins-behind (sentenceNumbers done)) (f .0)
-      (differ-map-next (λ (s : SentenceLines). s .head .number) done t rest d)
-      (subst (Follows (joined (map sentenceLines rest)) (behindSentence p)) (map-append (λ (s : SentenceLines). s .head .number) done (t ∷ []))
-      (sentences-follow rest (done ++ (t ∷ [])) (f .1) (subst (λ (ss : List SentenceLines). Differ (sentenceNumbers ss)) (sym (append-assoc done (t ∷ []) rest)) d)))
+  sentences-follow : (rest done : List SentenceLines) (out : List Sentence) → map sentenceRead out ≡ map sentenceSays done → Each (SentenceFits sentenceRange (p .format) ts) rest
+      → Differ (sentenceNumbers (done ++ rest)) → ((out : List Sentence) → map sentenceRead out ≡ map sentenceSays (done ++ rest) → E (behindSentence p) out)
+      → Follows E (joined (map sentenceLines rest)) (behindSentence p) out
+  sentences-follow [] done out e f d k =
+      ends-here E (behindSentence p) out (k out (e ∙ ap (map sentenceSays) (sym (append-nil done))))
+  sentences-follow (t ∷ rest) done out e f d k =
+      let again = append-assoc done (t ∷ []) rest in
+      sentence-follows t (joined (map sentenceLines rest)) (behindSentence p) out (begins-behind out) (f .0)
+      (λ i. differ-map-next (λ (s : SentenceLines). s .head .number) done t rest d (subst (In (t .head .number)) (numbers-same out done e) i))
+      (λ s same.
+      sentences-follow rest (done ++ (t ∷ [])) (out ++ (s ∷ [])) (maps-more sentenceRead sentenceSays out done s t e same) (f .1)
+      (subst (λ (ss : List SentenceLines). Differ (sentenceNumbers ss)) (sym again) d)
+      (λ all g. k all (g ∙ ap (map sentenceSays) again)))
 
-  behind-tables : (ss : List SentenceLines) → Each (SentenceFits ts) ss → Differ (sentenceNumbers ss) → Follows (joined (map sentenceLines ss)) (top p) []
-  behind-tables [] f d = ends-here (top p) [] (rw (is-there (p .tables) ts stand origins .1 io, is-there (p .tables) ts stand editors .1 ie))
-  behind-tables (t ∷ rest) f d =
-      sentence-follows t (joined (map sentenceLines rest)) (top p) [] (begins-top []) (f .0) (λ i. i) (sentences-follow rest (t ∷ []) (f .1) d)
+  behind-tables : (ss : List SentenceLines) → Each (SentenceFits sentenceRange (p .format) ts) ss → Differ (sentenceNumbers ss) → (ss ≡ [] → E (top p) [])
+      → ((out : List Sentence) → map sentenceRead out ≡ map sentenceSays ss → E (behindSentence p) out) → Follows E (joined (map sentenceLines ss)) (top p) []
+  behind-tables [] f d none k = ends-here E (top p) [] (none refl)
+  behind-tables (t ∷ rest) f d none k =
+      sentence-follows t (joined (map sentenceLines rest)) (top p) [] (begins-top []) (f .0) (λ i. i)
+      (λ s same. sentences-follow rest (t ∷ []) (s ∷ []) (maps-more sentenceRead sentenceSays [] [] s t refl same) (f .1) d k)
 
-pub fits-accepted : (f : List ℕ) → Fits f → surveyOf f .refusal ≡ 0
+-- ---- the whole file
+
+-- what a reading has of its content, at a place where a file may end
+abbrev contentAt : Phase → List Sentence → Content
+contentAt ph out = record { format = formatAt ph; tables = map tableRead (tablesAt ph); sentences = map sentenceRead out }
+
+same-content : {n : ℕ} {T U : List (Option (List RowContent))} {ss rs : List SentenceContent} → T ≡ U → ss ≡ rs
+    → _≡_ {A = Content} (record { format = n; tables = T; sentences = ss }) (record { format = n; tables = U; sentences = rs })
+same-content e f = cc
+
+content-of : (r : Reading) → contentOf (answered r) ≡ contentAt (r .phase) (sentencesOf (r .handed))
+content-of r = same-content refl (sym (map-map sentenceRead (λ (h : Handed). h .sentence) (r .handed)))
+
+pub contains-read : (f : List ℕ) (c : Content) → Contains sentenceRange f c → (surveyOf f .refusal ≡ 0) × (contentOf (surveyOf f) ≡ c)
 unfolding surveyOf
-fits-accepted f t =
+contains-read f c t =
     let tables = t .tables-fit in
-    let whole : Follows (t .format ∷ joined (map tableLines (t .tables)) ++ joined (map sentenceLines (t .sentences))) start [] =
-    format-follows (t .format) (joined (map tableLines (t .tables)) ++ joined (map sentenceLines (t .sentences))) (t .format-fits)
-    (λ p e.
-    tables-follow (joined (map sentenceLines (t .sentences))) (t .tables) [] p (subst (λ (T : Tables). Stand T []) (sym e) stand-none) (tables .each-table) (tables .once)
-    (λ q stand. behind-tables q (t .tables) stand (tables .origin-there) (tables .editor-there) (t .sentences) (t .each-sentence) (t .numbers-differ))) in
+    let behind = joined (map sentenceLines (t .sentences)) in
+    let F : Phase → List Sentence → Type 0 = λ ph out. contentAt ph out ≡ c in
+    let whole : Follows (Ended F) (t .formatLine ∷ joined (map tableLines (t .tables)) ++ behind) start [] =
+    format-follows (Ended F) (t .formatLine) (joined (map tableLines (t .tables)) ++ behind) (t .format) (t .format-fits)
+    (tables-follow (Ended F) (t .format) behind (t .tables) [] noTables stand-none (tables .each-table) (tables .once)
+    (λ T stand.
+    let p : Preamble = record { format = t .format; tables = T } in
+    let says : (out : List Sentence) → map sentenceRead out ≡ map sentenceSays (t .sentences) → contentAt (behindSentence p) out ≡ c =
+    λ out e. same-content (tables-say T (t .tables) stand) e ∙ sym (t .says) in
+    let empty : t .sentences ≡ [] → Ended F (top p) [] =
+    λ e. (rw (is-there T (t .tables) stand origins .1 (tables .origin-there), is-there T (t .tables) stand editors .1 (tables .editor-there)), says [] (sym (ap (map sentenceSays) e))) in
+    behind-tables (Ended F) p (t .tables) stand (tables .origin-there) (tables .editor-there) (t .sentences) (t .each-sentence) (t .numbers-differ) empty (λ out e. (refl, says out e)))) in
     let at-places : bytesOf (heededTexts (placed 0 (t .lines))) ≡ heededOf (t .lines) = heeded-bytes (placed 0 (t .lines)) ∙ ap heededOf (placed-bytes 0 (t .lines)) in
     let taken = whole (heededTexts (placed 0 (t .lines))) (at-places ∙ sym (heeded-only (t .are-heeded)) ∙ t .parts)
     (subst (Each Started) (t .parts) (each-then Starts Started (λ l. started-said l .1) (t .heeded) (t .each-starts))) in
-    ap (λ (b : Bool). pick b (answered (read begin f)) (nothingRead 2) .refusal) (le-leb (length f) fileLimit (t .short))
-    ∙ ap (λ (f : List ℕ). outcome (read begin f) .number) (t .written)
-    ∙ takes-accepted (t .lines) (t .each-line) taken
+    let reached : Reaches F (read begin f) = subst (λ (f : List ℕ). Reaches F (read begin f)) (sym (t .written)) (takes-accepted F (t .lines) (t .each-line) taken) in
+    let fits = le-leb (length f) fileLimit (t .short) in (
+      ap (λ (b : Bool). pick b (answered (read begin f)) (nothingRead 2) .refusal) fits ∙ reached .0,
+      ap (λ (b : Bool). contentOf (pick b (answered (read begin f)) (nothingRead 2))) fits ∙ content-of (read begin f) ∙ reached .1,
+    )

@@ -1,5 +1,5 @@
 -- What stands on a #BOS line that was granted is fit to be printed, and read back from the printed line. From the line's
--- rules, one by one. Assumes nothing.
+-- rules, one by one.
 use Prim.Native.Nat.{ℕ, _≤_}
 use native.Mathlib.Omega.{arith}
 use mathlib.Core.Path.{_≡_, refl, sym, ap, ap₂, _∙_, subst}
@@ -17,7 +17,7 @@ use Rattle.rules.specs.Numbers.{Kind, sentenceNumber, originId, date, nu
 use Rattle.rules.specs.Rules.{Rule, rule, granted}
 use Rattle.rules.specs.Tables.{Tables, origins, editors, present}
 use Rattle.rules.specs.Sentences.{Heading, knownEditor, knownOrigin, headingOf}
-use Rattle.rules.specs.Lines.{Answer, refuse, next}
+use Rattle.rules.specs.Phases.{Answer, refuse, next}
 use Rattle.rules.specs.Meaning.{bareHeading, meantTables}
 use Rattle.rules.specs.Tidy.{space, digitsOf, idDigits}
 use Rattle.rules.proofs.Conjunctions.{and-left, and-right, and-both, not-true}
@@ -121,7 +121,7 @@ module _ (ts : Tables) (used : ℕ → Bool) (line : Text) where
   abbrev itsOrigin : Option ℕ
   itsOrigin = number originId (written cs 4 .bytes)
 
-  abbrev headingRules : List Rule
+  abbrev pub headingRules : List Rule
   headingRules =
       rule 7 line (ltb 4 (length cs) && empty (fields (drop 5 cs)))
       ∷ rule 8 (written cs 1) (good itsNumber)
@@ -134,7 +134,7 @@ module _ (ts : Tables) (used : ℕ → Bool) (line : Text) where
       ∷ rule 15 (written cs 4) (knownOrigin ts (value itsOrigin))
       ∷ []
 
-  abbrev headingRead : Heading
+  abbrev pub headingRead : Heading
   headingRead =
       record {
         number = value itsNumber;

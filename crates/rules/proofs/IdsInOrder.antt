@@ -1,5 +1,5 @@
 -- The ids of a table of tags are -1 if given, 0 if given, then 1, 2, 3 without a gap exactly if each follows the one in
--- front of it. By one step along the ids. Assumes nothing.
+-- front of it. By one step along the ids.
 use Prim.Native.Nat.{ℕ, zero, suc, _≤_}
 use native.Mathlib.Omega.{arith}
 use mathlib.Core.Path.{_≡_, refl, sym, ap, _∙_, subst}

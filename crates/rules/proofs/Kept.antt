@@ -1,5 +1,5 @@
 -- What holds wherever a reading stands: the tables, the rows so far, the sentence so far and the sentences handed out are
--- fit to be printed. Assumes nothing.
+-- fit to be printed.
 use Prim.Native.Nat.{ℕ, zero, suc, _+_, _≤_, _<_}
 use mathlib.Core.Path.{_≡_, sym, _∙_, subst}
 use mathlib.Core.Bool.{Bool, true, false, _&&_}
@@ -10,7 +10,7 @@ use lib.ListN.{length, set}
 use Rattle.rules.specs.Lists.{Each}
 use Rattle.rules.specs.Tables.{Tables, Row, origins, editors, present}
 use Rattle.rules.specs.Sentences.{Sentence}
-use Rattle.rules.specs.Lines.{Preamble, Phase, start, top, inTable, inSentence, behindSentence, Answer, refuse, go, hand}
+use Rattle.rules.specs.Phases.{Preamble, Phase, start, top, inTable, inSentence, behindSentence, Answer, refuse, go, hand}
 use Rattle.rules.specs.Meaning.{bareRow, sentenceNumberOf, meantTables}
 use Rattle.rules.proofs.Sorting.{Distinct, has}
 use Rattle.rules.proofs.RowsKept.{RowsKept}
@@ -40,8 +40,8 @@ pub record PreambleKept (p : Preamble) : Type 0 where
 
 -- ---- sentences, of a file whose tables mean ts
 
-pub record SentencesKept (ts : Tables) (ss : List Sentence) : Type 0 where
-  pub each : Each (SentenceKept ts) ss
+pub record SentencesKept (format : ℕ) (ts : Tables) (ss : List Sentence) : Type 0 where
+  pub each : Each (SentenceKept format ts) ss
   pub distinct : Distinct sentenceNumberOf ss
 
 abbrev pub both : Tables → Bool
@@ -54,13 +54,13 @@ means p = meantTables (p .tables)
 
 pub record InSentence (p : Preamble) (s : Sentence) (ss : List Sentence) : Type 0 where
   pub preamble : PreambleKept p
-  pub part : PartKept (means p) (bareSentence s)
-  pub sentences : SentencesKept (means p) ss
+  pub part : PartKept (p .format) (means p) (bareSentence s)
+  pub sentences : SentencesKept (p .format) (means p) ss
   pub new : has sentenceNumberOf (s .heading .number) ss ≡ false
 
 pub record BehindSentence (p : Preamble) (ss : List Sentence) : Type 0 where
   pub preamble : PreambleKept p
-  pub sentences : SentencesKept (means p) ss
+  pub sentences : SentencesKept (p .format) (means p) ss
   pub both : both (means p) ≡ true
 
 pub record InTable (p : Preamble) (n : ℕ) (rs : List Row) (ss : List Sentence) : Type 0 where

@@ -1,22 +1,20 @@
 -- What every reading keeps, byte by byte, and so what is known of a file that is accepted: its tables and its sentences are
--- fit to be printed, and what it means is told from them. By one step along the bytes. Assumes nothing.
+-- fit to be printed, and what it means is told from them. By one step along the bytes.
 use Prim.Native.Nat.{ℕ, suc, _≤_}
 use native.Mathlib.Omega.{arith}
 use mathlib.Core.Path.{_≡_, refl, sym, ap, ap₂, _∙_, subst}
 use mathlib.Core.Bool.{Bool, true, false, _&&_}
 use mathlib.Core.Option.{Option, none, some}
 use mathlib.Core.List.{List, [], _∷_, map}
-use lib.ListN.{length}
-use lib.Dec.{leb, eqb}
+use lib.Dec.{eqb}
 use Rattle.rules.specs.Lists.{pick, member, sorted}
 use Rattle.rules.specs.Bytes.{newline}
-use Rattle.rules.specs.Numbers.{fileLimit}
 use Rattle.rules.specs.Rules.{Fault}
 use Rattle.rules.specs.Tables.{origins, editors}
 use Rattle.rules.specs.Sentences.{Sentence}
-use Rattle.rules.specs.Lines.{Preamble, Phase, start, top, inTable, inSentence, behindSentence, Answer, refuse, go, hand, step, atEnd, formatAt, tablesAt}
-use Rattle.rules.specs.Reading.{Handed, Reading, begin, line, numbers, ended, longer, byteUnless, byte, read, closing, closingUnless, outcome}
-use Rattle.rules.specs.Survey.{Survey, answered, nothingRead, surveyOf}
+use Rattle.rules.specs.Phases.{Preamble, Phase, start, top, inTable, inSentence, behindSentence, Answer, refuse, go, hand, step, atEnd, formatAt, tablesAt}
+use Rattle.rules.specs.Reading.{Handed, Reading, begin, line, numbers, ended, withByte, byteUnless, byte, read, closing, closingUnless, verdict}
+use Rattle.rules.specs.Survey.{Survey, answered, nothingRead, surveyOf, fileFits}
 use Rattle.rules.specs.Meaning.{Meaning, sentenceNumberOf, meantSentence, meaningOf}
 use Rattle.rules.proofs.Elements.{map-append, any-map}
 use Rattle.rules.proofs.Sorting.{has}
@@ -56,7 +54,7 @@ ended-kept r (hand p s) k h =
 byte-kept : (r : Reading) (b : ℕ) → ReadingKept r → ReadingKept (byte r b)
 byte-kept r b k = by (r .fault) refl
   where
-    at-line : (t : Bool) → ReadingKept (pick t (ended r (step (r .phase) (numbers (r .handed)) (line r))) (longer r b))
+    at-line : (t : Bool) → ReadingKept (pick t (ended r (step (r .phase) (numbers (r .handed)) (line r))) (withByte r b))
     at-line true =
         ended-kept r (step (r .phase) (numbers (r .handed)) (line r)) k
         (step-kept (bares (r .handed)) (line r) (r .phase) (numbers (r .handed)) (used-same (r .handed)) (k .phase))
@@ -78,7 +76,7 @@ file-kept f = read-kept begin f (record { phase = refl; fault = no-fault })
 -- a preamble, and sentences that stand behind it
 pub record FileKept (p : Preamble) (ss : List Sentence) : Type 0 where
   pub preamble : PreambleKept p
-  pub sentences : SentencesKept (means p) ss
+  pub sentences : SentencesKept (p .format) (means p) ss
   pub both : both (means p) ≡ true
 
 pub record Ends (r : Reading) : Type 0 where
@@ -105,7 +103,7 @@ ends r k e = by (r .phase) refl k e
           kept =
               record {
                 preamble = k .0;
-                sentences = subst (SentencesKept (means p)) (sym (k .1)) (record { each = tt; distinct = tt });
+                sentences = subst (SentencesKept (p .format) (means p)) (sym (k .1)) (record { each = tt; distinct = tt });
                 both = ap₂ _&&_ (present-meant origins (p .tables)) (present-meant editors (p .tables)) ∙ thirteen (both (p .tables)) e;
               };
           format = ap formatAt q;
@@ -121,7 +119,7 @@ ends r k e = by (r .phase) refl k e
           tables = ap tablesAt q;
         }
 
-closing-ends : (r : Reading) → ReadingKept r → outcome r .number ≡ 0 → Ends r
+closing-ends : (r : Reading) → ReadingKept r → verdict r .number ≡ 0 → Ends r
 closing-ends r k e = by (r .fault) refl e
   where
     unended : (part : List ℕ) → closing r part .number ≡ 0 → Ends r
@@ -154,7 +152,7 @@ two-refuses : (t : Bool) (r : Reading) → pick t (answered r) (nothingRead 2) .
 two-refuses true r e = refl
 two-refuses false r e = absurd (omega (arith, e))
 
-pub survey-read : (f : List ℕ) → leb (length f) fileLimit ≡ true → surveyOf f ≡ answered (read begin f)
+pub survey-read : (f : List ℕ) → fileFits f ≡ true → surveyOf f ≡ answered (read begin f)
 unfolding surveyOf
 survey-read f e = rw e
 
@@ -162,7 +160,7 @@ pub accepted-kept : (f : List ℕ) → surveyOf f .refusal ≡ 0 → AcceptedKep
 unfolding surveyOf
 accepted-kept f e =
     let r = read begin f in
-    let fits : leb (length f) fileLimit ≡ true = two-refuses (leb (length f) fileLimit) r e in
+    let fits : fileFits f ≡ true = two-refuses (fileFits f) r e in
     let whole = survey-read f fits in
     let n = closing-ends r (file-kept f) (sym (ap (λ (s : Survey). s .refusal) whole) ∙ e) in
     record {

@@ -1,5 +1,4 @@
 -- Each line keeps what holds where a reading stands, whatever it does there. By the place and the line's first column.
--- Assumes nothing.
 use Prim.Native.Nat.{ℕ, suc, _+_, _≤_, _<_}
 use native.Mathlib.Nat.{zero-add}
 use native.Mathlib.Omega.{arith}
@@ -18,8 +17,9 @@ use Rattle.rules.specs.Rules.{Rule, rule}
 use Rattle.rules.specs.Tables.{Row, noTables, tableNames, placeFrom, tableNamed}
 use Rattle.rules.specs.Sentences.{Sentence}
 use Rattle.rules.specs.Keywords.{formatOf, fresh, tableOpened, itself, tableEnded, firstColumn, startsRow}
-use Rattle.rules.specs.Lines.{Preamble, Phase, start, top, inTable, inSentence, behindSentence, Answer, refuse, go, next, cannotStand, atStart, beginning, behindOne, atTop, withTable, withRow, amongRows, lineAt, step}
+use Rattle.rules.specs.Phases.{Preamble, Phase, start, top, inTable, inSentence, behindSentence, Answer, refuse, go, next, step}
 use Rattle.rules.specs.Meaning.{bareRow, sentenceNumberOf}
+use Rattle.rules.proofs.Takings.{goBegun, goClosed, goRow, refuseSix, answerStart, answerBehind, answerTop, answerRows, answerAt}
 use Rattle.rules.proofs.Same.{same-eq}
 use Rattle.rules.proofs.RulesHeld.{held}
 use Rattle.rules.proofs.Elements.{map-append}
@@ -71,12 +71,12 @@ module _ (ss : List Sentence) (line : Text) where
   bad : (r : Rule) → 1 ≤ r .number → P (refuse r)
   bad r h = h
 
-  six : P (cannotStand line)
+  six : P (refuseSix line)
   six = omega arith
 
   -- the format line
-  start-kept : ss ≡ [] → P (atStart line first)
-  unfolding atStart formatOf
+  start-kept : ss ≡ [] → P (answerStart line first)
+  unfolding answerStart formatOf
   start-kept z =
       either P (reads (bytes "#FORMAT") first) _ _
       (λ e.
@@ -89,19 +89,19 @@ module _ (ss : List Sentence) (line : Text) where
 
   module _ (f : LineFit (line .bytes)) (p : Preamble) (k : PreambleKept p) where
     -- a sentence begins
-    module _ (used : List ℕ) (same : (n : ℕ) → member n used ≡ has sentenceNumberOf n ss) (out : SentencesKept (means p) ss) where
-      begin-kept : P (behindOne line first p used)
-      unfolding behindOne
+    module _ (used : List ℕ) (same : (n : ℕ) → member n used ≡ has sentenceNumberOf n ss) (out : SentencesKept (p .format) (means p) ss) where
+      begin-kept : P (answerBehind line first p used)
+      unfolding answerBehind
       begin-kept =
           either P (reads (bytes "#BOS") first) _ _
           (λ e.
           let o = opened line f (reads-given (bytes "#BOS") first refl e) in
           let bos : o .first .text .bytes ≡ bytes "#BOS" = ap (λ (t : Text). t .bytes) (sym (o .column)) ∙ same-eq (first .bytes) (bytes "#BOS") e in
-          heading-cases (p .tables) (λ n. member n used) line f o bos P bad (beginning line first p)
+          heading-cases (p .tables) (λ n. member n used) line f o bos P bad (goBegun p (line .start))
           (λ h q new.
           record {
             preamble = k;
-            part = part-begun (means p) _ q;
+            part = part-begun (p .format) (means p) _ q;
             sentences = out;
             new = sym (same (h .number)) ∙ new;
           }))
@@ -117,10 +117,10 @@ module _ (ss : List Sentence) (line : Text) where
         (λ h. record { preamble = k; place = named-below (written (columns line) 1); rows = tt; nothing = z })
 
     -- a table ends
-    closed-kept : (n : ℕ) (rs : List Row) → InTable p n rs ss → P (next (λ m. withTable line first p m rs) (tableEnded n line))
+    closed-kept : (n : ℕ) (rs : List Row) → InTable p n rs ss → P (next (λ m. goClosed p n rs) (tableEnded n line))
     unfolding tableEnded
     closed-kept n rs t =
-        next-checked P bad (λ m. withTable line first p m rs)
+        next-checked P bad (λ m. goClosed p n rs)
         (rule 6 line (ltb (length (columns line)) 2 || itself n (tableNamed (written (columns line) 1))) ∷ rule 7 line (eqb (length (columns line)) 2) ∷ []) n refl
         (λ h. (
           record {
@@ -131,14 +131,14 @@ module _ (ss : List Sentence) (line : Text) where
           t .nothing,
         ))
 
-    rows-kept : (n : ℕ) (rs : List Row) → InTable p n rs ss → P (amongRows line first p n rs)
-    unfolding amongRows
+    rows-kept : (n : ℕ) (rs : List Row) → InTable p n rs ss → P (answerRows line first p n rs)
+    unfolding answerRows
     rows-kept n rs t =
         either P (reads (bytes "#EOT") first) _ _ (λ e. closed-kept n rs t)
         (λ e.
         either P (startsRow first) _ _
         (λ s.
-        row-cases P bad (withRow line first p n rs) rs line (f .lawful) n
+        row-cases P bad (goRow p n rs) rs line (f .lawful) n
         (λ r q.
         record {
           preamble = k;
@@ -148,14 +148,14 @@ module _ (ss : List Sentence) (line : Text) where
         }))
         (λ s. six))
 
-    top-kept : (used : List ℕ) → ((n : ℕ) → member n used ≡ has sentenceNumberOf n ss) → ss ≡ [] → P (atTop line first p used)
-    unfolding atTop
+    top-kept : (used : List ℕ) → ((n : ℕ) → member n used ≡ has sentenceNumberOf n ss) → ss ≡ [] → P (answerTop line first p used)
+    unfolding answerTop
     top-kept used same z =
         either P (reads (bytes "#BOT") first) _ _ (λ e. table-kept z)
-        (λ e. begin-kept used same (subst (SentencesKept (means p)) (sym z) (record { each = tt; distinct = tt })))
+        (λ e. begin-kept used same (subst (SentencesKept (p .format) (means p)) (sym z) (record { each = tt; distinct = tt })))
 
-  line-kept : (phase : Phase) (used : List ℕ) → ((n : ℕ) → member n used ≡ has sentenceNumberOf n ss) → Kept phase ss → LineFit (line .bytes) → P (lineAt phase used line first)
-  unfolding lineAt
+  line-kept : (phase : Phase) (used : List ℕ) → ((n : ℕ) → member n used ≡ has sentenceNumberOf n ss) → Kept phase ss → LineFit (line .bytes) → P (answerAt phase used line first)
+  unfolding answerAt
   line-kept start used same k f = start-kept k
   line-kept (top p) used same k f = top-kept f p (k .0) used same (k .1)
   line-kept (inTable p n rs) used same k f = rows-kept f p (k .preamble) n rs k

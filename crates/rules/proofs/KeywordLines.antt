@@ -1,5 +1,5 @@
 -- Keyword lines printed and read back: the format, a table's beginning and end, a sentence's end. From the columns of a
--- printed line. Assumes nothing.
+-- printed line.
 use Prim.Native.Nat.{ℕ, zero, suc, _≤_, _<_}
 use native.Mathlib.Omega.{arith}
 use mathlib.Core.Path.{_≡_, refl, sym, ap, _∙_}
@@ -16,7 +16,7 @@ use Rattle.rules.specs.Columns.{Column, columnsFrom, columns, written}
 use Rattle.rules.specs.Numbers.{sentenceNumber, formatNumber, number, good, value}
 use Rattle.rules.specs.Rules.{granted}
 use Rattle.rules.specs.Tables.{Tables, tableNamed, present}
-use Rattle.rules.specs.Sentences.{Sentence, gapless, parented, endRules, endOf}
+use Rattle.rules.specs.Sentences.{Sentence, gapless, parented, endRules, endOf, soFar}
 use Rattle.rules.specs.Keywords.{formatOf, fresh, tableOpened, itself, tableEnded}
 use Rattle.rules.specs.Tidy.{space, digitsOf, tableName}
 use Rattle.rules.proofs.Conjunctions.{and-left, and-both}
@@ -60,20 +60,20 @@ keyed-number-fit keyword n s i l h k =
 -- ---- the format line
 
 module _ (n at : ℕ) where
-  abbrev formatLine : Text
-  formatLine = record { start = at; bytes = keyed (bytes "#FORMAT") (digitsOf n) }
+  abbrev formatPrinted : Text
+  formatPrinted = record { start = at; bytes = keyed (bytes "#FORMAT") (digitsOf n) }
 
   format-solid : every solid (bytes "#FORMAT" ∷ digitsOf n ∷ []) ≡ true
   format-solid = and-both (solid (digitsOf n)) true (digits-solid n) refl
 
-  pub format-granted : n ≡ 3 → formatOf formatLine ≡ granted n
+  pub format-passes : n ≡ 3 → formatOf formatPrinted ≡ granted n
   unfolding formatOf
-  format-granted e =
-      let back : number formatNumber (written (columns formatLine) 1 .bytes) ≡ some n =
+  format-passes e =
+      let back : number formatNumber (written (columns formatPrinted) 1 .bytes) ≡ some n =
       ap (number formatNumber) (second (bytes "#FORMAT") (digitsOf n) format-solid at) ∙ number-read-back formatNumber n (omega arith) (omega (arith, e)) in
       holds-granted _ _
-      (and-both _ _ (eq-eqb (length (columns formatLine)) 2 (two (bytes "#FORMAT") (digitsOf n) format-solid at))
-      (and-both _ _ (ap good back) (and-both _ _ (eq-eqb (value (number formatNumber (written (columns formatLine) 1 .bytes))) 3 (ap value back ∙ e)) refl)))
+      (and-both _ _ (eq-eqb (length (columns formatPrinted)) 2 (two (bytes "#FORMAT") (digitsOf n) format-solid at))
+      (and-both _ _ (ap good back) (and-both _ _ (eq-eqb (value (number formatNumber (written (columns formatPrinted) 1 .bytes))) 3 (ap value back ∙ e)) refl)))
       ∙ ap granted (ap value back)
 
 -- ---- a sentence's end
@@ -85,9 +85,9 @@ module _ (s : Sentence) (at : ℕ) where
   end-solid : every solid (bytes "#EOS" ∷ digitsOf (s .heading .number) ∷ []) ≡ true
   end-solid = and-both (solid (digitsOf (s .heading .number))) true (digits-solid (s .heading .number)) refl
 
-  pub end-granted : 1 ≤ s .heading .number → s .heading .number ≤ 65535 → gapless (s .phrases) ≡ true → every (parented (s .phrases)) (s .words ++ s .phrases) ≡ true → endOf s endLine ≡ granted s
+  pub end-passes : 1 ≤ s .heading .number → s .heading .number ≤ 65535 → gapless (s .phrases) ≡ true → every (parented (s .phrases)) (s .words ++ s .phrases) ≡ true → endOf (soFar s) endLine ≡ granted (s .heading .number)
   unfolding endOf endRules
-  end-granted low high whole parents =
+  end-passes low high whole parents =
       let n = s .heading .number in
       let back : number sentenceNumber (written (columns endLine) 1 .bytes) ≡ some n =
       ap (number sentenceNumber) (second (bytes "#EOS") (digitsOf n) end-solid at) ∙ number-read-back sentenceNumber n low high in

@@ -1,5 +1,5 @@
 -- The keyword lines of the format and of tables, and the end of a sentence, are granted exactly if they are as the grammar
--- says. Rule by rule. Assumes nothing.
+-- says. Rule by rule.
 use Prim.Native.Nat.{ℕ, zero, suc, _≤_, _<_}
 use native.Mathlib.Omega.{arith}
 use mathlib.Core.Path.{_≡_, refl, sym, ap, _∙_, subst}
@@ -17,7 +17,8 @@ use Rattle.rules.specs.Columns.{Column, columnsFrom, columns, written, t
 use Rattle.rules.specs.Numbers.{formatNumber, number, value}
 use Rattle.rules.specs.Tables.{Tables, tableNames, tableNamed, present}
 use Rattle.rules.specs.Keywords.{formatOf, fresh, tableOpened, itself, tableEnded, leadingWhite, firstColumn}
-use Rattle.rules.specs.Lines.{Phase, Answer, next}
+use Rattle.rules.specs.Sentences.{Sentence}
+use Rattle.rules.specs.Phases.{Phase, Answer, next}
 use Rattle.rules.specs.GrammarColumns.{Columns}
 use Rattle.rules.proofs.ColumnsSaid.{columns-said, said-columns}
 use Rattle.rules.proofs.BareColumns.{allColumns, columnAt}
@@ -26,6 +27,7 @@ use Rattle.rules.specs.Grammar.{FormatFits}
 use Rattle.rules.proofs.PlaceFree.{column-there, count-columns}
 use Rattle.rules.proofs.BytesAsSaid.{Started}
 use Rattle.rules.proofs.SaidOfLists.{or-both-ways, not-both-ways}
+use Rattle.rules.proofs.NumeralsAsSaid.{number-said}
 use Rattle.rules.proofs.TestsAsFacts.{good-some, some-good, some-value}
 use Rattle.rules.proofs.TablesAsSaid.{named-is, is-named}
 use Rattle.rules.proofs.LineByLine.{Through, through-held, held-through}
@@ -90,30 +92,35 @@ module _ (line : Text) where
 
 -- ---- lines
 
-module _ (K : Phase → List ℕ → Type 0) (used : List ℕ) (line : Text) where
-  pub format-granted : (f : ℕ → Answer) → columnAt 0 (line .bytes) ≡ bytes "#FORMAT" → Through K used (next f (formatOf line)) → FormatFits (line .bytes) × ((n : ℕ) × Through K used (f n))
+module _ (K : Phase → List Sentence → Type 0) (out : List Sentence) (line : Text) where
+  pub format-granted : (f : ℕ → Answer) → columnAt 0 (line .bytes) ≡ bytes "#FORMAT" → Through K out (next f (formatOf line)) → (n : ℕ) × (FormatFits (line .bytes) n × Through K out (f n))
   unfolding formatOf
   format-granted f q g =
-      let h = through-held K used f _ _ g in
+      let h = through-held K out f _ _ g in
       let n = number formatNumber (written (columns line) 1 .bytes) in (
-        record {
-          numberText = written (columns line) 1 .bytes;
-          columns = columns-said (line .bytes) (bytes "#FORMAT" ∷ written (columns line) 1 .bytes ∷ []) (two-columns line (h .0 .0) ∙ ap (λ (x : List ℕ). x ∷ written (columns line) 1 .bytes ∷ []) q);
-          number-written = good-some n (h .0 .1 .0) ∙ ap some (eqb-true (value n) 3 (h .0 .1 .1 .0));
-        },
-        (value n, h .1),
+        value n,
+        (
+          record {
+            numberText = written (columns line) 1 .bytes;
+            columns = columns-said (line .bytes) (bytes "#FORMAT" ∷ written (columns line) 1 .bytes ∷ []) (two-columns line (h .0 .0) ∙ ap (λ (x : List ℕ). x ∷ written (columns line) 1 .bytes ∷ []) q);
+            number-written = number-said formatNumber (written (columns line) 1 .bytes) (value n) .0 (good-some n (h .0 .1 .0));
+            three = eqb-true (value n) 3 (h .0 .1 .1 .0);
+          },
+          h .1,
+        ),
       )
 
-  pub format-grants : (f : ℕ → Answer) → FormatFits (line .bytes) → ((n : ℕ) → Through K used (f n)) → Through K used (next f (formatOf line))
+  pub format-grants : (f : ℕ → Answer) (format : ℕ) → FormatFits (line .bytes) format → Through K out (f format) → Through K out (next f (formatOf line))
   unfolding formatOf
-  format-grants f t goes-on =
+  format-grants f format t goes-on =
       let n = number formatNumber (written (columns line) 1 .bytes) in
-      let e : n ≡ some 3 = ap (number formatNumber) (name-second line (bytes "#FORMAT") (t .numberText) (t .columns)) ∙ t .number-written in
-      held-through K used f _ _ (
+      let e : n ≡ some format = ap (number formatNumber) (name-second line (bytes "#FORMAT") (t .numberText) (t .columns)) ∙ number-said formatNumber (t .numberText) format .1 (t .number-written) in
+      let v : value n ≡ format = some-value n format e in
+      held-through K out f _ _ (
         eq-eqb (length (columns line)) 2 (columns-two line (bytes "#FORMAT") (t .numberText) (t .columns)),
-        (some-good n 3 e, (eq-eqb (value n) 3 (some-value n 3 e), tt)),
+        (some-good n format e, (eq-eqb (value n) 3 (v ∙ t .three), tt)),
       )
-      (goes-on (value n))
+      (rw v goes-on)
 
   -- a name where two columns stand
   named : (T : Option ℕ → Bool) → eqb (length (columns line)) 2 ≡ true → (ltb (length (columns line)) 2 || T (tableNamed (written (columns line) 1))) ≡ true
@@ -122,21 +129,21 @@ module _ (K : Phase → List ℕ → Type 0) (used : List ℕ) (line : Text) whe
       let n : ltb (length (columns line)) 2 ≡ false = le-ltb (length (columns line)) 2 (omega (arith, eqb-true (length (columns line)) 2 e)) in
       sym (ap (λ (b : Bool). b || T (tableNamed (written (columns line) 1))) n) ∙ h
 
-  pub record Opened (f : ℕ → Answer) (T : Tables) : Type 0 where
+  pub record TableBegun (f : ℕ → Answer) (T : Tables) : Type 0 where
     pub which : ℕ
     pub one-of-seven : which < 7
     pub names : Names (bytes "#BOT") which (line .bytes)
     pub new : present which T ≡ true → ⊥
-    pub goes-on : Through K used (f which)
+    pub goes-on : Through K out (f which)
 
-  pub opened-granted : (f : ℕ → Answer) (T : Tables) → columnAt 0 (line .bytes) ≡ bytes "#BOT" → Through K used (next f (tableOpened T line)) → Opened f T
+  pub opened-granted : (f : ℕ → Answer) (T : Tables) → columnAt 0 (line .bytes) ≡ bytes "#BOT" → Through K out (next f (tableOpened T line)) → TableBegun f T
   unfolding tableOpened
   opened-granted f T q g =
-      let h = through-held K used f _ _ g in
+      let h = through-held K out f _ _ g in
       by (tableNamed (written (columns line) 1)) refl (named (fresh T) (h .0 .1 .0) (h .0 .0)) (two-columns line (h .0 .1 .0)) (h .1)
     where
       by : (o : Option ℕ) → tableNamed (written (columns line) 1) ≡ o → fresh T o ≡ true
-          → allColumns (line .bytes) ≡ columnAt 0 (line .bytes) ∷ written (columns line) 1 .bytes ∷ [] → Through K used (f (value o)) → Opened f T
+          → allColumns (line .bytes) ≡ columnAt 0 (line .bytes) ∷ written (columns line) 1 .bytes ∷ [] → Through K out (f (value o)) → TableBegun f T
       by none e h c g = absurd (false≢true h)
       by (some n) e h c g =
           let m = named-is (written (columns line) 1) n e in
@@ -148,20 +155,20 @@ module _ (K : Phase → List ℕ → Type 0) (used : List ℕ) (line : Text) whe
             goes-on = g;
           }
 
-  pub opened-grants : (f : ℕ → Answer) (T : Tables) (n : ℕ) → n < 7 → Names (bytes "#BOT") n (line .bytes) → (present n T ≡ true → ⊥) → Through K used (f n) → Through K used (next f (tableOpened T line))
+  pub opened-grants : (f : ℕ → Answer) (T : Tables) (n : ℕ) → n < 7 → Names (bytes "#BOT") n (line .bytes) → (present n T ≡ true → ⊥) → Through K out (f n) → Through K out (next f (tableOpened T line))
   unfolding tableOpened
   opened-grants f T n l e new goes-on =
       let s = is-named (written (columns line) 1) n l (name-second line (bytes "#BOT") (getD tableNames n []) e) in
-      held-through K used f _ _ (
+      held-through K out f _ _ (
         or-both-ways (ltb (length (columns line)) 2) (fresh T (tableNamed (written (columns line) 1))) .1 (inr (ap (fresh T) s ∙ not-both-ways (present n T) .1 new)),
         (eq-eqb (length (columns line)) 2 (columns-two line (bytes "#BOT") (getD tableNames n []) e), tt),
       )
-      (subst (λ (o : Option ℕ). Through K used (f (value o))) (sym s) goes-on)
+      (subst (λ (o : Option ℕ). Through K out (f (value o))) (sym s) goes-on)
 
-  pub ended-granted : (f : ℕ → Answer) (n : ℕ) → columnAt 0 (line .bytes) ≡ bytes "#EOT" → Through K used (next f (tableEnded n line)) → Names (bytes "#EOT") n (line .bytes) × Through K used (f n)
+  pub ended-granted : (f : ℕ → Answer) (n : ℕ) → columnAt 0 (line .bytes) ≡ bytes "#EOT" → Through K out (next f (tableEnded n line)) → Names (bytes "#EOT") n (line .bytes) × Through K out (f n)
   unfolding tableEnded
   ended-granted f n q g =
-      let h = through-held K used f _ _ g in
+      let h = through-held K out f _ _ g in
       (by (tableNamed (written (columns line) 1)) refl (named (itself n) (h .0 .1 .0) (h .0 .0)) (two-columns line (h .0 .1 .0)), h .1)
     where
       by : (o : Option ℕ) → tableNamed (written (columns line) 1) ≡ o → itself n o ≡ true
@@ -173,11 +180,11 @@ module _ (K : Phase → List ℕ → Type 0) (used : List ℕ) (line : Text) whe
           (c ∙ ap (λ (x : List ℕ). x ∷ written (columns line) 1 .bytes ∷ []) q
           ∙ ap (λ (x : List ℕ). bytes "#EOT" ∷ x ∷ []) (s .1 ∙ ap (λ (k : ℕ). getD tableNames k []) (sym (eqb-true n m h))))
 
-  pub ended-grants : (f : ℕ → Answer) (n : ℕ) → n < 7 → Names (bytes "#EOT") n (line .bytes) → Through K used (f n) → Through K used (next f (tableEnded n line))
+  pub ended-grants : (f : ℕ → Answer) (n : ℕ) → n < 7 → Names (bytes "#EOT") n (line .bytes) → Through K out (f n) → Through K out (next f (tableEnded n line))
   unfolding tableEnded
   ended-grants f n l e goes-on =
       let s = is-named (written (columns line) 1) n l (name-second line (bytes "#EOT") (getD tableNames n []) e) in
-      held-through K used f _ _ (
+      held-through K out f _ _ (
         or-both-ways (ltb (length (columns line)) 2) (itself n (tableNamed (written (columns line) 1))) .1 (inr (ap (itself n) s ∙ eq-eqb n n refl)),
         (eq-eqb (length (columns line)) 2 (columns-two line (bytes "#EOT") (getD tableNames n []) e), tt),
       )

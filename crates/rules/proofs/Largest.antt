@@ -1,4 +1,4 @@
--- The larger of two numbers, and the largest of a list: what is above it is above each. Assumes nothing.
+-- The larger of two numbers, and the largest of a list: what is above it is above each.
 use Prim.Native.Nat.{ℕ, _≤_}
 use native.Mathlib.Omega.{arith}
 use mathlib.Core.Path.{_≡_, refl, sym, ap, _∙_}
@@ -7,9 +7,7 @@ use mathlib.Core.List.{List, [], _∷_, _++_}
 use lib.Dec.{leb, ltb}
 use borrow.Author.Tests.{leb-true, leb-false, le-leb, lt-ltb, le-ltb, ltb-true, ltb-false}
 use Rattle.rules.specs.Lists.{pick, every}
-
-abbrev pub larger : ℕ → ℕ → ℕ
-larger m n = pick (ltb m n) n m
+use Rattle.rules.specs.Highest.{larger, largest}
 
 pub larger-left : (m n : ℕ) → m ≤ larger m n
 larger-left m n = by (ltb m n) refl
@@ -56,11 +54,6 @@ larger-below m n b = by (ltb m n) refl (leb m b) refl (leb n b) refl
     by false p false q w r = q
 
 -- ---- of a list
-
--- the largest of the numbers that the elements have, 0 if there is none
-abbrev pub largest : {A : Type 0} → (A → ℕ) → List A → ℕ
-largest f [] = 0
-largest f (x ∷ xs) = larger (f x) (largest f xs)
 
 pub largest-below : {A : Type 0} (f : A → ℕ) (xs : List A) (b : ℕ) → leb (largest f xs) b ≡ every (λ (x : A). leb (f x) b) xs
 largest-below f [] b = le-leb 0 b (omega arith)

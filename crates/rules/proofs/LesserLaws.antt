@@ -1,5 +1,5 @@
 -- Laws of the smaller of two numbers of refusal, where 0 is none: in what order and in what groups rules are looked at
--- makes no difference to the smallest number among those that are broken. Assumes nothing.
+-- makes no difference to the smallest number among those that are broken.
 use Prim.Native.Nat.{ℕ, zero, suc, _≤_, _<_}
 use native.Mathlib.Omega.{arith}
 use mathlib.Core.Path.{_≡_, refl, sym, ap, _∙_}

@@ -1,5 +1,5 @@
 -- A line printed anew from a line's columns and comment may stand where that stood: its bytes are legal, it is no longer,
--- and it is not ignored. Assumes nothing.
+-- and it is not ignored.
 use Prim.Native.Nat.{ℕ, suc, _+_, _≤_}
 use native.Mathlib.Omega.{arith}
 use mathlib.Core.Path.{_≡_, refl, sym, ap, _∙_}

@@ -1,5 +1,5 @@
 -- What the first column tells of a line's kind: rows begin with a number, phrases with # and one, words with anything but
--- another #. Assumes nothing.
+-- another #.
 use Prim.Native.Nat.{ℕ, suc, _≤_}
 use native.Mathlib.Omega.{arith}
 use mathlib.Core.Path.{_≡_, refl, sym, ap, _∙_, subst}
@@ -13,7 +13,7 @@ use borrow.Author.Tests.{eqb-true, not-true}
 use Rattle.rules.specs.Lists.{pick, bytes, every, empty, same}
 use Rattle.rules.specs.Bytes.{white, digit}
 use Rattle.rules.specs.Texts.{Text, reads}
-use Rattle.rules.specs.Columns.{Column, goesOn, longer, lastByte, columnsFrom, written}
+use Rattle.rules.specs.Columns.{Column, goesOn, withFirst, lastByte, columnsFrom, written}
 use Rattle.rules.specs.Numbers.{Kind, plain, valueFrom, decimal, within, number, plusOne, signedId, idPlusOne}
 use Rattle.rules.specs.Keywords.{hashed, startsRow, startsWord, digits, hashAndDigits, startsPhrase}
 use Rattle.rules.proofs.BareColumns.{columnAt}
@@ -33,17 +33,17 @@ begins : (a : ℕ) (l : List ℕ) → goesOn l ≡ true → Begins (columnsFrom 
 unfolding columnsFrom
 begins a [] e = absurd (false≢true e)
 begins a (b ∷ bs) e =
-    subst (λ (t : Bool). Begins (pick t (columnsFrom (suc a) bs) (pick (goesOn bs) (longer a b (columnsFrom (suc a) bs)) (lastByte a b bs ∷ columnsFrom (suc a) bs))))
+    subst (λ (t : Bool). Begins (pick t (columnsFrom (suc a) bs) (pick (goesOn bs) (withFirst a b (columnsFrom (suc a) bs)) (lastByte a b bs ∷ columnsFrom (suc a) bs))))
     (sym (not-true (white b) e)) (by (goesOn bs) (λ g. begins (suc a) bs g) refl)
   where
     by : (t : Bool) → (goesOn bs ≡ true → Begins (columnsFrom (suc a) bs)) → goesOn bs ≡ t
-        → Begins (pick t (longer a b (columnsFrom (suc a) bs)) (lastByte a b bs ∷ columnsFrom (suc a) bs))
+        → Begins (pick t (withFirst a b (columnsFrom (suc a) bs)) (lastByte a b bs ∷ columnsFrom (suc a) bs))
     by true more g =
         let m = more g in
         record {
           first = record { text = record { start = a; bytes = b ∷ m .first .text .bytes }; after = m .first .after };
           others = m .others;
-          are = ap (longer a b) (m .are);
+          are = ap (withFirst a b) (m .are);
           given = omega arith;
         }
     by false more g = record { first = lastByte a b bs; others = columnsFrom (suc a) bs; are = refl; given = omega arith }

@@ -1,5 +1,5 @@
 -- What a file is asked of its tables, whether one is there, has an id or knows a tag, is the same of the tables that it
--- means: neither places nor the order of origin and editor rows count. Assumes nothing.
+-- means: neither places nor the order of origin and editor rows count.
 use Prim.Native.Nat.{ℕ, zero, suc}
 use mathlib.Core.Path.{_≡_, refl, sym, ap, ap₂, _∙_}
 use mathlib.Core.Bool.{Bool, not, _||_}
@@ -71,14 +71,6 @@ pub known-origin-meant : (ts : Tables) (n : ℕ) → knownOrigin (meantTables ts
 known-origin-meant ts n = has-id-meant (suc n) origins ts
 
 -- ---- tables with the texts of what is meant mean the same
-
-bare-bare : (rs : List Row) → map bareRow (map bareRow rs) ≡ map bareRow rs
-bare-bare [] = refl
-bare-bare (r ∷ rs) = ap (λ (l : List Row). bareRow r ∷ l) (bare-bare rs)
-
-meant-twice : (o : Option (List Row)) → meantRows (meantRows o) ≡ meantRows o
-meant-twice none = refl
-meant-twice (some rs) = ap some (bare-bare rs)
 
 pub meant-by-id : (o : Option (List Row)) → meantRows (byId o) ≡ byId (meantRows o)
 meant-by-id none = refl

@@ -1,5 +1,5 @@
 -- What stands in front of the first two adjacent percent signs and what behind is the name and the note that the grammar says,
--- and nothing else is. By one step along the bytes. Assumes nothing.
+-- and nothing else is. By one step along the bytes.
 use Prim.Native.Nat.{ℕ, suc, _≤_}
 use native.Mathlib.Omega.{arith}
 use mathlib.Core.Path.{_≡_, refl, sym, ap, _∙_}

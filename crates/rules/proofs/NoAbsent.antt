@@ -1,5 +1,5 @@
 -- Where the phrases leave no gap, every parent named is a phrase of the sentence exactly where the highest named is no
--- higher than the highest phrase. Assumes nothing.
+-- higher than the highest phrase.
 use Prim.Native.Nat.{ℕ, _+_}
 use native.Mathlib.Omega.{arith}
 use mathlib.Core.Path.{_≡_, refl, sym, ap, _∙_}
@@ -10,16 +10,10 @@ use lib.ListN.{length}
 use borrow.Author.Tests.{eqb-true, le-leb}
 use Rattle.rules.specs.Lists.{every}
 use Rattle.rules.specs.Sentences.{Edge, Node, listed, gapless, parented}
+use Rattle.rules.specs.Highest.{largest, edgeParent, highestParent}
 use Rattle.rules.proofs.Conjunctions.{and-left, and-right, every-first, every-rest}
-use Rattle.rules.proofs.Largest.{larger, larger-below, largest, largest-below}
+use Rattle.rules.proofs.Largest.{larger-below, largest-below}
 use Rattle.rules.proofs.NoGap.{Numbered, listed-is}
-
-abbrev pub edgeParent : Edge → ℕ
-edgeParent e = e .parent
-
--- the largest of a node's parent and its secondary parents
-abbrev pub highestParent : Node → ℕ
-highestParent n = larger (n .parent) (largest edgeParent (n .secondary))
 
 -- parents as lines are read: 0 or 500 at least, and secondary parents 500 at least
 abbrev pub climbing : Node → Bool

@@ -1,22 +1,21 @@
 -- No table follows the first sentence: from a sentence on, whatever bytes come, the reading keeps its tables. By one step
--- along the bytes, and by where a line may stand. Assumes nothing.
+-- along the bytes, and by where a line may stand.
 use Prim.Native.Nat.{ℕ}
-use mathlib.Core.Path.{_≡_, ap}
+use mathlib.Core.Path.{_≡_, sym, ap, subst}
 use mathlib.Core.Bool.{Bool, true, false}
 use mathlib.Core.Option.{Option, none, some}
 use mathlib.Core.List.{List, [], _∷_}
-use lib.ListN.{length}
-use lib.Dec.{leb, eqb}
-use Rattle.rules.specs.Lists.{pick, bytes, empty, every, member}
-use Rattle.rules.specs.Bytes.{newline, legal, ignored}
+use lib.Dec.{eqb}
+use Rattle.rules.specs.Lists.{pick, bytes, member}
+use Rattle.rules.specs.Bytes.{newline, ignored}
 use Rattle.rules.specs.Texts.{Text, reads}
-use Rattle.rules.specs.Numbers.{lineLimit}
-use Rattle.rules.specs.Rules.{Fault, rule, Verdict, refused, granted, checked}
-use Rattle.rules.specs.Sentences.{Sentence, listed, edgesOf, headingOf, endOf}
+use Rattle.rules.specs.Rules.{Fault, Verdict, refused, granted, checked}
+use Rattle.rules.specs.Sentences.{Sentence, headingOf, endOf, soFar}
 use Rattle.rules.specs.Nodes.{wordOf, phraseOf}
 use Rattle.rules.specs.Keywords.{firstColumn, startsWord, startsPhrase}
-use Rattle.rules.specs.Lines.{Preamble, Phase, start, top, inTable, inSentence, behindSentence, Answer, refuse, go, hand, next, cannotStand, beginning, behindOne, withWord, withPhrase, amongNodes, lineAt, taken, step, tablesAt}
-use Rattle.rules.specs.Reading.{Reading, line, numbers, ended, longer, byteUnless, byte, read}
+use Rattle.rules.specs.Phases.{Preamble, Phase, start, top, inTable, inSentence, behindSentence, Answer, refuse, go, hand, next, step, tablesAt}
+use Rattle.rules.specs.Reading.{Reading, line, numbers, ended, withByte, byteUnless, byte, read}
+use Rattle.rules.proofs.Takings.{goBegun, goWord, goPhrase, refuseSix, answerBehind, answerNodes, answerAt, answerTo, lineRules, step-answers}
 
 module _ (p : Preamble) where
   -- in a sentence or behind one, with this preamble
@@ -54,24 +53,24 @@ module _ (p : Preamble) where
   keeps-or t f v b k l = keeps-pick t (next f v) b (keeps-next f k v) l
 
   module _ (q : Preamble) (same : q ≡ p) (line first : Text) where
-    behind-keeps : (used : List ℕ) → Keeps (behindOne line first q used)
-    unfolding behindOne
+    behind-keeps : (used : List ℕ) → Keeps (answerBehind line first q used)
+    unfolding answerBehind
     behind-keeps used =
-        keeps-or (reads (bytes "#BOS") first) (beginning line first q) (headingOf (q .tables) (λ n. member n used) line) (cannotStand line) (λ h. same) tt
+        keeps-or (reads (bytes "#BOS") first) (goBegun q (line .start)) (headingOf (q .tables) (λ n. member n used) line) (refuseSix line) (λ h. same) tt
 
-    among-keeps : (s : Sentence) → Keeps (amongNodes line first q s)
-    unfolding amongNodes
+    among-keeps : (s : Sentence) → Keeps (answerNodes line first q s)
+    unfolding answerNodes
     among-keeps s =
-        let words = next (withWord line first q s) (wordOf (q .tables) (length (s .words)) (empty (s .phrases)) (edgesOf s) line) in
-        let others = pick (startsWord first) words (cannotStand line) in
-        let phrases = phraseOf (q .tables) (listed (s .phrases)) (edgesOf s) line in
-        keeps-or (reads (bytes "#EOS") first) (hand q) (endOf s line) (pick (startsPhrase first) (next (withPhrase line first q s) phrases) others) (λ a. same)
-        (keeps-or (startsPhrase first) (withPhrase line first q s) phrases others (λ a. same)
-        (keeps-pick (startsWord first) words (cannotStand line)
-        (keeps-next (withWord line first q s) (λ a. same) (wordOf (q .tables) (length (s .words)) (empty (s .phrases)) (edgesOf s) line)) tt))
+        let words = next (goWord q s) (wordOf (q .format) (q .tables) (soFar s) line) in
+        let others = pick (startsWord first) words (refuseSix line) in
+        let phrases = phraseOf (q .format) (q .tables) (soFar s) line in
+        keeps-or (reads (bytes "#EOS") first) (λ n. hand q s) (endOf (soFar s) line) (pick (startsPhrase first) (next (goPhrase q s) phrases) others) (λ a. same)
+        (keeps-or (startsPhrase first) (goPhrase q s) phrases others (λ a. same)
+        (keeps-pick (startsWord first) words (refuseSix line)
+        (keeps-next (goWord q s) (λ a. same) (wordOf (q .format) (q .tables) (soFar s) line)) tt))
 
-  line-keeps : (phase : Phase) → Late phase → (used : List ℕ) (line first : Text) → Keeps (lineAt phase used line first)
-  unfolding lineAt
+  line-keeps : (phase : Phase) → Late phase → (used : List ℕ) (line first : Text) → Keeps (answerAt phase used line first)
+  unfolding answerAt
   line-keeps start l used line first = absurd l
   line-keeps (top q) l used line first = absurd l
   line-keeps (inTable q n rs) l used line first = absurd l
@@ -79,15 +78,15 @@ module _ (p : Preamble) where
   line-keeps (behindSentence q) l used line first = behind-keeps q l line first used
 
   step-keeps : (phase : Phase) → Late phase → (used : List ℕ) (line : Text) → Keeps (step phase used line)
-  unfolding step taken
+  unfolding answerTo
   step-keeps phase l used line =
-      keeps-next (taken phase used)
-      (λ t. keeps-pick (ignored (t .bytes)) (go phase) (lineAt phase used t (firstColumn t)) l (line-keeps phase l used t (firstColumn t)))
-      (checked (rule 4 line (every legal (line .bytes)) ∷ rule 5 line (leb (length (line .bytes)) lineLimit) ∷ []) line)
+      subst Keeps (sym (step-answers phase used line)) (keeps-next (answerTo phase used)
+      (λ t. keeps-pick (ignored (t .bytes)) (go phase) (answerAt phase used t (firstColumn t)) l (line-keeps phase l used t (firstColumn t)))
+      (checked (lineRules line) line))
 
   -- ---- bytes
 
-  answer-late : (r : Reading) (b : ℕ) (t : Bool) (a : Answer) → Late (r .phase) → Keeps a → Late (pick t (ended r a) (longer r b) .phase)
+  answer-late : (r : Reading) (b : ℕ) (t : Bool) (a : Answer) → Late (r .phase) → Keeps a → Late (pick t (ended r a) (withByte r b) .phase)
   answer-late r b true (refuse q) l k = l
   answer-late r b true (go phase) l k = k
   answer-late r b true (hand q s) l k = k

@@ -1,5 +1,5 @@
 -- Where as many numbers as a list has, counted from a place on, all are in the list, no others are. For a list that has
--- another number would have one element more. Assumes nothing.
+-- another number would have one element more.
 use Prim.Native.Nat.{ℕ, zero, suc, _+_, _≤_, _<_}
 use native.Mathlib.Omega.{arith}
 use mathlib.Core.Path.{_≡_, refl, sym, ap, _∙_, subst}

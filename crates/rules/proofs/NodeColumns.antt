@@ -1,5 +1,5 @@
 -- The columns of a node's line in front of its comment, as a reading takes them and as the grammar says them: five texts,
--- then pairs. By one step along the pairs. Assumes nothing.
+-- then pairs. By one step along the pairs.
 use Prim.Native.Nat.{ℕ, _≤_}
 use native.Mathlib.Omega.{arith}
 use mathlib.Core.Path.{_≡_, refl, ap}
@@ -13,7 +13,7 @@ use Rattle.rules.specs.Texts.{Text}
 use Rattle.rules.specs.Columns.{text}
 use Rattle.rules.specs.Numbers.{value}
 use Rattle.rules.specs.Sentences.{Edge, Node}
-use Rattle.rules.specs.Nodes.{Pair, pairs, paired, secondaryParent, shaped, itsPairs}
+use Rattle.rules.specs.Nodes.{Pair, pairs, paired, secondaryParent, parentField, itsTag, itsMorphology, itsEdge, shaped, itsPairs}
 use Rattle.rules.specs.GrammarNodes.{EdgeSaid, NodeLine, pairColumns, nodeColumns}
 use Rattle.rules.proofs.SaidOfLists.{and-both-ways}
 use Rattle.rules.proofs.LineByLine.{bytesOf}
@@ -56,14 +56,14 @@ module _ (P : EdgeSaid → Type 0) (Q : Pair → Type 0)
 
 -- ---- five texts, then pairs
 
-pub shaped-columns : (fs : List Text) → shaped fs ≡ true
-    → bytesOf fs ≡ text fs 0 .bytes ∷ text fs 1 .bytes ∷ text fs 2 .bytes ∷ text fs 3 .bytes ∷ text fs 4 .bytes ∷ joined (map pairColumns (map saidPair (itsPairs fs)))
-shaped-columns fs h =
+pub shaped-columns : (format : ℕ) (fs : List Text) → shaped format fs ≡ true
+    → bytesOf fs ≡ text fs 0 .bytes ∷ itsTag format fs .bytes ∷ itsMorphology format fs .bytes ∷ itsEdge format fs .bytes ∷ text fs (parentField format) .bytes ∷ joined (map pairColumns (map saidPair (itsPairs format fs)))
+shaped-columns format fs h =
     let b = and-both-ways (leb 5 (length fs)) (paired (drop 5 fs)) .0 h in
     by fs (leb-true 5 (length fs) (b .0)) (paired-columns (drop 5 fs) (b .1))
   where
-    by : (fs : List Text) → 5 ≤ length fs → bytesOf (drop 5 fs) ≡ joined (map pairColumns (map saidPair (itsPairs fs)))
-        → bytesOf fs ≡ text fs 0 .bytes ∷ text fs 1 .bytes ∷ text fs 2 .bytes ∷ text fs 3 .bytes ∷ text fs 4 .bytes ∷ joined (map pairColumns (map saidPair (itsPairs fs)))
+    by : (fs : List Text) → 5 ≤ length fs → bytesOf (drop 5 fs) ≡ joined (map pairColumns (map saidPair (itsPairs format fs)))
+        → bytesOf fs ≡ text fs 0 .bytes ∷ itsTag format fs .bytes ∷ itsMorphology format fs .bytes ∷ itsEdge format fs .bytes ∷ text fs (parentField format) .bytes ∷ joined (map pairColumns (map saidPair (itsPairs format fs)))
     by [] h e = absurd (omega arith)
     by (a ∷ []) h e = absurd (omega arith)
     by (a ∷ b ∷ []) h e = absurd (omega arith)
@@ -71,22 +71,22 @@ shaped-columns fs h =
     by (a ∷ b ∷ c ∷ d ∷ []) h e = absurd (omega arith)
     by (a ∷ b ∷ c ∷ d ∷ p ∷ gs) h e = ap (λ (xs : List (List ℕ)). a .bytes ∷ b .bytes ∷ c .bytes ∷ d .bytes ∷ p .bytes ∷ xs) e
 
-pub record Shaped (fs : List Text) (n : NodeLine) : Type 0 where
-  pub whole : shaped fs ≡ true
+pub record Shaped (format : ℕ) (fs : List Text) (n : NodeLine) : Type 0 where
+  pub whole : shaped format fs ≡ true
   pub at-first : text fs 0 .bytes ≡ n .first
-  pub at-tag : text fs 1 .bytes ≡ n .tag
-  pub at-morphology : text fs 2 .bytes ≡ n .morphology
-  pub at-edge : text fs 3 .bytes ≡ n .edge
-  pub at-parent : text fs 4 .bytes ≡ n .parentText
-  pub at-pairs : PairsAre (itsPairs fs) (n .secondary)
+  pub at-tag : itsTag format fs .bytes ≡ n .tag
+  pub at-morphology : itsMorphology format fs .bytes ≡ n .morphology
+  pub at-edge : itsEdge format fs .bytes ≡ n .edge
+  pub at-parent : text fs (parentField format) .bytes ≡ n .parentText
+  pub at-pairs : PairsAre (itsPairs format fs) (n .secondary)
 
-pub columns-shaped : (fs : List Text) (n : NodeLine) → bytesOf fs ≡ nodeColumns n → Shaped fs n
-columns-shaped [] n e = absurd (let z : _≡_ {A = ℕ} 0 1 = cc in omega arith)
-columns-shaped (a ∷ []) n e = absurd (let z : _≡_ {A = ℕ} 0 1 = cc in omega arith)
-columns-shaped (a ∷ b ∷ []) n e = absurd (let z : _≡_ {A = ℕ} 0 1 = cc in omega arith)
-columns-shaped (a ∷ b ∷ c ∷ []) n e = absurd (let z : _≡_ {A = ℕ} 0 1 = cc in omega arith)
-columns-shaped (a ∷ b ∷ c ∷ d ∷ []) n e = absurd (let z : _≡_ {A = ℕ} 0 1 = cc in omega arith)
-columns-shaped (a ∷ b ∷ c ∷ d ∷ p ∷ gs) n e =
+pub columns-shaped : (format : ℕ) (fs : List Text) (n : NodeLine) → bytesOf fs ≡ nodeColumns format n → Shaped format fs n
+columns-shaped format [] n e = absurd (let z : _≡_ {A = ℕ} 0 1 = cc in omega arith)
+columns-shaped format (a ∷ []) n e = absurd (let z : _≡_ {A = ℕ} 0 1 = cc in omega arith)
+columns-shaped format (a ∷ b ∷ []) n e = absurd (let z : _≡_ {A = ℕ} 0 1 = cc in omega arith)
+columns-shaped format (a ∷ b ∷ c ∷ []) n e = absurd (let z : _≡_ {A = ℕ} 0 1 = cc in omega arith)
+columns-shaped format (a ∷ b ∷ c ∷ d ∷ []) n e = absurd (let z : _≡_ {A = ℕ} 0 1 = cc in omega arith)
+columns-shaped format (a ∷ b ∷ c ∷ d ∷ p ∷ gs) n e =
     let more = columns-paired (n .secondary) gs (cc) in
     record {
       whole = and-both-ways (leb 5 (length (a ∷ b ∷ c ∷ d ∷ p ∷ gs))) (paired gs) .1 (le-leb 5 (length (a ∷ b ∷ c ∷ d ∷ p ∷ gs)) (omega arith), more .0);

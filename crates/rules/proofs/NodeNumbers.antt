@@ -1,5 +1,5 @@
 -- The node numbers of every sentence handed out: words have those below 500, phrases have 500 to 999, no two nodes have the
--- same; so the parent that a number has is that of its node. By one step along words and phrases. Assumes nothing.
+-- same; so the parent that a number has is that of its node. By one step along words and phrases.
 use Prim.Native.Nat.{ℕ, suc, _+_, _≤_, _<_}
 use native.Mathlib.Omega.{arith}
 use mathlib.Core.Path.{_≡_, refl, sym, ap, _∙_}
@@ -21,7 +21,7 @@ use Rattle.rules.proofs.Conjunctions.{and-both, or-left, or-right}
 use Rattle.rules.proofs.EachElement.{each-then, each-joined, each-mapped-then}
 use Rattle.rules.proofs.Sorting.{Distinct, has}
 use Rattle.rules.proofs.DifferentNumbers.{distinct}
-use Rattle.rules.proofs.NoGap.{numbersOf, Numbered, listed-member}
+use Rattle.rules.proofs.NoGap.{phraseNumbers, Numbered, listed-member}
 use Rattle.rules.proofs.NumbersAgain.{number-range}
 use Rattle.rules.proofs.NodesKept.{PhraseKept}
 use Rattle.rules.proofs.SentencesKept.{Counted, bareSentence, SentenceKept, listed-bare}
@@ -34,19 +34,19 @@ PhraseNumbered n = (500 ≤ n .number) × (n .number ≤ 999)
 abbrev pub InRoom : Node → Type 0
 InRoom n = n .number < nodeRoom
 
-phrase-numbered : (ts : Tables) (n : Node) → PhraseKept ts (bareNode n) → PhraseNumbered n
-phrase-numbered ts n k = number-range phraseNumber _ (n .number) (k .number)
+phrase-numbered : (format : ℕ) (ts : Tables) (n : Node) → PhraseKept format ts (bareNode n) → PhraseNumbered n
+phrase-numbered format ts n k = number-range phraseNumber _ (n .number) (k .number)
 
-all-low : (ps : List Node) → Each PhraseNumbered ps → every (leb 500) (numbersOf ps) ≡ true
+all-low : (ps : List Node) → Each PhraseNumbered ps → every (leb 500) (phraseNumbers ps) ≡ true
 all-low [] a = refl
-all-low (p ∷ ps) a = and-both (leb 500 (p .number)) (every (leb 500) (numbersOf ps)) (le-leb 500 (p .number) (a .0 .0)) (all-low ps (a .1))
+all-low (p ∷ ps) a = and-both (leb 500 (p .number)) (every (leb 500) (phraseNumbers ps)) (le-leb 500 (p .number) (a .0 .0)) (all-low ps (a .1))
 
-all-apart : (ps : List Node) → Distinct nodeNumber ps → distinct (numbersOf ps) ≡ true
+all-apart : (ps : List Node) → Distinct nodeNumber ps → distinct (phraseNumbers ps) ≡ true
 all-apart [] d = refl
 all-apart (p ∷ ps) d =
-    and-both (not (member (p .number) (numbersOf ps))) (distinct (numbersOf ps)) (ap not (sym (listed-member ps (p .number)) ∙ d .0)) (all-apart ps (d .1))
+    and-both (not (member (p .number) (phraseNumbers ps))) (distinct (phraseNumbers ps)) (ap not (sym (listed-member ps (p .number)) ∙ d .0)) (all-apart ps (d .1))
 
-distinct-placed : (ps : List Node) → Distinct nodeNumber (map bareNode ps) → Distinct nodeNumber ps
+pub distinct-placed : (ps : List Node) → Distinct nodeNumber (map bareNode ps) → Distinct nodeNumber ps
 distinct-placed [] d = tt
 distinct-placed (p ∷ ps) d = (sym (listed-bare ps (p .number)) ∙ d .0, distinct-placed ps (d .1))
 
@@ -75,7 +75,7 @@ module _ (ps : List Node) (numbered : Each PhraseNumbered ps) where
   nodes-lack m k [] c h l = phrases-lack m ps numbered l
   nodes-lack m k (w ∷ ws) c h l = rw (ne-eqb m (w .number) (λ z. omega (arith, c .0))) (nodes-lack m (suc k) ws (c .1) (omega arith) l)
 
-  nodes-distinct : (k : ℕ) (ws : List Node) → Counted k (map bareNode ws) → k + length ws ≤ wordLimit → Distinct nodeNumber ps → Distinct nodeNumber (ws ++ ps)
+  pub nodes-distinct : (k : ℕ) (ws : List Node) → Counted k (map bareNode ws) → k + length ws ≤ wordLimit → Distinct nodeNumber ps → Distinct nodeNumber (ws ++ ps)
   nodes-distinct k [] c h d = d
   nodes-distinct k (w ∷ ws) c h d =
       (nodes-lack (w .number) (suc k) ws (c .1) (omega (arith, c .0)) (omega (arith, c .0)), nodes-distinct (suc k) ws (c .1) (omega arith) d)
@@ -98,14 +98,14 @@ each-own (n ∷ ns) d = (rw (eq-eqb (n .number) (n .number) refl), others-own n 
 
 -- ---- a sentence handed out
 
-module _ (ts : Tables) (s : Sentence) (k : SentenceKept (meantTables ts) (bareSentence s)) where
+module _ (format : ℕ) (ts : Tables) (s : Sentence) (k : SentenceKept format (meantTables ts) (bareSentence s)) where
   pub each-numbered : Each PhraseNumbered (s .phrases)
-  each-numbered = each-mapped-then (PhraseKept (meantTables ts)) PhraseNumbered bareNode (phrase-numbered (meantTables ts)) (s .phrases) (k .part .phrases)
+  each-numbered = each-mapped-then (PhraseKept format (meantTables ts)) PhraseNumbered bareNode (phrase-numbered format (meantTables ts)) (s .phrases) (k .part .phrases)
 
   pub numbered : Numbered (s .phrases)
   numbered = record { low = all-low (s .phrases) each-numbered; apart = all-apart (s .phrases) (distinct-placed (s .phrases) (k .part .distinct)) }
 
-  few-words : 0 + length (s .words) ≤ wordLimit
+  pub few-words : 0 + length (s .words) ≤ wordLimit
   few-words = omega (arith, length-map (s .words) bareNode, k .part .few)
 
   pub each-in-room : Each InRoom (nodes s)
@@ -119,4 +119,4 @@ module _ (ts : Tables) (s : Sentence) (k : SentenceKept (meantTables ts) (bareSe
 
 -- the parent that a node's number has is the node's
 pub parents-found : (f : List ℕ) → Each (λ (h : Handed). Each (λ (n : Node). parentIn (h .sentence) (n .number) ≡ n .parent) (nodes (h .sentence))) (surveyOf f .handed)
-parents-found f = handed-kept (λ (v : Survey) (s : Sentence). Each (Own (nodes s)) (nodes s)) (λ v s k. each-parent (v .tables) s k) f
+parents-found f = handed-kept (λ (v : Survey) (s : Sentence). Each (Own (nodes s)) (nodes s)) (λ v s k. each-parent (v .format) (v .tables) s k) f

@@ -1,5 +1,5 @@
 -- A node that was read from a line is fit to be printed: its rules hold of the very columns that it is printed with, and
--- its printed line may stand. From the line that was granted. Assumes nothing.
+-- its printed line may stand. From the line that was granted.
 use Prim.Native.Nat.{ℕ}
 use mathlib.Core.Path.{_≡_, refl, sym, ap, ap₂, _∙_, subst}
 use mathlib.Core.Bool.{true, false, false≢true}
@@ -36,8 +36,8 @@ use Rattle.rules.proofs.Steps.{Opened}
 abbrev pub tailColumns : Node → List (List ℕ)
 tailColumns n = n .tag .bytes ∷ n .morphology .bytes ∷ n .edge .bytes ∷ digitsOf (n .parent) ∷ joined (map edgeColumns (n .secondary))
 
-abbrev pub nodeColumns : Node → List (List ℕ)
-nodeColumns n = nodeName n ∷ tailColumns n
+abbrev pub printColumns : Node → List (List ℕ)
+printColumns n = nodeName n ∷ tailColumns n
 
 abbrev pub printedNode : Node → List ℕ
 printedNode n = printed tab (nodeName n) (tailColumns n) (n .comment .bytes)
@@ -61,15 +61,15 @@ pairs-again (l ∷ x ∷ ts) p h =
     (number-again phraseNumber (x .bytes) (value (number phraseNumber (x .bytes))) (good-some (number phraseNumber (x .bytes)) g))
     (pairs-again ts p more)
 
-pub columns-again : (fs : List Text) (k : ℕ) (w c : Text) → shaped fs ≡ true → every holdsOf (parentsWritten fs) ≡ true
-    → bytesOf fs ≡ text fs 0 .bytes ∷ tailColumns (nodeOf fs k w c)
+pub columns-again : (format : ℕ) (fs : List Text) (k : ℕ) (w c : Text) → shaped format fs ≡ true → every holdsOf (parentsWritten format fs) ≡ true
+    → bytesOf fs ≡ text fs 0 .bytes ∷ tailColumns (nodeOf format fs k w c)
 unfolding parentsWritten
-columns-again [] k w c s h = absurd (false≢true s)
-columns-again (a ∷ []) k w c s h = absurd (false≢true s)
-columns-again (a ∷ b ∷ []) k w c s h = absurd (false≢true s)
-columns-again (a ∷ b ∷ d ∷ []) k w c s h = absurd (false≢true s)
-columns-again (a ∷ b ∷ d ∷ e ∷ []) k w c s h = absurd (false≢true s)
-columns-again (a ∷ b ∷ d ∷ e ∷ f ∷ ts) k w c s h =
+columns-again format [] k w c s h = absurd (false≢true s)
+columns-again format (a ∷ []) k w c s h = absurd (false≢true s)
+columns-again format (a ∷ b ∷ []) k w c s h = absurd (false≢true s)
+columns-again format (a ∷ b ∷ d ∷ []) k w c s h = absurd (false≢true s)
+columns-again format (a ∷ b ∷ d ∷ e ∷ []) k w c s h = absurd (false≢true s)
+columns-again format (a ∷ b ∷ d ∷ e ∷ f ∷ ts) k w c s h =
     let rules = map (λ (p : Pair). rule 8 (p .parent) (good (secondaryParent p))) (pairs ts) in
     let g : good (parentNumber (f .bytes)) ≡ true = and-left (good (parentNumber (f .bytes))) (every holdsOf rules) h in
     ap₂ (λ (x : List ℕ) (y : List (List ℕ)). a .bytes ∷ b .bytes ∷ d .bytes ∷ e .bytes ∷ x ∷ y)
@@ -78,33 +78,33 @@ columns-again (a ∷ b ∷ d ∷ e ∷ f ∷ ts) k w c s h =
 
 -- ---- fit to be printed, in a file whose tables mean ts
 
-pub record NodeKept (ts : Tables) (tags : ℕ) (word : Text) (n : Node) : Type 0 where
-  pub holds : NodeHolds (map plain (nodeColumns n)) ts tags (n .number)
-  pub again : nodeOf (map plain (nodeColumns n)) (n .number) word (plain (n .comment .bytes)) ≡ n
-  pub columns : every field (nodeColumns n) ≡ true
+pub record NodeKept (format : ℕ) (ts : Tables) (tags : ℕ) (word : Text) (n : Node) : Type 0 where
+  pub holds : NodeHolds format (map plain (printColumns n)) ts tags (n .number)
+  pub again : nodeOf format (map plain (printColumns n)) (n .number) word (plain (n .comment .bytes)) ≡ n
+  pub columns : every field (printColumns n) ≡ true
   pub trimmed : Trimmed (n .comment .bytes)
   pub fit : LineFit (printedNode n)
 
-module _ (line : Text) (f : LineFit (line .bytes)) (o : Opened line) (ts : Tables) (tags k : ℕ) (word : Text) where
+module _ (line : Text) (f : LineFit (line .bytes)) (o : Opened line) (format : ℕ) (ts : Tables) (tags k : ℕ) (word : Text) where
   abbrev fs : List Text
   fs = fields (columns line)
 
   abbrev n : Node
-  n = nodeOf fs k word (comment (columns line))
+  n = nodeOf format fs k word (comment (columns line))
 
   first-field : text fs 0 ≡ o .first .text
   first-field = ap (λ (l : List Text). text l 0) (o .fields)
 
-  pub node-kept : NodeHolds fs ts tags k → nodeName n ≡ o .first .text .bytes → NodeKept (meantTables ts) tags (bare word) (bareNode n)
+  pub node-kept : NodeHolds format fs ts tags k → nodeName n ≡ o .first .text .bytes → NodeKept format (meantTables ts) tags (bare word) (bareNode n)
   node-kept h e =
-      let cols : nodeColumns (bareNode n) ≡ bytesOf fs =
+      let cols : printColumns (bareNode n) ≡ bytesOf fs =
       ap₂ (λ (x : List ℕ) (y : List (List ℕ)). x ∷ y) (e ∙ ap (λ (t : Text). t .bytes) (sym first-field)) (tail-bare n)
-      ∙ sym (columns-again fs k word (comment (columns line)) (h .shape) (h .parents)) in
-      let barely : map plain (nodeColumns (bareNode n)) ≡ map bare fs = ap (map plain) cols ∙ map-map plain (λ (t : Text). t .bytes) fs in
+      ∙ sym (columns-again format fs k word (comment (columns line)) (h .shape) (h .parents)) in
+      let barely : map plain (printColumns (bareNode n)) ≡ map bare fs = ap (map plain) cols ∙ map-map plain (λ (t : Text). t .bytes) fs in
       let first : nodeName (bareNode n) ≡ o .first .text .bytes = e in
       record {
-        holds = subst (λ (l : List Text). NodeHolds l (meantTables ts) tags k) (sym barely) (holds-placeless fs ts tags k h);
-        again = ap (λ (l : List Text). nodeOf l k (bare word) (bare (comment (columns line)))) barely ∙ node-placeless fs k word (comment (columns line));
+        holds = subst (λ (l : List Text). NodeHolds format l (meantTables ts) tags k) (sym barely) (holds-placeless format fs ts tags k h);
+        again = ap (λ (l : List Text). nodeOf format l k (bare word) (bare (comment (columns line)))) barely ∙ node-placeless format fs k word (comment (columns line));
         columns = ap (every field) cols ∙ line-fields (line .start) (line .bytes);
         trimmed = comment-trimmed (columns line);
         fit =
@@ -114,14 +114,14 @@ module _ (line : Text) (f : LineFit (line .bytes)) (o : Opened line) (ts : Table
 
 -- ---- words and phrases
 
-pub record WordKept (ts : Tables) (n : Node) : Type 0 where
-  pub node : NodeKept ts wordTags (plain (nodeName n)) n
+pub record WordKept (format : ℕ) (ts : Tables) (n : Node) : Type 0 where
+  pub node : NodeKept format ts wordTags (plain (nodeName n)) n
   pub no-end : same (nodeName n) (bytes "#EOS") ≡ false
   pub no-phrase : startsPhrase (plain (nodeName n)) ≡ false
   pub begins : startsWord (plain (nodeName n)) ≡ true
 
-pub record PhraseKept (ts : Tables) (n : Node) : Type 0 where
-  pub node : NodeKept ts nodeTags noText n
+pub record PhraseKept (format : ℕ) (ts : Tables) (n : Node) : Type 0 where
+  pub node : NodeKept format ts nodeTags noText n
   pub number : number phraseNumber (drop 1 (nodeName n)) ≡ some (n .number)
   pub no-end : same (nodeName n) (bytes "#EOS") ≡ false
   pub begins : startsPhrase (plain (nodeName n)) ≡ true

@@ -1,5 +1,4 @@
 -- A number read from a text is printed as that text, lies in its range and is read again; the digits of an id are few.
--- Assumes nothing.
 use Prim.Native.Nat.{ℕ, zero, suc, _+_, _*_, _/_, _%_, _≤_, _<_}
 use native.Mathlib.Omega.{arith}
 use mathlib.Core.Path.{_≡_, refl, ap, _∙_}

@@ -1,5 +1,5 @@
 -- A row of ORIGIN that was granted is fit to be printed, and read back from the printed line. From the line's rules, one
--- by one. Assumes nothing.
+-- by one.
 use Prim.Native.Nat.{ℕ, suc, _+_, _≤_, _<_}
 use native.Mathlib.Omega.{arith}
 use mathlib.Core.Path.{_≡_, refl, sym, ap, _∙_, subst}
@@ -17,7 +17,7 @@ use Rattle.rules.specs.Numbers.{rowLimit, originId, number, good, value}
 use Rattle.rules.specs.Rules.{Rule, rule, granted}
 use Rattle.rules.specs.Tables.{Row, hasId}
 use Rattle.rules.specs.Rows.{roomFor, originRow}
-use Rattle.rules.specs.Lines.{Answer, refuse, next}
+use Rattle.rules.specs.Phases.{Answer, refuse, next}
 use Rattle.rules.specs.Keywords.{leadingWhite}
 use Rattle.rules.specs.Meaning.{bareRow}
 use Rattle.rules.specs.Tidy.{tab, idDigits}

@@ -1,5 +1,5 @@
 -- Demand 2, chains: in every sentence handed out, of any file, every chain of parents climbs to 0. Each node's parent is 0
--- or a larger phrase number by its own line's rule, and no larger than the last by the sentence's end. Assumes nothing.
+-- or a larger phrase number by its own line's rule, and no larger than the last by the sentence's end.
 use Prim.Native.Nat.{ℕ, suc, _+_, _<_}
 use mathlib.Core.Path.{_≡_, refl, sym, ap, _∙_}
 use mathlib.Core.Logic.{_⊎_, inl, inr}
@@ -23,7 +23,7 @@ use Rattle.rules.proofs.RulesHeld.{held}
 use Rattle.rules.proofs.EachElement.{each-joined, each-of, each-tested}
 use Rattle.rules.proofs.NoGap.{listed-is}
 use Rattle.rules.proofs.PrintedLines.{plain}
-use Rattle.rules.proofs.NodesKept.{nodeColumns, NodeKept, WordKept, PhraseKept}
+use Rattle.rules.proofs.NodesKept.{printColumns, NodeKept, WordKept, PhraseKept}
 use Rattle.rules.proofs.SentencesKept.{bareSentence, SentenceKept, gapless-bare}
 use Rattle.rules.proofs.HandedKept.{handed-kept}
 use Rattle.rules.proofs.References.{parent-listed, parents-placed}
@@ -33,12 +33,12 @@ use Rattle.rules.proofs.Chains.{ZeroOrAbove, climbs-any}
 -- ---- a node's parent
 
 -- parent 0 needs the edge --, another parent is larger than the node's number
-parent-rises : (ts : Tables) (tags : ℕ) (word : Text) (n : Node) → NodeKept ts tags word n
+parent-rises : (format : ℕ) (ts : Tables) (tags : ℕ) (word : Text) (n : Node) → NodeKept format ts tags word n
     → pick (eqb (n .parent) 0) (reads dashes (n .edge)) (ltb (n .number) (n .parent)) ≡ true
 unfolding parentsRise
-parent-rises ts tags word n k =
+parent-rises format ts tags word n k =
     ap (λ (m : Node). pick (eqb (m .parent) 0) (reads dashes (m .edge)) (ltb (n .number) (m .parent))) (sym (k .again))
-    ∙ held (parentsRise (map plain (nodeColumns n)) (n .number)) (k .holds .rise) .0
+    ∙ held (parentsRise format (map plain (printColumns n)) (n .number)) (k .holds .rise) .0
 
 larger-parent : (n parent : ℕ) (b : Bool) → pick (eqb parent 0) b (ltb n parent) ≡ true → (parent ≡ 0) ⊎ (n < parent)
 larger-parent n parent b e = by (eqb parent 0) refl e
@@ -58,7 +58,7 @@ among-above count (n ∷ ns) a k = by (eqb (n .number) k) refl (among-above coun
 
 -- ---- a sentence handed out
 
-module _ (ts : Tables) (s : Sentence) (k : SentenceKept (meantTables ts) (bareSentence s)) where
+module _ (format : ℕ) (ts : Tables) (s : Sentence) (k : SentenceKept format (meantTables ts) (bareSentence s)) where
   abbrev ps : List Node
   ps = s .phrases
 
@@ -66,11 +66,11 @@ module _ (ts : Tables) (s : Sentence) (k : SentenceKept (meantTables ts) (bareSe
   count = length ps
 
   listed-between : (n : ℕ) → listed ps n ≡ true → (leb 500 n && leb n (499 + count)) ≡ true
-  listed-between n e = sym (listed-is ps (numbered ts s k) (sym (gapless-bare ps) ∙ k .whole) n) ∙ e
+  listed-between n e = sym (listed-is ps (numbered format ts s k) (sym (gapless-bare ps) ∙ k .whole) n) ∙ e
 
-  node-above : (tags : ℕ) (word : Text) (n : Node) → NodeKept (meantTables ts) tags word (bareNode n) → parented ps n ≡ true
+  node-above : (tags : ℕ) (word : Text) (n : Node) → NodeKept format (meantTables ts) tags word (bareNode n) → parented ps n ≡ true
       → ZeroOrAbove count (n .number) (n .parent)
-  node-above tags word n kept e = by (larger-parent (n .number) (n .parent) _ (parent-rises (meantTables ts) tags word (bareNode n) kept)) (parent-listed ps n e)
+  node-above tags word n kept e = by (larger-parent (n .number) (n .parent) _ (parent-rises format (meantTables ts) tags word (bareNode n) kept)) (parent-listed ps n e)
     where
       by : (n .parent ≡ 0) ⊎ (n .number < n .parent) → (n .parent ≡ 0) ⊎ (listed ps (n .parent) ≡ true) → ZeroOrAbove count (n .number) (n .parent)
       by (inl z) l = inl z
@@ -81,7 +81,7 @@ module _ (ts : Tables) (s : Sentence) (k : SentenceKept (meantTables ts) (bareSe
             larger = h;
             phrase = leb-true 500 (n .parent) (and-left (leb 500 (n .parent)) (leb (n .parent) (499 + count)) b);
             last = leb-true (n .parent) (499 + count) (and-right (leb 500 (n .parent)) (leb (n .parent) (499 + count)) b);
-            highest = listed-highest ps (each-numbered ts s k) (n .parent) l;
+            highest = listed-highest ps (each-numbered format ts s k) (n .parent) l;
           })
 
   abbrev NodeAbove : Node → Type 0
@@ -89,11 +89,11 @@ module _ (ts : Tables) (s : Sentence) (k : SentenceKept (meantTables ts) (bareSe
 
   each-above : Each NodeAbove (nodes s)
   each-above =
-      let placed = parents-placed ts s k in
+      let placed = parents-placed format ts s k in
       each-joined NodeAbove (s .words) ps
-      (each-tested (WordKept (meantTables ts)) NodeAbove bareNode (parented ps) (λ n w e. node-above wordTags _ n (w .node) e) (s .words) (k .part .words)
+      (each-tested (WordKept format (meantTables ts)) NodeAbove bareNode (parented ps) (λ n w e. node-above wordTags _ n (w .node) e) (s .words) (k .part .words)
       (every-front (parented ps) (s .words) ps placed))
-      (each-tested (PhraseKept (meantTables ts)) NodeAbove bareNode (parented ps) (λ n w e. node-above nodeTags _ n (w .node) e) ps (k .part .phrases)
+      (each-tested (PhraseKept format (meantTables ts)) NodeAbove bareNode (parented ps) (λ n w e. node-above nodeTags _ n (w .node) e) ps (k .part .phrases)
       (every-back (parented ps) (s .words) ps placed))
 
   -- the parent of any number
@@ -107,4 +107,4 @@ module _ (ts : Tables) (s : Sentence) (k : SentenceKept (meantTables ts) (bareSe
 pub climbs : (f : List ℕ) → Each (λ (h : Handed). EveryChainClimbs (h .sentence) (parentIn (h .sentence))) (surveyOf f .handed)
 climbs f =
     handed-kept (λ (v : Survey) (s : Sentence). EveryChainClimbs s (parentIn s))
-    (λ v s k. each-of (λ (n : Node). Climbs (parentIn s) (suc (length (s .phrases))) (n .number)) (λ n. sentence-climbs (v .tables) s k (n .number)) (nodes s)) f
+    (λ v s k. each-of (λ (n : Node). Climbs (parentIn s) (suc (length (s .phrases))) (n .number)) (λ n. sentence-climbs (v .format) (v .tables) s k (n .number)) (nodes s)) f

@@ -1,5 +1,5 @@
 -- The parent field of a node on a sentence's sheet is the node's parent in the sentence, so chains of parents climb on the
--- sheet too. By the widths of the records in front of the node's own. Assumes nothing.
+-- sheet too. By the widths of the records in front of the node's own.
 use Prim.Native.Nat.{ℕ, zero, suc, _+_, _*_, _<_}
 use native.Mathlib.Nat.{zero-add, add-zero, mul-zero, mul-suc, suc-add, add-suc, le-of-suc-le-suc, not-suc-le-zero}
 use native.Mathlib.Omega.{arith}
@@ -14,10 +14,10 @@ use Rattle.rules.specs.Lists.{pick, counting, joined, Each}
 use Rattle.rules.specs.Tables.{Tables}
 use Rattle.rules.specs.Sentences.{Node, Sentence}
 use Rattle.rules.specs.Reading.{Handed}
-use Rattle.rules.specs.Sheets.{nodeRoom, nodeWidth, nodes, leading, nodeNumbers, recordAt, sentenceSheet}
+use Rattle.rules.specs.Sheets.{nodeRoom, nodeWidth, parentOffset, nodes, leading, nodeNumbers, recordAt, sentenceSheet}
 use Rattle.rules.specs.Survey.{Survey, surveyOf}
 use Rattle.rules.specs.Meaning.{meantTables}
-use Rattle.rules.specs.Climbing.{parentAmong, parentIn, parentOffset, parentOn, climbed, Climbs, EveryChainClimbs}
+use Rattle.rules.specs.Climbing.{parentAmong, parentIn, parentOn, climbed, Climbs, EveryChainClimbs}
 use Rattle.rules.proofs.EachElement.{each-then}
 use Rattle.rules.proofs.SentencesKept.{bareSentence, SentenceKept}
 use Rattle.rules.proofs.HandedKept.{handed-kept}
@@ -47,7 +47,7 @@ module _ (f : ℕ → List ℕ) (width : ℕ) (wide : (k : ℕ) → length (f k)
 
 -- ---- the record of a number
 
-record-wide : (ns : List Node) (k : ℕ) → length (recordAt ns k) ≡ nodeWidth
+pub record-wide : (ns : List Node) (k : ℕ) → length (recordAt ns k) ≡ nodeWidth
 record-wide [] k = refl
 record-wide (n ∷ ns) k = by (eqb (n .number) k) (record-wide ns k)
   where
@@ -75,9 +75,9 @@ parent-on-sheet s n h =
 
 -- ---- a sentence handed out
 
-module _ (ts : Tables) (s : Sentence) (k : SentenceKept (meantTables ts) (bareSentence s)) where
+module _ (format : ℕ) (ts : Tables) (s : Sentence) (k : SentenceKept format (meantTables ts) (bareSentence s)) where
   parent-in-room : (n : ℕ) → parentIn s n < nodeRoom
-  parent-in-room n = by (parent-above ts s k n)
+  parent-in-room n = by (parent-above format ts s k n)
     where
       by : ZeroOrAbove (length (s .phrases)) n (parentIn s n) → parentIn s n < nodeRoom
       by (inl e) = omega (arith, e)
@@ -87,14 +87,14 @@ module _ (ts : Tables) (s : Sentence) (k : SentenceKept (meantTables ts) (bareSe
   on-sheet-same steps n h = climbed-same (parentIn s) (parentOn (sentenceSheet s)) nodeRoom (parent-on-sheet s) (λ m l. parent-in-room m) steps n h
 
   climbs-from : (n : ℕ) → n < nodeRoom → Climbs (parentOn (sentenceSheet s)) (suc (length (s .phrases))) n
-  climbs-from n h = climbs-same (parentIn s) (parentOn (sentenceSheet s)) (suc (length (s .phrases))) n (λ j. on-sheet-same j n h) (sentence-climbs ts s k n)
+  climbs-from n h = climbs-same (parentIn s) (parentOn (sentenceSheet s)) (suc (length (s .phrases))) n (λ j. on-sheet-same j n h) (sentence-climbs format ts s k n)
 
 -- steps on the sheet are steps in the sentence
 pub climbed-on-sheet : (f : List ℕ)
     → Each (λ (h : Handed). (k n : ℕ) → n < nodeRoom → climbed (parentOn (sentenceSheet (h .sentence))) k n ≡ climbed (parentIn (h .sentence)) k n) (surveyOf f .handed)
 climbed-on-sheet f =
     handed-kept (λ (v : Survey) (s : Sentence). (k n : ℕ) → n < nodeRoom → climbed (parentOn (sentenceSheet s)) k n ≡ climbed (parentIn s) k n)
-    (λ v s k. on-sheet-same (v .tables) s k) f
+    (λ v s k. on-sheet-same (v .format) (v .tables) s k) f
 
 -- every chain of parents climbs on the sheet
 pub climbs-on-sheet : (f : List ℕ) → Each (λ (h : Handed). EveryChainClimbs (h .sentence) (parentOn (sentenceSheet (h .sentence)))) (surveyOf f .handed)
@@ -102,5 +102,5 @@ climbs-on-sheet f =
     handed-kept (λ (v : Survey) (s : Sentence). EveryChainClimbs s (parentOn (sentenceSheet s)))
     (λ v s k.
     each-then InRoom (λ (n : Node). Climbs (parentOn (sentenceSheet s)) (suc (length (s .phrases))) (n .number))
-    (λ n h. climbs-from (v .tables) s k (n .number) h) (nodes s) (each-in-room (v .tables) s k))
+    (λ n h. climbs-from (v .format) (v .tables) s k (n .number) h) (nodes s) (each-in-room (v .format) (v .tables) s k))
     f

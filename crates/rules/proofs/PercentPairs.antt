@@ -1,5 +1,5 @@
 -- Laws of the cut at the first two adjacent percent signs: what stands in front of them has none, and a text that has none
--- is cut just at the %% printed behind it. By one step along the bytes. Assumes nothing.
+-- is cut just at the %% printed behind it. By one step along the bytes.
 use Prim.Native.Nat.{ℕ, suc}
 use mathlib.Core.Path.{_≡_, refl, ap}
 use mathlib.Core.Bool.{Bool, true, false, not, _&&_, and-false}

@@ -1,5 +1,5 @@
 -- The bytes of a line's columns, and of the texts behind them, are the same wherever the line stands in its file. By one
--- step along the line. Assumes nothing.
+-- step along the line.
 use Prim.Native.Nat.{ℕ, zero, suc}
 use mathlib.Core.Path.{_≡_, refl, sym, ap, _∙_}
 use mathlib.Core.Bool.{Bool, true, false}
@@ -8,8 +8,8 @@ use lib.ListN.{length, getD}
 use Rattle.rules.specs.Lists.{pick, same}
 use Rattle.rules.specs.Bytes.{white, percents}
 use Rattle.rules.specs.Texts.{Text, rightTrim, trimFrom, trim, startsComment, behindFrom, behind, inFront}
-use Rattle.rules.specs.Columns.{Column, goesOn, longer, lastByte, columnsFrom, columns, column, written, texts, fields}
-use Rattle.rules.proofs.BareColumns.{allColumns, frontColumns, columnAt, restBehind, textBehind}
+use Rattle.rules.specs.Columns.{Column, goesOn, withFirst, lastByte, columnsFrom, columns, column, written, texts, fields, comment}
+use Rattle.rules.proofs.BareColumns.{allColumns, frontColumns, commentOf, columnAt, restBehind, textBehind}
 use Rattle.rules.proofs.SaidOfLists.{length-map}
 
 -- ---- columns without places
@@ -25,7 +25,7 @@ abbrev longerBare : ℕ → List Bare → List Bare
 longerBare b [] = []
 longerBare b (c ∷ cs) = record { its = b ∷ c .its; behindIt = c .behindIt } ∷ cs
 
-longer-bare : (at b : ℕ) (cs : List Column) → map bareOf (longer at b cs) ≡ longerBare b (map bareOf cs)
+longer-bare : (at b : ℕ) (cs : List Column) → map bareOf (withFirst at b cs) ≡ longerBare b (map bareOf cs)
 longer-bare at b [] = refl
 longer-bare at b (c ∷ cs) = refl
 
@@ -35,8 +35,8 @@ bare-columns a c [] = refl
 bare-columns a c (b ∷ bs) = by (white b) (goesOn bs) (bare-columns (suc a) (suc c) bs)
   where
     by : (t u : Bool) → map bareOf (columnsFrom (suc a) bs) ≡ map bareOf (columnsFrom (suc c) bs)
-        → map bareOf (pick t (columnsFrom (suc a) bs) (pick u (longer a b (columnsFrom (suc a) bs)) (lastByte a b bs ∷ columnsFrom (suc a) bs)))
-        ≡ map bareOf (pick t (columnsFrom (suc c) bs) (pick u (longer c b (columnsFrom (suc c) bs)) (lastByte c b bs ∷ columnsFrom (suc c) bs)))
+        → map bareOf (pick t (columnsFrom (suc a) bs) (pick u (withFirst a b (columnsFrom (suc a) bs)) (lastByte a b bs ∷ columnsFrom (suc a) bs)))
+        ≡ map bareOf (pick t (columnsFrom (suc c) bs) (pick u (withFirst c b (columnsFrom (suc c) bs)) (lastByte c b bs ∷ columnsFrom (suc c) bs)))
     by true u e = e
     by false true e =
         longer-bare a b (columnsFrom (suc a) bs) ∙ ap (longerBare b) e ∙ sym (longer-bare c b (columnsFrom (suc c) bs))
@@ -99,6 +99,23 @@ behind-free a b (x ∷ y ∷ xs) = by (startsComment x y) (behind-free (suc a) (
 behind-same : (t u : Text) → t .bytes ≡ u .bytes → behind t .bytes ≡ behind u .bytes
 behind-same t u e = behind-free (t .start) (u .start) (t .bytes) ∙ ap (λ (xs : List ℕ). behindFrom (u .start) xs .bytes) e
 
+abbrev commentBare : List Bare → List ℕ
+commentBare [] = []
+commentBare (c ∷ cs) = pick (same (c .its) percents) (trimFrom 0 (c .behindIt) .bytes) (commentBare cs)
+
+comment-bare : (cs : List Column) → comment cs .bytes ≡ commentBare (map bareOf cs)
+unfolding comment
+comment-bare [] = refl
+comment-bare (c ∷ cs) = by (same (c .text .bytes) percents) (comment-bare cs)
+  where
+    by : (t : Bool) → comment cs .bytes ≡ commentBare (map bareOf cs)
+        → pick t (trim (c .after)) (comment cs) .bytes ≡ pick t (trimFrom 0 (c .after .bytes) .bytes) (commentBare (map bareOf cs))
+    by true e = trim-free (c .after .start) 0 (c .after .bytes)
+    by false e = e
+
+pub comment-free : (a b : ℕ) (l : List ℕ) → comment (columnsFrom a l) .bytes ≡ comment (columnsFrom b l) .bytes
+comment-free a b l = comment-bare (columnsFrom a l) ∙ ap commentBare (bare-columns a b l) ∙ sym (comment-bare (columnsFrom b l))
+
 -- ---- of a line at its place
 
 module _ (line : Text) where
@@ -110,6 +127,9 @@ module _ (line : Text) where
 
   pub front-columns : map (λ (t : Text). t .bytes) (fields (columns line)) ≡ frontColumns (line .bytes)
   front-columns = front-bare (columns line) ∙ ap frontBare anywhere ∙ sym (front-bare (columnsFrom 0 (line .bytes)))
+
+  pub comment-there : comment (columns line) .bytes ≡ commentOf (line .bytes)
+  comment-there = comment-free (line .start) 0 (line .bytes)
 
   pub count-columns : length (columns line) ≡ length (allColumns (line .bytes))
   count-columns =

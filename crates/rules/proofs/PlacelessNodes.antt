@@ -1,10 +1,10 @@
 -- Whether the rules of a node hold, and what the node is, depends on the bytes of its fields and on what the tables mean,
--- not on places. Rule by rule, along the pairs. Assumes nothing.
+-- not on places. Rule by rule, along the pairs.
 use Prim.Native.Nat.{ℕ}
 use mathlib.Core.Path.{_≡_, refl, sym, ap, ap₂, _∙_}
 use mathlib.Core.Bool.{Bool, true, _&&_}
 use mathlib.Core.List.{List, [], _∷_, map}
-use lib.ListN.{length, drop, length-map, List·getD-map}
+use lib.ListN.{drop, length-map, List·getD-map}
 use lib.Dec.{leb, ltb, eqb}
 use Rattle.rules.specs.Lists.{pick, every}
 use Rattle.rules.specs.Texts.{Text, noText, bare, reads, atMost}
@@ -19,12 +19,12 @@ use Rattle.rules.proofs.Elements.{map-map, drop-map}
 use Rattle.rules.proofs.MeantTables.{known-meant}
 
 -- the rules of a node's own line: its fields, the tables, the table of its tag, its number
-pub record NodeHolds (fs : List Text) (ts : Tables) (tags k : ℕ) : Type 0 where
-  pub shape : shaped fs ≡ true
-  pub parents : every holdsOf (parentsWritten fs) ≡ true
-  pub short : every holdsOf (tagsShort fs tags) ≡ true
-  pub tabled : every holdsOf (tagsKnown fs ts tags) ≡ true
-  pub rise : every holdsOf (parentsRise fs k) ≡ true
+pub record NodeHolds (format : ℕ) (fs : List Text) (ts : Tables) (tags k : ℕ) : Type 0 where
+  pub shape : shaped format fs ≡ true
+  pub parents : every holdsOf (parentsWritten format fs) ≡ true
+  pub short : every holdsOf (tagsShort format fs tags) ≡ true
+  pub tabled : every holdsOf (tagsKnown format fs ts tags) ≡ true
+  pub rise : every holdsOf (parentsRise format fs k) ≡ true
 
 abbrev barePair : Pair → Pair
 barePair p = record { label = bare (p .label); parent = bare (p .parent) }
@@ -47,46 +47,46 @@ every-pairs : (f g : Pair → Rule) → ((p : Pair) → f (barePair p) .holds �
 every-pairs f g same [] = refl
 every-pairs f g same (p ∷ ps) = ap₂ _&&_ (same p) (every-pairs f g same ps)
 
-module _ (fs : List Text) where
-  pub text-bare : (k : ℕ) → text (map bare fs) k ≡ bare (text fs k)
-  text-bare k = List·getD-map bare fs k noText
+pub text-bare : (fs : List Text) (k : ℕ) → text (map bare fs) k ≡ bare (text fs k)
+text-bare fs k = List·getD-map bare fs k noText
 
-  pub its-pairs-bare : itsPairs (map bare fs) ≡ map barePair (itsPairs fs)
-  its-pairs-bare = ap pairs (drop-map bare pairsField fs) ∙ pairs-bare (drop pairsField fs)
+module _ (format : ℕ) (fs : List Text) where
+  pub its-pairs-bare : itsPairs format (map bare fs) ≡ map barePair (itsPairs format fs)
+  its-pairs-bare = ap pairs (drop-map bare (pairsField format) fs) ∙ pairs-bare (drop (pairsField format) fs)
 
-  shaped-bare : shaped (map bare fs) ≡ shaped fs
+  shaped-bare : shaped format (map bare fs) ≡ shaped format fs
   shaped-bare =
-      ap₂ (λ (n : ℕ) (b : Bool). leb pairsField n && b) (length-map fs bare) (ap paired (drop-map bare pairsField fs) ∙ paired-bare (drop pairsField fs))
+      ap₂ (λ (n : ℕ) (b : Bool). leb (pairsField format) n && b) (length-map fs bare) (ap paired (drop-map bare (pairsField format) fs) ∙ paired-bare (drop (pairsField format) fs))
 
-  parents-bare : every holdsOf (parentsWritten (map bare fs)) ≡ every holdsOf (parentsWritten fs)
+  parents-bare : every holdsOf (parentsWritten format (map bare fs)) ≡ every holdsOf (parentsWritten format fs)
   unfolding parentsWritten
   parents-bare =
-      rw (text-bare parentField, its-pairs-bare)
-      (ap (λ (b : Bool). good (itsParent fs) && b) (every-pairs _ _ (λ p. refl) (itsPairs fs)))
+      rw (text-bare fs (parentField format), its-pairs-bare)
+      (ap (λ (b : Bool). good (itsParent format fs) && b) (every-pairs _ _ (λ p. refl) (itsPairs format fs)))
 
-  short-bare : (tags : ℕ) → every holdsOf (tagsShort (map bare fs) tags) ≡ every holdsOf (tagsShort fs tags)
+  short-bare : (tags : ℕ) → every holdsOf (tagsShort format (map bare fs) tags) ≡ every holdsOf (tagsShort format fs tags)
   unfolding tagsShort
   short-bare tags =
-      rw (text-bare tagField, text-bare morphologyField, text-bare edgeField, its-pairs-bare)
-      (ap (λ (b : Bool). atMost (tagLimit tags) (itsTag fs) && (atMost (tagLimit morphTags) (itsMorphology fs) && (atMost (tagLimit edgeTags) (itsEdge fs) && b)))
-      (every-pairs _ _ (λ p. refl) (itsPairs fs)))
+      rw (text-bare fs (tagField format), text-bare fs (morphologyField format), text-bare fs (edgeField format), its-pairs-bare)
+      (ap (λ (b : Bool). atMost (tagLimit tags) (itsTag format fs) && (atMost (tagLimit morphTags) (itsMorphology format fs) && (atMost (tagLimit edgeTags) (itsEdge format fs) && b)))
+      (every-pairs _ _ (λ p. refl) (itsPairs format fs)))
 
-  known-bare : (ts : Tables) (tags : ℕ) → every holdsOf (tagsKnown (map bare fs) (meantTables ts) tags) ≡ every holdsOf (tagsKnown fs ts tags)
+  known-bare : (ts : Tables) (tags : ℕ) → every holdsOf (tagsKnown format (map bare fs) (meantTables ts) tags) ≡ every holdsOf (tagsKnown format fs ts tags)
   unfolding tagsKnown
   known-bare ts tags =
-      rw (text-bare tagField, text-bare morphologyField, text-bare edgeField, its-pairs-bare)
-      (rw (known-meant ts tags (itsTag fs), known-meant ts morphTags (itsMorphology fs), known-meant ts edgeTags (itsEdge fs))
-      (ap (λ (b : Bool). known ts tags (itsTag fs) && (known ts morphTags (itsMorphology fs) && (known ts edgeTags (itsEdge fs) && b)))
-      (every-pairs _ _ (λ p. known-meant ts secEdgeTags (p .label)) (itsPairs fs))))
+      rw (text-bare fs (tagField format), text-bare fs (morphologyField format), text-bare fs (edgeField format), its-pairs-bare)
+      (rw (known-meant ts tags (itsTag format fs), known-meant ts morphTags (itsMorphology format fs), known-meant ts edgeTags (itsEdge format fs))
+      (ap (λ (b : Bool). known ts tags (itsTag format fs) && (known ts morphTags (itsMorphology format fs) && (known ts edgeTags (itsEdge format fs) && b)))
+      (every-pairs _ _ (λ p. known-meant ts secEdgeTags (p .label)) (itsPairs format fs))))
 
-  rise-bare : (k : ℕ) → every holdsOf (parentsRise (map bare fs) k) ≡ every holdsOf (parentsRise fs k)
+  rise-bare : (k : ℕ) → every holdsOf (parentsRise format (map bare fs) k) ≡ every holdsOf (parentsRise format fs k)
   unfolding parentsRise
   rise-bare k =
-      rw (text-bare parentField, text-bare edgeField, its-pairs-bare)
-      (ap (λ (b : Bool). pick (eqb (value (itsParent fs)) 0) (reads dashes (itsEdge fs)) (ltb k (value (itsParent fs))) && b)
-      (every-pairs _ _ (λ p. refl) (itsPairs fs)))
+      rw (text-bare fs (parentField format), text-bare fs (edgeField format), its-pairs-bare)
+      (ap (λ (b : Bool). pick (eqb (value (itsParent format fs)) 0) (reads dashes (itsEdge format fs)) (ltb k (value (itsParent format fs))) && b)
+      (every-pairs _ _ (λ p. refl) (itsPairs format fs)))
 
-  pub holds-placeless : (ts : Tables) (tags k : ℕ) → NodeHolds fs ts tags k → NodeHolds (map bare fs) (meantTables ts) tags k
+  pub holds-placeless : (ts : Tables) (tags k : ℕ) → NodeHolds format fs ts tags k → NodeHolds format (map bare fs) (meantTables ts) tags k
   holds-placeless ts tags k h =
       record {
         shape = shaped-bare ∙ h .shape;
@@ -96,7 +96,7 @@ module _ (fs : List Text) where
         rise = rise-bare k ∙ h .rise;
       }
 
-  pub holds-placed : (ts : Tables) (tags k : ℕ) → NodeHolds (map bare fs) (meantTables ts) tags k → NodeHolds fs ts tags k
+  pub holds-placed : (ts : Tables) (tags k : ℕ) → NodeHolds format (map bare fs) (meantTables ts) tags k → NodeHolds format fs ts tags k
   holds-placed ts tags k h =
       record {
         shape = sym shaped-bare ∙ h .shape;
@@ -106,10 +106,7 @@ module _ (fs : List Text) where
         rise = sym (rise-bare k) ∙ h .rise;
       }
 
-  pub pairs-count : length (itsPairs (map bare fs)) ≡ length (itsPairs fs)
-  pairs-count = ap length its-pairs-bare ∙ length-map (itsPairs fs) barePair
-
-  pub node-placeless : (k : ℕ) (w c : Text) → nodeOf (map bare fs) k (bare w) (bare c) ≡ bareNode (nodeOf fs k w c)
+  pub node-placeless : (k : ℕ) (w c : Text) → nodeOf format (map bare fs) k (bare w) (bare c) ≡ bareNode (nodeOf format fs k w c)
   node-placeless k w c =
-      rw (text-bare tagField, text-bare morphologyField, text-bare edgeField, text-bare parentField, its-pairs-bare)
-      (rw (map-map asEdge barePair (itsPairs fs), map-map bareEdge asEdge (itsPairs fs)))
+      rw (text-bare fs (tagField format), text-bare fs (morphologyField format), text-bare fs (edgeField format), text-bare fs (parentField format), its-pairs-bare)
+      (rw (map-map asEdge barePair (itsPairs format fs), map-map bareEdge asEdge (itsPairs format fs)))

@@ -1,5 +1,5 @@
 -- A printed line: its columns with one white byte between two, and a comment behind %%. It is read back as those columns
--- and that comment, wherever the line stands. By one step along the columns. Assumes nothing.
+-- and that comment, wherever the line stands. By one step along the columns.
 use Prim.Native.Nat.{ℕ, suc, _+_, _<_}
 use native.Mathlib.Nat.{zero-lt-suc}
 use mathlib.Core.Path.{_≡_, refl, sym, ap, _∙_}
@@ -9,7 +9,7 @@ use lib.ListN.{length, drop}
 use borrow.Author.Tests.{not-true}
 use Rattle.rules.specs.Lists.{pick, empty, every, any, same}
 use Rattle.rules.specs.Bytes.{newline, white, percents}
-use Rattle.rules.specs.Texts.{Text, bare, trim}
+use Rattle.rules.specs.Texts.{Text, bare}
 use Rattle.rules.specs.Columns.{Column, goesOn, columnsFrom, texts, fields, comment}
 use Rattle.rules.specs.Tidy.{parted, commented}
 use Rattle.rules.proofs.Conjunctions.{and-left, and-right}
@@ -96,17 +96,9 @@ pub fields-field : (c : Column) (cs : List Column) → same (c .text .bytes) per
 unfolding fields
 fields-field c cs e = rw e
 
-pub fields-comment : (c : Column) (cs : List Column) → same (c .text .bytes) percents ≡ true → fields (c ∷ cs) ≡ []
-unfolding fields
-fields-comment c cs e = rw e
-
 pub comment-field : (c : Column) (cs : List Column) → same (c .text .bytes) percents ≡ false → comment (c ∷ cs) ≡ comment cs
 unfolding comment
 comment-field c cs e = rw e
-
-pub comment-here : (c : Column) (cs : List Column) → same (c .text .bytes) percents ≡ true → comment (c ∷ cs) ≡ trim (c .after)
-unfolding comment
-comment-here c cs e = rw e
 
 abbrev pub columnBytes : List Column → List (List ℕ)
 columnBytes cs = map (λ (c : Column). c .text .bytes) cs

@@ -1,5 +1,5 @@
 -- A file is read byte by byte, and so line by line: what a reading is behind bytes of a line, behind a whole line, and
--- behind a fault. Assumes nothing.
+-- behind a fault.
 use mathlib.Core.Path.{_≡_, refl, sym, ap, _∙_}
 use mathlib.Core.Bool.{Bool, true, false, _||_}
 use mathlib.Core.Option.{Option, none, some}
@@ -11,8 +11,8 @@ use lib.ListN.{length}
 use Rattle.rules.specs.Lists.{pick, any}
 use Rattle.rules.specs.Bytes.{newline}
 use Rattle.rules.specs.Rules.{Fault}
-use Rattle.rules.specs.Lines.{Phase, step}
-use Rattle.rules.specs.Reading.{Handed, Reading, numbers, line, ended, longer, byte, read}
+use Rattle.rules.specs.Phases.{Phase, step}
+use Rattle.rules.specs.Reading.{Handed, Reading, numbers, line, ended, withByte, byte, read}
 
 -- a newline is among the bytes
 abbrev pub hasNewline : List ℕ → Bool
@@ -43,7 +43,7 @@ module _ (from : ℕ) (stands : Phase) (out : List Handed) where
   part-from [] part at u = ap (λ (n : ℕ). reading none n part) (sym (add-zero at))
   part-from (b ∷ bs) part at u =
       let r = reading none at part in
-      ap (λ (t : Bool). read (pick t (ended r (step stands (numbers out) (line r))) (longer r b)) bs) (or-first (eqb b newline) (hasNewline bs) u)
+      ap (λ (t : Bool). read (pick t (ended r (step stands (numbers out) (line r))) (withByte r b)) bs) (or-first (eqb b newline) (hasNewline bs) u)
       ∙ part-from bs (b ∷ part) (suc at) (or-second (eqb b newline) (hasNewline bs) u)
       ∙ one-more none (reverse bs ++ (b ∷ part)) bs at
       ∙ ap (reading none (at + suc (length bs))) (sym (reverseAux-eq bs (b ∷ part)) ∙ reverseAux-eq (b ∷ bs) part)

@@ -1,5 +1,5 @@
 -- Demand 2, references: in every sentence handed out, of any file, parents are phrases of the sentence, tags stand in their
--- tables, and editor and origin are known. From the rules that a kept node holds, and those of its sentence's end. Assumes nothing.
+-- tables, and editor and origin are known. From the rules that a kept node holds, and those of its sentence's end.
 use Prim.Native.Nat.{ℕ}
 use mathlib.Core.Path.{_≡_, refl, sym, ap, _∙_}
 use mathlib.Core.Logic.{_⊎_, inl, inr}
@@ -25,15 +25,15 @@ use Rattle.rules.proofs.Elements.{map-append}
 use Rattle.rules.proofs.EachElement.{each-tested}
 use Rattle.rules.proofs.MeantTables.{known-meant, known-editor-meant, known-origin-meant}
 use Rattle.rules.proofs.PrintedLines.{plain}
-use Rattle.rules.proofs.NodesKept.{nodeColumns, NodeKept, WordKept, PhraseKept}
+use Rattle.rules.proofs.NodesKept.{printColumns, NodeKept, WordKept, PhraseKept}
 use Rattle.rules.proofs.SentencesKept.{bareSentence, SentenceKept, every-same, parents-bare}
 use Rattle.rules.proofs.HandedKept.{handed-kept}
 
 -- ---- what a kept node's rules say of the node itself
 
-module _ (ts : Tables) (tags : ℕ) (word : Text) (n : Node) (k : NodeKept ts tags word n) where
+module _ (format : ℕ) (ts : Tables) (tags : ℕ) (word : Text) (n : Node) (k : NodeKept format ts tags word n) where
   abbrev fs : List Text
-  fs = map plain (nodeColumns n)
+  fs = map plain (printColumns n)
 
   abbrev labelKnown : Edge → Bool
   labelKnown e = known ts secEdgeTags (e .label)
@@ -50,14 +50,14 @@ module _ (ts : Tables) (tags : ℕ) (word : Text) (n : Node) (k : NodeKept ts ta
   tags-known : TagsKnown
   unfolding tagsKnown
   tags-known =
-      let h = held (tagsKnown fs ts tags) (k .holds .tabled) in
+      let h = held (tagsKnown format fs ts tags) (k .holds .tabled) in
       record {
         tag = ap (λ (m : Node). known ts tags (m .tag)) (sym (k .again)) ∙ h .0;
         morphology = ap (λ (m : Node). known ts morphTags (m .morphology)) (sym (k .again)) ∙ h .1 .0;
         edge = ap (λ (m : Node). known ts edgeTags (m .edge)) (sym (k .again)) ∙ h .1 .1 .0;
         labels =
-            ap (λ (m : Node). every labelKnown (m .secondary)) (sym (k .again)) ∙ every-map labelKnown asEdge (itsPairs fs)
-            ∙ sym (every-map holdsOf labelRule (itsPairs fs)) ∙ hold (map labelRule (itsPairs fs)) (h .1 .1 .1);
+            ap (λ (m : Node). every labelKnown (m .secondary)) (sym (k .again)) ∙ every-map labelKnown asEdge (itsPairs format fs)
+            ∙ sym (every-map holdsOf labelRule (itsPairs format fs)) ∙ hold (map labelRule (itsPairs format fs)) (h .1 .1 .1);
       }
 
 -- ---- a node of a sentence
@@ -77,10 +77,10 @@ module _ (ps : List Node) (n : Node) (e : parented ps n ≡ true) where
   secondary-listed = and-right (eqb (n .parent) 0 || listed ps (n .parent)) _ e
 
 -- places left out and put back
-node-resolves : (ts : Tables) (tags : ℕ) (ps : List Node) (word : Text) (n : Node)
-    → NodeKept (meantTables ts) tags word (bareNode n) → parented ps n ≡ true → NodeResolves ts tags ps n
-node-resolves ts tags ps word n k e =
-    let h = tags-known (meantTables ts) tags word (bareNode n) k in
+node-resolves : (format : ℕ) (ts : Tables) (tags : ℕ) (ps : List Node) (word : Text) (n : Node)
+    → NodeKept format (meantTables ts) tags word (bareNode n) → parented ps n ≡ true → NodeResolves ts tags ps n
+node-resolves format ts tags ps word n k e =
+    let h = tags-known format (meantTables ts) tags word (bareNode n) k in
     record {
       parent = parent-listed ps n e;
       secondary = secondary-listed ps n e;
@@ -96,7 +96,7 @@ node-resolves ts tags ps word n k e =
 
 -- ---- a sentence handed out
 
-module _ (ts : Tables) (s : Sentence) (k : SentenceKept (meantTables ts) (bareSentence s)) where
+module _ (format : ℕ) (ts : Tables) (s : Sentence) (k : SentenceKept format (meantTables ts) (bareSentence s)) where
   abbrev ps : List Node
   ps = s .phrases
 
@@ -110,12 +110,12 @@ module _ (ts : Tables) (s : Sentence) (k : SentenceKept (meantTables ts) (bareSe
         editor = sym (known-editor-meant ts (s .heading .editor1)) ∙ k .part .heading .editor-known;
         origin = sym (known-origin-meant ts (s .heading .origin)) ∙ k .part .heading .origin-known;
         words =
-            each-tested (WordKept (meantTables ts)) (NodeResolves ts wordTags ps) bareNode (parented ps)
-            (λ n w e. node-resolves ts wordTags ps _ n (w .node) e) (s .words) (k .part .words) (every-front (parented ps) (s .words) ps parents-placed);
+            each-tested (WordKept format (meantTables ts)) (NodeResolves ts wordTags ps) bareNode (parented ps)
+            (λ n w e. node-resolves format ts wordTags ps _ n (w .node) e) (s .words) (k .part .words) (every-front (parented ps) (s .words) ps parents-placed);
         phrases =
-            each-tested (PhraseKept (meantTables ts)) (NodeResolves ts nodeTags ps) bareNode (parented ps)
-            (λ n w e. node-resolves ts nodeTags ps _ n (w .node) e) ps (k .part .phrases) (every-back (parented ps) (s .words) ps parents-placed);
+            each-tested (PhraseKept format (meantTables ts)) (NodeResolves ts nodeTags ps) bareNode (parented ps)
+            (λ n w e. node-resolves format ts nodeTags ps _ n (w .node) e) ps (k .part .phrases) (every-back (parented ps) (s .words) ps parents-placed);
       }
 
 pub references-resolve : (f : List ℕ) → Each (λ (h : Handed). Resolves (surveyOf f .tables) (h .sentence)) (surveyOf f .handed)
-references-resolve f = handed-kept (λ (v : Survey) (s : Sentence). Resolves (v .tables) s) (λ v s k. sentence-resolves (v .tables) s k) f
+references-resolve f = handed-kept (λ (v : Survey) (s : Sentence). Resolves (v .tables) s) (λ v s k. sentence-resolves (v .format) (v .tables) s k) f

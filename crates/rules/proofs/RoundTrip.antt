@@ -1,38 +1,41 @@
--- Demand 2: the tidy text written for an accepted file is accepted and has the same tables and sentences. What a reading
--- keeps is fit to be printed, and what is fit is read back. Assumes nothing.
-use Prim.Native.Nat.{ℕ, suc, _≤_}
+-- Demand 2: the tidy text written for an accepted file is accepted and has the same format, tables and sentences. What a
+-- reading keeps is fit to be printed, and what is fit is read back; files that mean the same are the same field by field.
+use Prim.Native.Nat.{ℕ, _≤_}
 use native.Mathlib.Omega.{arith}
 use mathlib.Core.Path.{_≡_, refl, sym, ap, ap₂, _∙_, subst}
 use mathlib.Core.Bool.{true, false, _&&_}
 use mathlib.Core.Option.{none}
 use mathlib.Core.List.{List, [], _∷_, _++_, map}
-use lib.ListN.{length, replicate, length-map}
-use lib.Dec.{eqb}
+use lib.ListN.{length, replicate}
 use borrow.Author.Tests.{le-leb}
 use Rattle.rules.specs.Lists.{bytes, joined, sorted, Each}
 use Rattle.rules.specs.Bytes.{ignored}
 use Rattle.rules.specs.Numbers.{fileLimit}
 use Rattle.rules.specs.Tables.{Tables, origins, editors, noTables}
 use Rattle.rules.specs.Sentences.{Sentence}
-use Rattle.rules.specs.Lines.{Preamble, start, top, behindSentence, go, next, atStart, lineAt, step, formatAt, tablesAt}
-use Rattle.rules.specs.Reading.{Reading, begin, numbers, read, outcome}
+use Rattle.rules.specs.Phases.{Preamble, start, top, behindSentence, go, next, step, formatAt, tablesAt}
+use Rattle.rules.specs.Reading.{Reading, begin, numbers, read, verdict}
 use Rattle.rules.specs.Survey.{Survey, surveyOf}
-use Rattle.rules.specs.Meaning.{Meaning, meantRows, nodeNumber, sentenceNumberOf, meantTables, meaningOf}
+use Rattle.rules.specs.Meaning.{Meaning, nodeNumber, sentenceNumberOf, meaningOf}
+use Rattle.rules.specs.Same.{SameMeaning}
 use Rattle.rules.specs.Tidy.{space, digitsOf, keywordLine, tablesText, sentenceText, tidyText}
 use Rattle.rules.specs.Writing.{tidyOf}
+use Rattle.rules.proofs.Takings.{answerStart, answerAt}
 use Rattle.rules.proofs.ReadLines.{read-append}
-use Rattle.rules.proofs.Elements.{any-map}
-use Rattle.rules.proofs.Sorting.{Distinct, Rising, all-sorted, rising-from-zero, sorted-sorted, map-sorted}
+use Rattle.rules.proofs.Sorting.{Rising, all-sorted, rising-from-zero, sorted-sorted, map-sorted}
 use Rattle.rules.proofs.PrintedLines.{parted-plain}
 use Rattle.rules.proofs.LineFit.{LineFit}
-use Rattle.rules.proofs.KeywordLines.{keyed, keyed-number-fit, format-granted}
-use Rattle.rules.proofs.MeantTables.{present-meant, same-meaning}
+use Rattle.rules.proofs.KeywordLines.{keyed, keyed-number-fit, format-passes}
+use Rattle.rules.proofs.MeantTables.{present-meant, same-meaning as same-printed}
 use Rattle.rules.proofs.SentencesKept.{byNumber, SentenceKept, sentence-sorted}
 use Rattle.rules.proofs.Kept.{PreambleKept, both, means}
 use Rattle.rules.proofs.KeptReading.{bares, FileKept, meantBy, reading-meaning, survey-read, accepted-kept}
 use Rattle.rules.proofs.Stands.{Stands, line-go, step-printed}
 use Rattle.rules.proofs.TablesBack.{blanks, TablesRead, tables-read, tables-printed}
 use Rattle.rules.proofs.SentencesBack.{all-sentences-read}
+use Rattle.rules.proofs.AlikeLists.{distinct-map}
+use Rattle.rules.proofs.TablesAgree.{length-meant}
+use Rattle.rules.proofs.SameMeaning.{same-meaning}
 
 -- ---- the format line
 
@@ -45,9 +48,9 @@ unread n = record { format = n; tables = noTables }
 
 format-step : (n : ℕ) → n ≡ 3 → LineFit (keyed (bytes "#FORMAT") (digitsOf n)) → (used : List ℕ) (at : ℕ)
     → step start used (record { start = at; bytes = keyed (bytes "#FORMAT") (digitsOf n) }) ≡ go (top (unread n))
-unfolding lineAt atStart
+unfolding answerAt answerStart
 format-step n e f used at =
-    step-printed space refl start used at (bytes "#FORMAT") (digitsOf n ∷ []) [] refl f ∙ ap (next (λ i. go (top (unread i)))) (format-granted n at e)
+    step-printed space refl start used at (bytes "#FORMAT") (digitsOf n ∷ []) [] refl f ∙ ap (next (λ i. go (top (unread i)))) (format-passes n at e)
 
 format-read : (n : ℕ) → n ≡ 3 → Stands (top (unread n)) [] (read begin (keywordLine (bytes "#FORMAT" ∷ digitsOf n ∷ [])))
 format-read n e =
@@ -57,11 +60,6 @@ format-read n e =
     (format-step n e f (numbers []) 0))
 
 -- ---- the tables
-
-length-meant : (ts : Tables) → length (meantTables ts) ≡ length ts
-length-meant [] = refl
-length-meant (o ∷ []) = refl
-length-meant (o ∷ e ∷ ts) = ap (λ (n : ℕ). suc (suc n)) (length-map ts meantRows)
 
 blank-tables : (ts : Tables) → blanks ts ≡ replicate (length ts) none
 blank-tables [] = refl
@@ -82,29 +80,25 @@ inOrder ss = sorted sentenceNumberOf (map byNumber ss)
 by-number-twice : (ss : List Sentence) → map byNumber (map byNumber ss) ≡ map byNumber ss
 by-number-twice [] = refl
 by-number-twice (s ∷ ss) =
-    ap₂ (λ (t : Sentence) (ts : List Sentence). t ∷ ts) (ap (λ ps. record { heading = s .heading; words = s .words; phrases = ps }) (sorted-sorted nodeNumber (s .phrases))) (by-number-twice ss)
+    ap₂ (λ (t : Sentence) (ts : List Sentence). t ∷ ts) (ap (λ ps. record { start = s .start; heading = s .heading; words = s .words; phrases = ps }) (sorted-sorted nodeNumber (s .phrases))) (by-number-twice ss)
 
 order-twice : (ss : List Sentence) → inOrder (inOrder ss) ≡ inOrder ss
 order-twice ss =
     ap (sorted sentenceNumberOf) (map-sorted sentenceNumberOf sentenceNumberOf byNumber (λ s. refl) (map byNumber ss) ∙ ap (sorted sentenceNumberOf) (by-number-twice ss))
     ∙ sorted-sorted sentenceNumberOf (map byNumber ss)
 
-abbrev Ready : Tables → Sentence → Type 0
-Ready ts s = SentenceKept ts s × Rising nodeNumber 0 (s .phrases)
+abbrev Ready : ℕ → Tables → Sentence → Type 0
+Ready format ts s = SentenceKept format ts s × Rising nodeNumber 0 (s .phrases)
 
-each-ready : (ts : Tables) (ss : List Sentence) → Each (SentenceKept ts) ss → Each (Ready ts) (map byNumber ss)
-each-ready ts [] k = tt
-each-ready ts (s ∷ ss) k = ((sentence-sorted ts s (k .0), rising-from-zero nodeNumber (s .phrases) (k .0 .part .distinct)), each-ready ts ss (k .1))
-
-distinct-numbers : (ss : List Sentence) → Distinct sentenceNumberOf ss → Distinct sentenceNumberOf (map byNumber ss)
-distinct-numbers [] d = tt
-distinct-numbers (s ∷ ss) d = (any-map (λ (t : Sentence). eqb (sentenceNumberOf s) (sentenceNumberOf t)) byNumber ss ∙ d .0, distinct-numbers ss (d .1))
+each-ready : (format : ℕ) (ts : Tables) (ss : List Sentence) → Each (SentenceKept format ts) ss → Each (Ready format ts) (map byNumber ss)
+each-ready format ts [] k = tt
+each-ready format ts (s ∷ ss) k = ((sentence-sorted format ts s (k .0), rising-from-zero nodeNumber (s .phrases) (k .0 .part .distinct)), each-ready format ts ss (k .1))
 
 -- ---- the whole text
 
 -- a reading at its end, behind a preamble and with these sentences
 record Accepts (q : Preamble) (ss : List Sentence) (r : Reading) : Type 0 where
-  refusal : outcome r .number ≡ 0
+  refusal : verdict r .number ≡ 0
   format : formatAt (r .phase) ≡ q .format
   tables : tablesAt (r .phase) ≡ q .tables
   handed : bares (r .handed) ≡ ss
@@ -115,7 +109,7 @@ accepts-top q r b s = record { refusal = rw (s .sound, s .unbegun, s .phase, b);
 accepts-behind : (q : Preamble) (ss : List Sentence) (r : Reading) → Stands (behindSentence q) ss r → Accepts q ss r
 accepts-behind q ss r s = record { refusal = rw (s .sound, s .unbegun, s .phase); format = ap formatAt (s .phase); tables = ap tablesAt (s .phase); handed = s .handed }
 
-sentences-accepted : (q : Preamble) (ss : List Sentence) (x : Reading) → both (q .tables) ≡ true → Each (Ready (means q)) ss → Rising sentenceNumberOf 0 ss → Stands (top q) [] x
+sentences-accepted : (q : Preamble) (ss : List Sentence) (x : Reading) → both (q .tables) ≡ true → Each (Ready (q .format) (means q)) ss → Rising sentenceNumberOf 0 ss → Stands (top q) [] x
     → Accepts q ss (read x (joined (map sentenceText ss)))
 sentences-accepted q [] x b k rise st = accepts-top q x b st
 sentences-accepted q (s ∷ ss) x b k rise st = accepts-behind q (s ∷ ss) (read x (joined (map sentenceText (s ∷ ss)))) (all-sentences-read q s ss x k rise st)
@@ -134,10 +128,13 @@ tidy-read p ss k =
     let c = joined (map sentenceText (inOrder ss)) in
     let t = preamble-read p (read begin a) (k .preamble) (format-read (p .format) (k .preamble .format)) in
     let q = t .preamble in
-    let same : means q ≡ means p = same-meaning (q .tables) (p .tables) (t .same) in
+    let same : means q ≡ means p = same-printed (q .tables) (p .tables) (t .same) in
     let present-both : both (q .tables) ≡ true = sym (ap₂ _&&_ (present-meant origins (q .tables)) (present-meant editors (q .tables))) ∙ ap both same ∙ k .both in
-    let ready : Each (Ready (means q)) (inOrder ss) = subst (λ (ts : Tables). Each (Ready ts) (inOrder ss)) (sym same) (all-sorted sentenceNumberOf (Ready (means p)) (map byNumber ss) (each-ready (means p) ss (k .sentences .each))) in
-    let rise = rising-from-zero sentenceNumberOf (map byNumber ss) (distinct-numbers ss (k .sentences .distinct)) in
+    let printed : Each (Ready (p .format) (means p)) (inOrder ss) =
+    all-sorted sentenceNumberOf (Ready (p .format) (means p)) (map byNumber ss) (each-ready (p .format) (means p) ss (k .sentences .each)) in
+    let ready : Each (Ready (q .format) (means q)) (inOrder ss) =
+    subst (λ (n : ℕ). Each (Ready n (means q)) (inOrder ss)) (sym (t .kept)) (subst (λ (ts : Tables). Each (Ready (p .format) ts) (inOrder ss)) (sym same) printed) in
+    let rise = rising-from-zero sentenceNumberOf (map byNumber ss) (distinct-map sentenceNumberOf sentenceNumberOf byNumber (λ s. refl) ss (k .sentences .distinct)) in
     let all = sentences-accepted q (inOrder ss) (read (read begin a) b) present-both ready rise (t .stands) in
     record {
       preamble = q;
@@ -160,11 +157,12 @@ printed-accepted p ss k fits =
           ∙ ap₂ (λ (n : ℕ) (us : List Sentence). record { format = n; tables = means p; sentences = us }) (t .format) (order-twice ss),
     )
 
--- the tidy text written for an accepted file is accepted and has the same tables and sentences
-pub round-trip : (f : List ℕ) → surveyOf f .refusal ≡ 0 → length (tidyOf f) ≤ fileLimit
-    → (surveyOf (tidyOf f) .refusal ≡ 0) × (meaningOf (surveyOf (tidyOf f)) ≡ meaningOf (surveyOf f))
+-- the tidy text written for an accepted file is accepted and has the same format, tables and sentences, field by field
+pub round-trip : (f : List ℕ) → surveyOf f .refusal ≡ 0 → length (tidyOf f) ≤ fileLimit → (surveyOf (tidyOf f) .refusal ≡ 0) × SameMeaning (tidyOf f) f
 unfolding tidyOf
 round-trip f e fits =
     let k = accepted-kept f e in
+    let back : (surveyOf (tidyOf f) .refusal ≡ 0) × (meaningOf (surveyOf (tidyOf f)) ≡ meaningOf (surveyOf f)) =
     subst (λ (m : Meaning). (surveyOf (tidyText m) .refusal ≡ 0) × (meaningOf (surveyOf (tidyText m)) ≡ m)) (sym (k .meaning))
-    (printed-accepted (k .preamble) (k .sentences) (k .kept) (subst (λ (m : Meaning). length (tidyText m) ≤ fileLimit) (k .meaning) fits))
+    (printed-accepted (k .preamble) (k .sentences) (k .kept) (subst (λ (m : Meaning). length (tidyText m) ≤ fileLimit) (k .meaning) fits)) in
+    (back .0, same-meaning (tidyOf f) f .0 (back .1))

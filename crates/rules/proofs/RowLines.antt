@@ -1,5 +1,5 @@
 -- A row's line in its table, whichever that is: a row that was granted is fit to be printed, and a row that is fit is read
--- back from its printed line. By the kind of the table. Assumes nothing.
+-- back from its printed line. By the kind of the table.
 use Prim.Native.Nat.{ℕ, zero, suc, _≤_, _<_}
 use native.Mathlib.Omega.{arith}
 use mathlib.Core.Path.{_≡_, refl, sym, ap, _∙_}
@@ -18,7 +18,7 @@ use Rattle.rules.specs.Rules.{Rule, granted}
 use Rattle.rules.specs.Tables.{Row, wordTags, hasId, hasTag}
 use Rattle.rules.specs.Rows.{lastId, follows, rowOf}
 use Rattle.rules.specs.Keywords.{startsRow}
-use Rattle.rules.specs.Lines.{Answer, refuse, next}
+use Rattle.rules.specs.Phases.{Answer, refuse, next}
 use Rattle.rules.specs.Meaning.{bareRow}
 use Rattle.rules.specs.Tidy.{tab, idDigits, rowLine}
 use Rattle.rules.proofs.Conjunctions.{and-left, and-right}

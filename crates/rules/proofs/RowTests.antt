@@ -1,24 +1,24 @@
--- What a row's own tests say: reserved tags, flags, descriptions, and which table it is. Assumes nothing.
+-- What a row's own tests say: reserved tags, flags, descriptions, and which table it is.
 use Prim.Native.Nat.{ℕ, zero, suc, _≤_}
 use native.Mathlib.Omega.{arith}
 use mathlib.Core.Path.{_≡_, refl, sym, ap, _∙_}
 use mathlib.Core.Logic.{_⊎_, inl, inr}
-use mathlib.Core.Bool.{Bool, true, false, not, _||_}
-use mathlib.Core.List.{List, []}
+use mathlib.Core.Bool.{Bool, true, false, not, _&&_, _||_}
+use mathlib.Core.List.{List, [], _∷_}
 use lib.ListN.{length}
 use lib.Dec.{eqb}
-use borrow.Author.Tests.{ne-eqb, eqb-true}
-use Rattle.rules.specs.Lists.{pick, bytes}
+use borrow.Author.Tests.{ne-eqb, eq-eqb, eqb-true, eqb-false}
+use Rattle.rules.specs.Lists.{pick, bytes, same}
 use Rattle.rules.specs.Texts.{Text, reads, trim}
 use Rattle.rules.specs.Columns.{columns, column}
 use Rattle.rules.specs.Numbers.{rowLimit}
 use Rattle.rules.specs.Tables.{origins, editors, wordTags, Row, dashes, unknown, reserved}
-use Rattle.rules.specs.Rows.{tagRow, rowOf, ownTag, isFlag}
+use Rattle.rules.specs.Rows.{tagRow, rowOf, ownTag, yes, isFlag}
 use Rattle.rules.proofs.BareColumns.{textBehind}
-use Rattle.rules.specs.GrammarRows.{RowLine}
+use Rattle.rules.specs.GrammarRows.{RowLine, YesOrNo}
 use Rattle.rules.specs.GrammarTables.{Carries, TagTable, OriginTable, EditorTable, RowsFit}
 use Rattle.rules.proofs.PlaceFree.{text-there}
-use Rattle.rules.proofs.SaidOfLists.{or-both-ways, not-both-ways}
+use Rattle.rules.proofs.SaidOfLists.{and-both-ways, or-both-ways, not-both-ways}
 use Rattle.rules.proofs.TestsAsFacts.{reads-are}
 
 -- ---- reserved tags
@@ -60,23 +60,50 @@ carries-own t row q c = by (row .id1) refl
 
 -- ---- flags and descriptions
 
-pub flagged : (n : ℕ) (xs : List ℕ) (t : Text) → t .bytes ≡ xs → eqb n wordTags ≡ true → (not (eqb n wordTags) || isFlag t) ≡ true → (xs ≡ bytes "Y") ⊎ (xs ≡ bytes "N")
-flagged n xs t q e h = by (or-both-ways (reads (bytes "Y") t) (reads (bytes "N") t) .0 (sym (ap (λ (b : Bool). not b || isFlag t) e) ∙ h))
-  where
-    by : (reads (bytes "Y") t ≡ true) ⊎ (reads (bytes "N") t ≡ true) → (xs ≡ bytes "Y") ⊎ (xs ≡ bytes "N")
-    by (inl y) = inl (sym q ∙ reads-are (bytes "Y") t .0 y)
-    by (inr n) = inr (sym q ∙ reads-are (bytes "N") t .0 n)
+-- a flag's number as read
+abbrev pub flagRead : ℕ → Text → ℕ
+flagRead n t = pick (eqb n wordTags && reads yes t) 1 0
 
-pub flag-held : (n : ℕ) (t : Text) → (n ≡ wordTags → (t .bytes ≡ bytes "Y") ⊎ (t .bytes ≡ bytes "N")) → (not (eqb n wordTags) || isFlag t) ≡ true
-flag-held n t h = by (eqb n wordTags) refl
-  where
-    either : (t .bytes ≡ bytes "Y") ⊎ (t .bytes ≡ bytes "N") → isFlag t ≡ true
-    either (inl y) = or-both-ways (reads (bytes "Y") t) (reads (bytes "N") t) .1 (inl (reads-are (bytes "Y") t .1 y))
-    either (inr y) = or-both-ways (reads (bytes "Y") t) (reads (bytes "N") t) .1 (inr (reads-are (bytes "N") t .1 y))
+no-yes : (t : Text) → t .bytes ≡ bytes "N" → reads yes t ≡ false
+no-yes t e = ap (λ (xs : List ℕ). same xs yes) e
 
-    by : (b : Bool) → eqb n wordTags ≡ b → (not b || isFlag t) ≡ true
-    by true e = either (h (eqb-true n wordTags e))
-    by false e = refl
+pub flagged : (n : ℕ) (t : Text) → n ≡ wordTags → (not (eqb n wordTags) || isFlag t) ≡ true → YesOrNo (t .bytes ∷ []) (flagRead n t)
+flagged n t w h = by (or-both-ways (reads (bytes "Y") t) (reads (bytes "N") t) .0 (sym (ap (λ (b : Bool). not b || isFlag t) e) ∙ h))
+  where
+    e : eqb n wordTags ≡ true
+    e = eq-eqb n wordTags w
+
+    by : (reads (bytes "Y") t ≡ true) ⊎ (reads (bytes "N") t ≡ true) → YesOrNo (t .bytes ∷ []) (flagRead n t)
+    by (inl y) = inl (ap (λ (x : List ℕ). x ∷ []) (reads-are (bytes "Y") t .0 y), ap (λ (b : Bool). pick b 1 0) (and-both-ways (eqb n wordTags) (reads yes t) .1 (e, y)))
+    by (inr y) =
+        let q = reads-are (bytes "N") t .0 y in
+        inr (ap (λ (x : List ℕ). x ∷ []) q, ap (λ (b : Bool). pick b 1 0) (ap (λ (b : Bool). b && reads yes t) e ∙ no-yes t q))
+
+pub unflagged : (n : ℕ) (t : Text) → (n ≡ wordTags → ⊥) → flagRead n t ≡ 0
+unflagged n t w = ap (λ (b : Bool). pick (b && reads yes t) 1 0) (ne-eqb n wordTags w)
+
+module _ (n : ℕ) (t : Text) (flag : ℕ) (said : n ≡ wordTags → YesOrNo (t .bytes ∷ []) flag) where
+  pub flag-held : (not (eqb n wordTags) || isFlag t) ≡ true
+  flag-held = by (eqb n wordTags) refl
+    where
+      either : YesOrNo (t .bytes ∷ []) flag → isFlag t ≡ true
+      either (inl y) = or-both-ways (reads (bytes "Y") t) (reads (bytes "N") t) .1 (inl (reads-are (bytes "Y") t .1 (cc)))
+      either (inr y) = or-both-ways (reads (bytes "Y") t) (reads (bytes "N") t) .1 (inr (reads-are (bytes "N") t .1 (cc)))
+
+      by : (b : Bool) → eqb n wordTags ≡ b → (not b || isFlag t) ≡ true
+      by true e = either (said (eqb-true n wordTags e))
+      by false e = refl
+
+  pub flag-is : ((n ≡ wordTags → ⊥) → flag ≡ 0) → flagRead n t ≡ flag
+  flag-is none = by (eqb n wordTags) refl
+    where
+      either : YesOrNo (t .bytes ∷ []) flag → pick (reads yes t) 1 0 ≡ flag
+      either (inl y) = ap (λ (b : Bool). pick b 1 0) (reads-are yes t .1 (cc)) ∙ sym (y .1)
+      either (inr y) = ap (λ (b : Bool). pick b 1 0) (no-yes t (cc)) ∙ sym (y .1)
+
+      by : (b : Bool) → eqb n wordTags ≡ b → pick (b && reads yes t) 1 0 ≡ flag
+      by true e = either (said (eqb-true n wordTags e))
+      by false e = sym (none (eqb-false n wordTags e))
 
 module _ (line : Text) where
   pub described : (n : ℕ)

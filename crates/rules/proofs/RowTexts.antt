@@ -1,5 +1,5 @@
 -- The texts of a row: its id, columns of its own, and a text up to the line's end without white bytes at its ends. What
--- they are in a line that was granted, and that they are read back from a printed line. Assumes nothing.
+-- they are in a line that was granted, and that they are read back from a printed line.
 use Prim.Native.Nat.{ℕ, zero, suc, _≤_}
 use native.Mathlib.Omega.{arith}
 use native.Mathlib.Nat.{le-of-suc-le-suc}

@@ -1,9 +1,9 @@
 -- A row's line as the reading takes it apart, by the places of its columns, and as the grammar says it: the two say the same.
--- By the columns' laws. Assumes nothing.
+-- By the columns' laws.
 use Prim.Native.Nat.{ℕ, suc, _+_, _≤_, _<_}
 use native.Mathlib.Omega.{arith}
 use mathlib.Core.Path.{_≡_, refl, sym, ap, _∙_, subst}
-use mathlib.Core.Logic.{_⊎_, inl, inr}
+use mathlib.Core.Logic.{inl, inr}
 use mathlib.Core.Bool.{Bool, true, false}
 use mathlib.Core.Option.{some}
 use mathlib.Core.List.{List, [], _∷_, _++_}
@@ -17,8 +17,9 @@ use Rattle.rules.specs.Columns.{columnsFrom}
 use Rattle.rules.specs.Numbers.{originId, number, signedId}
 use Rattle.rules.specs.Tables.{wordTags, tagLimit}
 use Rattle.rules.specs.GrammarColumns.{Begins, Stripped, NameAndNote, GivenUpTo}
-use Rattle.rules.specs.GrammarRows.{RowLine, OriginRow, EditorRow, Flagged, TagRow}
+use Rattle.rules.specs.GrammarRows.{RowLine, OriginRow, EditorRow, YesOrNo, Flagged, TagRow}
 use Rattle.rules.proofs.BareColumns.{allColumns, columnAt, restBehind, textBehind}
+use Rattle.rules.proofs.NumeralsAsSaid.{number-said, id-said}
 use Rattle.rules.proofs.KeywordsAsSaid.{column-of-all}
 use Rattle.rules.proofs.ColumnsSaid.{begins-at, rest-said, begins-said, text-behind}
 use Rattle.rules.proofs.StrippedTexts.{stripped-said, said-stripped}
@@ -30,21 +31,27 @@ pub record OriginRead (r : RowLine) : Type 0 where
   pub one-more : r .id1 ≡ suc id
   pub name-is : r .first ≡ trim (inFront (restBehind 0 (r .line))) .bytes
   pub name : GivenUpTo 128 (r .first)
-  pub comment : length (trim (behind (restBehind 0 (r .line))) .bytes) ≤ 160
+  pub comment-is : r .second ≡ trim (behind (restBehind 0 (r .line))) .bytes
+  pub comment : length (r .second) ≤ 160
+  pub no-flag : r .flag ≡ 0
 
 pub record EditorRead (r : RowLine) : Type 0 where
   pub id-written : signedId (columnAt 0 (r .line)) ≡ some (r .id1)
   pub login-is : r .first ≡ columnAt 1 (r .line)
   pub login : length (r .first) ≤ 16
-  pub full-name : GivenUpTo 40 (textBehind 1 (r .line))
+  pub full-name-is : r .second ≡ textBehind 1 (r .line)
+  pub full-name : GivenUpTo 40 (r .second)
+  pub no-flag : r .flag ≡ 0
 
 pub record TagRead (which : ℕ) (r : RowLine) : Type 0 where
   pub id-written : signedId (columnAt 0 (r .line)) ≡ some (r .id1)
   pub tag-is : r .first ≡ columnAt 1 (r .line)
   pub tag : length (r .first) ≤ tagLimit which
   pub no-comment-sign : r .first ≡ percents → ⊥
-  pub flag : which ≡ wordTags → (columnAt 2 (r .line) ≡ bytes "Y") ⊎ (columnAt 2 (r .line) ≡ bytes "N")
-  pub description : GivenUpTo 80 (textBehind (pick (eqb which wordTags) 2 1) (r .line))
+  pub flag : which ≡ wordTags → YesOrNo (columnAt 2 (r .line) ∷ []) (r .flag)
+  pub no-flag : (which ≡ wordTags → ⊥) → r .flag ≡ 0
+  pub description-is : r .second ≡ textBehind (pick (eqb which wordTags) 2 1) (r .line)
+  pub description : GivenUpTo 80 (r .second)
 
 -- ---- lengths
 
@@ -81,17 +88,17 @@ take-three (x ∷ y ∷ []) h = absurd (omega arith)
 take-three (x ∷ y ∷ z ∷ xs) h = refl
 
 module _ (l : List ℕ) where
-  begins-one : 0 < length (allColumns l) → Begins l (columnAt 0 l ∷ []) (restBehind 0 l .bytes)
+  pub begins-one : 0 < length (allColumns l) → Begins l (columnAt 0 l ∷ []) (restBehind 0 l .bytes)
   begins-one h =
       subst (λ (cs : List (List ℕ)). Begins l cs (restBehind 0 l .bytes)) (take-one (allColumns l) h ∙ ap (λ (x : List ℕ). x ∷ []) (at-place l 0)) (begins-said 0 l h)
 
-  begins-two : 1 < length (allColumns l) → Begins l (columnAt 0 l ∷ columnAt 1 l ∷ []) (restBehind 1 l .bytes)
+  pub begins-two : 1 < length (allColumns l) → Begins l (columnAt 0 l ∷ columnAt 1 l ∷ []) (restBehind 1 l .bytes)
   begins-two h =
       subst (λ (cs : List (List ℕ)). Begins l cs (restBehind 1 l .bytes))
       (take-two (allColumns l) h ∙ ap (λ (x : List ℕ). x ∷ getD (allColumns l) 1 [] ∷ []) (at-place l 0) ∙ ap (λ (x : List ℕ). columnAt 0 l ∷ x ∷ []) (at-place l 1))
       (begins-said 1 l h)
 
-  begins-three : 2 < length (allColumns l) → Begins l (columnAt 0 l ∷ columnAt 1 l ∷ columnAt 2 l ∷ []) (restBehind 2 l .bytes)
+  pub begins-three : 2 < length (allColumns l) → Begins l (columnAt 0 l ∷ columnAt 1 l ∷ columnAt 2 l ∷ []) (restBehind 2 l .bytes)
   begins-three h =
       subst (λ (cs : List (List ℕ)). Begins l cs (restBehind 2 l .bytes))
       (take-three (allColumns l) h
@@ -118,16 +125,16 @@ origin-said r o =
       rest = rest .bytes;
       columns = begins-one l (text-behind 0 l given);
       id = o .id;
-      id-written = o .id-written;
+      id-written = number-said originId (columnAt 0 l) (o .id) .0 (o .id-written);
       one-more = o .one-more;
       nameText = frontBytes (rest .bytes);
       noteText = behind rest .bytes;
       name-ends = note-said rest;
       name-is = name;
       name = o .name;
-      note = trim (behind rest) .bytes;
-      note-is = stripped-said (behind rest);
+      comment-is = subst (Stripped (behind rest .bytes)) (sym (o .comment-is)) (stripped-said (behind rest));
       comment = o .comment;
+      no-flag = o .no-flag;
     }
 
 pub said-origin : (r : RowLine) → OriginRow r → OriginRead r
@@ -137,11 +144,13 @@ said-origin r o =
     let cut = said-note (restBehind 0 l) (o .nameText) (o .noteText) (subst (λ (w : List ℕ). NameAndNote w (o .nameText) (o .noteText)) (sym rest) (o .name-ends)) in
     record {
       id = o .id;
-      id-written = ap (number originId) (begins-at (o .columns) 0 0 (omega arith)) ∙ o .id-written;
+      id-written = ap (number originId) (begins-at (o .columns) 0 0 (omega arith)) ∙ number-said originId (o .idText) (o .id) .1 (o .id-written);
       one-more = o .one-more;
       name-is = sym (strip-of (inFront (restBehind 0 l)) (o .nameText) (r .first) (cut .0) (o .name-is));
       name = o .name;
-      comment = subst (λ (n : List ℕ). length n ≤ 160) (sym (strip-of (behind (restBehind 0 l)) (o .noteText) (o .note) (cut .1) (o .note-is))) (o .comment);
+      comment-is = sym (strip-of (behind (restBehind 0 l)) (o .noteText) (r .second) (cut .1) (o .comment-is));
+      comment = o .comment;
+      no-flag = o .no-flag;
     }
 
 -- ---- EDITOR
@@ -152,12 +161,12 @@ editor-said r o =
     record {
       idText = columnAt 0 l;
       rest = restBehind 1 l .bytes;
-      columns = subst (λ (x : List ℕ). Begins l (columnAt 0 l ∷ x ∷ []) (restBehind 1 l .bytes)) (sym (o .login-is)) (begins-two l (behind-given 1 l (o .full-name .0)));
-      id-written = o .id-written;
+      columns = subst (λ (x : List ℕ). Begins l (columnAt 0 l ∷ x ∷ []) (restBehind 1 l .bytes)) (sym (o .login-is)) (begins-two l (behind-given 1 l (subst (λ (xs : List ℕ). 1 ≤ length xs) (o .full-name-is) (o .full-name .0))));
+      id-written = id-said (columnAt 0 l) (r .id1) .0 (o .id-written);
       login = o .login;
-      fullName = textBehind 1 l;
-      full-name-is = stripped-said (restBehind 1 l);
+      full-name-is = subst (Stripped (restBehind 1 l .bytes)) (sym (o .full-name-is)) (stripped-said (restBehind 1 l));
       full-name = o .full-name;
+      no-flag = o .no-flag;
     }
 
 pub said-editor : (r : RowLine) → EditorRow r → EditorRead r
@@ -165,73 +174,86 @@ said-editor r o =
     let l = r .line in
     let rest : restBehind 1 l .bytes ≡ o .rest = rest-said l (o .rest) (o .idText) (r .first ∷ []) (o .columns) in
     record {
-      id-written = ap signedId (begins-at (o .columns) 0 0 (omega arith)) ∙ o .id-written;
+      id-written = ap signedId (begins-at (o .columns) 0 0 (omega arith)) ∙ id-said (o .idText) (r .id1) .1 (o .id-written);
       login-is = sym (begins-at (o .columns) 0 1 (omega arith));
       login = o .login;
-      full-name = subst (GivenUpTo 40) (sym (strip-of (restBehind 1 l) (o .rest) (o .fullName) rest (o .full-name-is))) (o .full-name);
+      full-name-is = sym (strip-of (restBehind 1 l) (o .rest) (r .second) rest (o .full-name-is));
+      full-name = o .full-name;
+      no-flag = o .no-flag;
     }
 
 -- ---- tags
 
 pub tag-said : (which : ℕ) (r : RowLine) → TagRead which r → TagRow which r
-tag-said which r o = by (eqb which wordTags) refl (o .description)
+tag-said which r o = by (eqb which wordTags) refl (o .description-is)
   where
-    made : (flags : List (List ℕ)) (n : ℕ) → Begins (r .line) (columnAt 0 (r .line) ∷ columnAt 1 (r .line) ∷ flags) (restBehind n (r .line) .bytes) → Flagged which flags
-        → GivenUpTo 80 (textBehind n (r .line)) → TagRow which r
+    made : (flags : List (List ℕ)) (n : ℕ) → Begins (r .line) (columnAt 0 (r .line) ∷ columnAt 1 (r .line) ∷ flags) (restBehind n (r .line) .bytes) → Flagged which flags (r .flag)
+        → r .second ≡ textBehind n (r .line) → TagRow which r
     made flags n b f d =
         record {
           idText = columnAt 0 (r .line);
           flags = flags;
           rest = restBehind n (r .line) .bytes;
           columns = subst (λ (x : List ℕ). Begins (r .line) (columnAt 0 (r .line) ∷ x ∷ flags) (restBehind n (r .line) .bytes)) (sym (o .tag-is)) b;
-          id-written = o .id-written;
+          id-written = id-said (columnAt 0 (r .line)) (r .id1) .0 (o .id-written);
           tag = o .tag;
           no-comment-sign = o .no-comment-sign;
           flag = f;
-          text = textBehind n (r .line);
-          description-is = stripped-said (restBehind n (r .line));
-          description = d;
+          description-is = subst (Stripped (restBehind n (r .line) .bytes)) (sym d) (stripped-said (restBehind n (r .line)));
+          description = o .description;
         }
 
-    one-flag : which ≡ wordTags → (columnAt 2 (r .line) ≡ bytes "Y") ⊎ (columnAt 2 (r .line) ≡ bytes "N") → Flagged which (columnAt 2 (r .line) ∷ [])
-    one-flag e (inl y) = inl (e, inl (ap (λ (x : List ℕ). x ∷ []) y))
-    one-flag e (inr n) = inl (e, inr (ap (λ (x : List ℕ). x ∷ []) n))
+    given : (n : ℕ) → r .second ≡ textBehind n (r .line) → n < length (allColumns (r .line))
+    given n d = behind-given n (r .line) (subst (λ (xs : List ℕ). 1 ≤ length xs) d (o .description .0))
 
-    by : (t : Bool) → eqb which wordTags ≡ t → GivenUpTo 80 (textBehind (pick t 2 1) (r .line)) → TagRow which r
+    by : (t : Bool) → eqb which wordTags ≡ t → r .second ≡ textBehind (pick t 2 1) (r .line) → TagRow which r
     by true e d =
         let w = eqb-true which wordTags e in
-        made (columnAt 2 (r .line) ∷ []) 2 (begins-three (r .line) (behind-given 2 (r .line) (d .0))) (one-flag w (o .flag w)) d
-    by false e d = made [] 1 (begins-two (r .line) (behind-given 1 (r .line) (d .0))) (inr (eqb-false which wordTags e, refl)) d
+        made (columnAt 2 (r .line) ∷ []) 2 (begins-three (r .line) (given 2 d)) (inl (w, o .flag w)) d
+    by false e d =
+        let n = eqb-false which wordTags e in
+        made [] 1 (begins-two (r .line) (given 1 d)) (inr (n, refl, o .no-flag n)) d
 
 pub said-tag : (which : ℕ) (r : RowLine) → TagRow which r → TagRead which r
 said-tag which r o =
     record {
-      id-written = ap signedId (begins-at (o .columns) 0 0 (omega arith)) ∙ o .id-written;
+      id-written = ap signedId (begins-at (o .columns) 0 0 (omega arith)) ∙ id-said (o .idText) (r .id1) .1 (o .id-written);
       tag-is = sym (begins-at (o .columns) 0 1 (omega arith));
       tag = o .tag;
       no-comment-sign = o .no-comment-sign;
       flag = λ w. flag-there w (o .flag);
-      description = subst (GivenUpTo 80) (sym (described (o .flag))) (o .description);
+      no-flag = λ n. flag-none n (o .flag);
+      description-is = sym (described (o .flag));
+      description = o .description;
     }
   where
     columns-with : (flags : List (List ℕ)) → o .flags ≡ flags → Begins (r .line) (o .idText ∷ r .first ∷ flags) (o .rest)
     columns-with flags e = subst (λ (fs : List (List ℕ)). Begins (r .line) (o .idText ∷ r .first ∷ fs) (o .rest)) e (o .columns)
 
-    flag-there : which ≡ wordTags → Flagged which (o .flags) → (columnAt 2 (r .line) ≡ bytes "Y") ⊎ (columnAt 2 (r .line) ≡ bytes "N")
-    flag-there w (inl (e, inl y)) = inl (begins-at (columns-with (bytes "Y" ∷ []) y) 0 2 (omega arith))
-    flag-there w (inl (e, inr n)) = inr (begins-at (columns-with (bytes "N" ∷ []) n) 0 2 (omega arith))
+    -- the flag that stands in the third column
+    third : (f : List ℕ) → o .flags ≡ f ∷ [] → columnAt 2 (r .line) ∷ [] ≡ f ∷ []
+    third f e = ap (λ (x : List ℕ). x ∷ []) (begins-at (columns-with (f ∷ []) e) 0 2 (omega arith))
+
+    flag-there : which ≡ wordTags → Flagged which (o .flags) (r .flag) → YesOrNo (columnAt 2 (r .line) ∷ []) (r .flag)
+    flag-there w (inl (e, inl y)) = inl (third (bytes "Y") (y .0), y .1)
+    flag-there w (inl (e, inr n)) = inr (third (bytes "N") (n .0), n .1)
     flag-there w (inr f) = absurd (f .0 w)
 
-    stripped-at : (n : ℕ) → restBehind n (r .line) .bytes ≡ o .rest → textBehind n (r .line) ≡ o .text
-    stripped-at n e = strip-of (restBehind n (r .line)) (o .rest) (o .text) e (o .description-is)
+    flag-none : (which ≡ wordTags → ⊥) → Flagged which (o .flags) (r .flag) → r .flag ≡ 0
+    flag-none n (inl f) = absurd (n (f .0))
+    flag-none n (inr f) = f .2
 
-    described : Flagged which (o .flags) → textBehind (pick (eqb which wordTags) 2 1) (r .line) ≡ o .text
-    described (inl (e, inl y)) =
+    stripped-at : (n : ℕ) → restBehind n (r .line) .bytes ≡ o .rest → textBehind n (r .line) ≡ r .second
+    stripped-at n e = strip-of (restBehind n (r .line)) (o .rest) (r .second) e (o .description-is)
+
+    with-flag : which ≡ wordTags → (f : List ℕ) → o .flags ≡ f ∷ [] → textBehind (pick (eqb which wordTags) 2 1) (r .line) ≡ r .second
+    with-flag e f y =
         ap (λ (t : Bool). textBehind (pick t 2 1) (r .line)) (eq-eqb which wordTags e)
-        ∙ stripped-at 2 (rest-said (r .line) (o .rest) (o .idText) (r .first ∷ bytes "Y" ∷ []) (columns-with (bytes "Y" ∷ []) y))
-    described (inl (e, inr n)) =
-        ap (λ (t : Bool). textBehind (pick t 2 1) (r .line)) (eq-eqb which wordTags e)
-        ∙ stripped-at 2 (rest-said (r .line) (o .rest) (o .idText) (r .first ∷ bytes "N" ∷ []) (columns-with (bytes "N" ∷ []) n))
+        ∙ stripped-at 2 (rest-said (r .line) (o .rest) (o .idText) (r .first ∷ f ∷ []) (columns-with (f ∷ []) y))
+
+    described : Flagged which (o .flags) (r .flag) → textBehind (pick (eqb which wordTags) 2 1) (r .line) ≡ r .second
+    described (inl (e, inl y)) = with-flag e (bytes "Y") (y .0)
+    described (inl (e, inr n)) = with-flag e (bytes "N") (n .0)
     described (inr f) =
         ap (λ (t : Bool). textBehind (pick t 2 1) (r .line)) (ne-eqb which wordTags (f .0))
         ∙ stripped-at 1 (rest-said (r .line) (o .rest) (o .idText) (r .first ∷ []) (columns-with [] (f .1)))

@@ -1,10 +1,10 @@
--- What the grammar says of a row grants its line. Rule by rule, for each kind of row. Assumes nothing.
+-- What the grammar says of a row grants its line. Rule by rule, for each kind of row.
 use Prim.Native.Nat.{ℕ, zero, suc, _≤_}
 use native.Mathlib.Omega.{arith}
 use mathlib.Core.Path.{_≡_, refl, sym, ap, _∙_}
 use mathlib.Core.Bool.{not, _&&_}
 use mathlib.Core.Option.{some}
-use mathlib.Core.List.{List, _∷_, _++_}
+use mathlib.Core.List.{List, [], _∷_, _++_}
 use lib.ListN.{length}
 use lib.Dec.{eqb}
 use Rattle.rules.specs.Lists.{pick}
@@ -14,29 +14,30 @@ use Rattle.rules.specs.Columns.{columns, column}
 use Rattle.rules.specs.Numbers.{rowLimit, originId, number, signedId, value}
 use Rattle.rules.specs.Tables.{wordTags, Row, hasId, hasTag, tagLimit}
 use Rattle.rules.specs.Rows.{originRow, editorRow, tagRow, rowOf, lastId, follows, ownTag}
-use Rattle.rules.specs.Lines.{Phase, Answer, next}
+use Rattle.rules.specs.Sentences.{Sentence}
+use Rattle.rules.specs.Phases.{Phase, Answer, next}
 use Rattle.rules.proofs.EachElement.{each-back}
 use Rattle.rules.proofs.BareColumns.{columnAt, restBehind, textBehind}
-use Rattle.rules.specs.GrammarRows.{RowLine, OriginRow, EditorRow, TagRow}
+use Rattle.rules.specs.GrammarRows.{RowLine, YesOrNo, OriginRow, EditorRow, TagRow}
 use Rattle.rules.specs.GrammarTables.{Carries, TagTable, OriginTable, EditorTable, RowsFit}
 use Rattle.rules.proofs.PlaceFree.{column-there, text-there, name-there, note-there}
 use Rattle.rules.proofs.SaidOfLists.{differ-map-next, and-both-ways}
 use Rattle.rules.proofs.TestsAsFacts.{reads-are, given-are, leb-is, some-good, some-value, not-is}
 use Rattle.rules.proofs.LineByLine.{Through, held-through}
 use Rattle.rules.proofs.RowsAsRead.{OriginRead, said-origin, EditorRead, said-editor, TagRead, said-tag}
-use Rattle.rules.proofs.RowsAlike.{Alike, AlikeRow, has-id-alike, has-tag-alike, next-room, in-order-next}
-use Rattle.rules.proofs.RowTests.{carries-own, flag-held, described, tags-row}
+use Rattle.rules.proofs.RowsAlike.{Alike, AlikeRow, same-row, has-id-alike, has-tag-alike, next-room, in-order-next}
+use Rattle.rules.proofs.RowTests.{carries-own, flag-held, flag-is, described, tags-row}
 
-module _ (rs : List Row) (rows : List RowLine) (a : Alike rs rows) (K : Phase → List ℕ → Type 0) (used : List ℕ) (f : Row → Answer) (line : Text) where
+module _ (rs : List Row) (rows : List RowLine) (a : Alike rs rows) (K : Phase → List Sentence → Type 0) (out : List Sentence) (f : Row → Answer) (line : Text) where
   module _ (row : RowLine) (more : List RowLine) (its-line : row .line ≡ line .bytes) (few : length (rows ++ (row ∷ more)) ≤ rowLimit)
-      (goes-on : (r : Row) → AlikeRow r row → Through K used (f r)) where
+      (goes-on : (r : Row) → AlikeRow r row → Through K out (f r)) where
     at-column : (n : ℕ) → column (columns line) n .text .bytes ≡ columnAt n (row .line)
     at-column n = column-there line n ∙ ap (columnAt n) (sym its-line)
 
     behind-column : (n : ℕ) → trim (column (columns line) n .after) .bytes ≡ textBehind n (row .line)
     behind-column n = text-there line n ∙ ap (textBehind n) (sym its-line)
 
-    pub origin-grants : OriginTable (rows ++ (row ∷ more)) → Through K used (next f (originRow rs line))
+    pub origin-grants : OriginTable (rows ++ (row ∷ more)) → Through K out (next f (originRow rs line))
     unfolding originRow
     origin-grants t =
         let one : OriginRead row = said-origin row (each-back OriginRow rows (row ∷ more) (t .each-row) .0) in
@@ -46,8 +47,8 @@ module _ (rs : List Row) (rows : List RowLine) (a : Alike rs rows) (K : Phase �
         let name = trim (inFront (column (columns line) 0 .after)) in
         let same-name : name .bytes ≡ row .first = name-there line ∙ ap (λ (l : List ℕ). trim (inFront (restBehind 0 l)) .bytes) (sym its-line) ∙ sym (one .name-is) in
         let note = trim (behind (column (columns line) 0 .after)) in
-        let same-note : note .bytes ≡ trim (behind (restBehind 0 (row .line))) .bytes = note-there line ∙ ap (λ (l : List ℕ). trim (behind (restBehind 0 l)) .bytes) (sym its-line) in
-        held-through K used f _ _ (
+        let same-note : note .bytes ≡ row .second = note-there line ∙ ap (λ (l : List ℕ). trim (behind (restBehind 0 l)) .bytes) (sym its-line) ∙ sym (one .comment-is) in
+        held-through K out f _ _ (
           given-are name .1 (rw same-name (one .name .0)),
           (
             some-good id (one .id) is,
@@ -64,9 +65,9 @@ module _ (rs : List Row) (rows : List RowLine) (a : Alike rs rows) (K : Phase �
             ),
           ),
         )
-        (goes-on _ (record { id = same-id; text = same-name }))
+        (goes-on _ (same-row same-id same-name same-note (sym (one .no-flag))))
 
-    pub editor-grants : EditorTable (rows ++ (row ∷ more)) → Through K used (next f (editorRow rs line))
+    pub editor-grants : EditorTable (rows ++ (row ∷ more)) → Through K out (next f (editorRow rs line))
     unfolding editorRow
     editor-grants t =
         let one : EditorRead row = said-editor row (each-back EditorRow rows (row ∷ more) (t .each-row) .0) in
@@ -76,14 +77,15 @@ module _ (rs : List Row) (rows : List RowLine) (a : Alike rs rows) (K : Phase �
         let login = column (columns line) 1 .text in
         let same-login : login .bytes ≡ row .first = at-column 1 ∙ sym (one .login-is) in
         let name = trim (column (columns line) 1 .after) in
-        held-through K used f _ _ (
-          given-are name .1 (rw (behind-column 1) (one .full-name .0)),
+        let same-full : name .bytes ≡ row .second = behind-column 1 ∙ sym (one .full-name-is) in
+        held-through K out f _ _ (
+          given-are name .1 (rw same-full (one .full-name .0)),
           (
             some-good id (row .id1) is,
             (
               leb-is (length (login .bytes)) 16 .1 (rw same-login (one .login)),
               (
-                leb-is (length (name .bytes)) 40 .1 (rw (behind-column 1) (one .full-name .1)),
+                leb-is (length (name .bytes)) 40 .1 (rw same-full (one .full-name .1)),
                 (
                   not-is (hasId (value id) rs) (has-id-alike rs rows a (value id)) .1
                       (rw same-id (differ-map-next (λ (r : RowLine). r .id1) rows row more (t .ids-differ))),
@@ -93,9 +95,9 @@ module _ (rs : List Row) (rows : List RowLine) (a : Alike rs rows) (K : Phase �
             ),
           ),
         )
-        (goes-on _ (record { id = same-id; text = same-login }))
+        (goes-on _ (same-row same-id same-login same-full (sym (one .no-flag))))
 
-    pub tag-grants : (n : ℕ) → TagTable n (rows ++ (row ∷ more)) → Through K used (next f (tagRow n rs line))
+    pub tag-grants : (n : ℕ) → TagTable n (rows ++ (row ∷ more)) → Through K out (next f (tagRow n rs line))
     unfolding tagRow
     tag-grants n t =
         let one : TagRead n row = said-tag n row (each-back (TagRow n) rows (row ∷ more) (t .each-row) .0) in
@@ -107,8 +109,9 @@ module _ (rs : List Row) (rows : List RowLine) (a : Alike rs rows) (K : Phase �
         let same-tag : tag .bytes ≡ row .first = at-column 1 ∙ sym (one .tag-is) in
         let flag = column (columns line) 2 .text in
         let behindAll = trim (pick (eqb n wordTags) (column (columns line) 2) (column (columns line) 1) .after) in
-        let same-text : behindAll .bytes ≡ textBehind (pick (eqb n wordTags) 2 1) (row .line) = described line n ∙ ap (textBehind (pick (eqb n wordTags) 2 1)) (sym its-line) in
-        held-through K used f _ _ (
+        let same-text : behindAll .bytes ≡ row .second = described line n ∙ ap (textBehind (pick (eqb n wordTags) 2 1)) (sym its-line) ∙ sym (one .description-is) in
+        let its-flag : n ≡ wordTags → YesOrNo (flag .bytes ∷ []) (row .flag) = rw (at-column 2) (one .flag) in
+        held-through K out f _ _ (
           given-are behindAll .1 (rw same-text (one .description .0)),
           (
             some-good id (row .id1) is,
@@ -118,7 +121,7 @@ module _ (rs : List Row) (rows : List RowLine) (a : Alike rs rows) (K : Phase �
                 not-is (reads percents tag) (reads-are percents tag) .1 (rw same-tag (one .no-comment-sign)),
               ),
               (
-                flag-held n flag (rw (at-column 2) (one .flag)),
+                flag-held n flag (row .flag) its-flag,
                 (
                   leb-is (length (behindAll .bytes)) 80 .1 (rw same-text (one .description .1)),
                   (
@@ -135,9 +138,9 @@ module _ (rs : List Row) (rows : List RowLine) (a : Alike rs rows) (K : Phase �
             ),
           ),
         )
-        (goes-on _ (record { id = same-id; text = same-tag }))
+        (goes-on _ (same-row same-id same-tag same-text (flag-is n flag (row .flag) its-flag (one .no-flag))))
 
-    pub row-grants : (n : ℕ) → RowsFit n (rows ++ (row ∷ more)) → Through K used (next f (rowOf n rs line))
+    pub row-grants : (n : ℕ) → RowsFit n (rows ++ (row ∷ more)) → Through K out (next f (rowOf n rs line))
     row-grants zero t = origin-grants (t .of-origins refl)
     row-grants (suc zero) t = editor-grants (t .of-editors refl)
     row-grants (suc (suc n)) t = rw (tags-row n rs line) (tag-grants (suc (suc n)) (t .of-tags (omega arith)))

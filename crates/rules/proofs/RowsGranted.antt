@@ -1,5 +1,4 @@
 -- A row's line that is granted is as the grammar says, and so are the rows with it. Rule by rule, for each kind of row.
--- Assumes nothing.
 use Prim.Native.Nat.{ℕ, zero, suc, _≤_}
 use native.Mathlib.Omega.{arith}
 use mathlib.Core.Path.{_≡_, refl, sym, ap, _∙_, subst}
@@ -7,7 +6,6 @@ use mathlib.Core.Bool.{not, _&&_}
 use mathlib.Core.List.{List, [], _∷_, _++_}
 use lib.ListN.{length}
 use lib.Dec.{eqb}
-use borrow.Author.Tests.{eq-eqb}
 use Rattle.rules.specs.Lists.{pick}
 use Rattle.rules.specs.Bytes.{percents}
 use Rattle.rules.specs.Texts.{Text, reads, atMost, trim, inFront, behind}
@@ -15,11 +13,10 @@ use Rattle.rules.specs.Columns.{columns, column}
 use Rattle.rules.specs.Numbers.{rowLimit, originId, number, signedId, value}
 use Rattle.rules.specs.Tables.{wordTags, Row, hasId, hasTag, tagLimit}
 use Rattle.rules.specs.Rows.{originRow, editorRow, tagRow, rowOf, lastId, follows, ownTag}
-use Rattle.rules.specs.Lines.{Phase, Answer, next}
-use Rattle.rules.specs.GrammarColumns.{GivenUpTo}
+use Rattle.rules.specs.Sentences.{Sentence}
+use Rattle.rules.specs.Phases.{Phase, Answer, next}
 use Rattle.rules.proofs.EachElement.{each-more}
-use Rattle.rules.proofs.BareColumns.{columnAt}
-use Rattle.rules.specs.GrammarRows.{RowLine, OriginRow, EditorRow, TagRow}
+use Rattle.rules.specs.GrammarRows.{RowLine, YesOrNo, OriginRow, EditorRow, TagRow}
 use Rattle.rules.specs.GrammarTables.{Carries, TagTable, OriginTable, EditorTable, RowsFit}
 use Rattle.rules.proofs.PlaceFree.{column-there, text-there, name-there, note-there}
 use Rattle.rules.proofs.SaidOfLists.{differ-map-more, and-both-ways}
@@ -27,10 +24,10 @@ use Rattle.rules.proofs.TestsAsFacts.{reads-are, given-are, leb-is, goo
 use Rattle.rules.proofs.LineByLine.{Through, through-held}
 use Rattle.rules.proofs.RowsAsRead.{OriginRead, origin-said, EditorRead, editor-said, TagRead, tag-said}
 use Rattle.rules.proofs.RowsAlike.{Alike, AlikeRow, has-id-alike, has-tag-alike, room-next, next-in-order}
-use Rattle.rules.proofs.RowTests.{own-carries, flagged, described, tags-row, rows-of-origins, rows-of-editors, rows-of-tags}
+use Rattle.rules.proofs.RowTests.{own-carries, flagRead, flagged, unflagged, described, tags-row, rows-of-origins, rows-of-editors, rows-of-tags}
 
 module _ (rs : List Row) (rows : List RowLine) (a : Alike rs rows) where
-  module _ (K : Phase → List ℕ → Type 0) (used : List ℕ) (f : Row → Answer) (line : Text) where
+  module _ (K : Phase → List Sentence → Type 0) (out : List Sentence) (f : Row → Answer) (line : Text) where
     -- a granted line is a row more, of which the grammar says the same
     pub record Granted (T : List RowLine → Type 0) : Type 0 where
       pub row : RowLine
@@ -39,14 +36,15 @@ module _ (rs : List Row) (rows : List RowLine) (a : Alike rs rows) where
       pub fit : T (rows ++ (row ∷ []))
       pub read-as : Row
       pub alike : AlikeRow read-as row
-      pub goes-on : Through K used (f read-as)
+      pub goes-on : Through K out (f read-as)
 
-    origin-granted : OriginTable rows → Through K used (next f (originRow rs line)) → Granted OriginTable
+    origin-granted : OriginTable rows → Through K out (next f (originRow rs line)) → Granted OriginTable
     unfolding originRow
     origin-granted t g =
-        let h = through-held K used f _ _ g in
+        let h = through-held K out f _ _ g in
         let id = number originId (column (columns line) 0 .text .bytes) in
-        let row : RowLine = record { line = line .bytes; id1 = suc (value id); first = trim (inFront (column (columns line) 0 .after)) .bytes } in
+        let note = trim (behind (column (columns line) 0 .after)) in
+        let row : RowLine = record { line = line .bytes; id1 = suc (value id); first = trim (inFront (column (columns line) 0 .after)) .bytes; second = note .bytes; flag = 0 } in
         let one : OriginRead row =
         record {
           id = value id;
@@ -54,7 +52,9 @@ module _ (rs : List Row) (rows : List RowLine) (a : Alike rs rows) where
           one-more = refl;
           name-is = name-there line;
           name = (given-are (trim (inFront (column (columns line) 0 .after))) .0 (h .0 .0), leb-is _ _ .0 (h .0 .1 .1 .0));
-          comment = rw (note-there line) at (leb-is (length (trim (behind (column (columns line) 0 .after)) .bytes)) 160 .0 (h .0 .1 .1 .1 .0));
+          comment-is = note-there line;
+          comment = leb-is (length (note .bytes)) 160 .0 (h .0 .1 .1 .1 .0);
+          no-flag = refl;
         } in
         record {
           row = row;
@@ -68,24 +68,26 @@ module _ (rs : List Row) (rows : List RowLine) (a : Alike rs rows) where
                     (not-is (hasId (suc (value id)) rs) (has-id-alike rs rows a (suc (value id))) .0 (h .0 .1 .1 .1 .1 .0));
               };
           read-as = _;
-          alike = record { id = refl; text = refl };
+          alike = refl;
           goes-on = h .1;
         }
 
-    editor-granted : EditorTable rows → Through K used (next f (editorRow rs line)) → Granted EditorTable
+    editor-granted : EditorTable rows → Through K out (next f (editorRow rs line)) → Granted EditorTable
     unfolding editorRow
     editor-granted t g =
-        let h = through-held K used f _ _ g in
+        let h = through-held K out f _ _ g in
         let id = signedId (column (columns line) 0 .text .bytes) in
         let login = column (columns line) 1 in
         let name = trim (login .after) in
-        let row : RowLine = record { line = line .bytes; id1 = value id; first = login .text .bytes } in
+        let row : RowLine = record { line = line .bytes; id1 = value id; first = login .text .bytes; second = name .bytes; flag = 0 } in
         let one : EditorRead row =
         record {
           id-written = ap signedId (sym (column-there line 0)) ∙ good-some id (h .0 .1 .0);
           login-is = column-there line 1;
           login = leb-is (length (login .text .bytes)) 16 .0 (h .0 .1 .1 .0);
-          full-name = subst (GivenUpTo 40) (text-there line 1) (given-are name .0 (h .0 .0), leb-is (length (name .bytes)) 40 .0 (h .0 .1 .1 .1 .0));
+          full-name-is = text-there line 1;
+          full-name = (given-are name .0 (h .0 .0), leb-is (length (name .bytes)) 40 .0 (h .0 .1 .1 .1 .0));
+          no-flag = refl;
         } in
         record {
           row = row;
@@ -99,19 +101,19 @@ module _ (rs : List Row) (rows : List RowLine) (a : Alike rs rows) where
                     (not-is (hasId (value id) rs) (has-id-alike rs rows a (value id)) .0 (h .0 .1 .1 .1 .1 .0));
               };
           read-as = _;
-          alike = record { id = refl; text = refl };
+          alike = refl;
           goes-on = h .1;
         }
 
-    tag-granted : (n : ℕ) → TagTable n rows → Through K used (next f (tagRow n rs line)) → Granted (TagTable n)
+    tag-granted : (n : ℕ) → TagTable n rows → Through K out (next f (tagRow n rs line)) → Granted (TagTable n)
     unfolding tagRow
     tag-granted n t g =
-        let h = through-held K used f _ _ g in
+        let h = through-held K out f _ _ g in
         let id = signedId (column (columns line) 0 .text .bytes) in
         let tag = column (columns line) 1 .text in
         let flag = column (columns line) 2 .text in
         let behindAll = trim (pick (eqb n wordTags) (column (columns line) 2) (column (columns line) 1) .after) in
-        let row : RowLine = record { line = line .bytes; id1 = value id; first = tag .bytes } in
+        let row : RowLine = record { line = line .bytes; id1 = value id; first = tag .bytes; second = behindAll .bytes; flag = flagRead n flag } in
         let short = and-both-ways (atMost (tagLimit n) tag) (not (reads percents tag)) .0 (h .0 .1 .1 .0) in
         let eleven = and-both-ways (follows (lastId rs) (value id) && ownTag (value id) tag) (not (hasTag tag rs)) .0 (h .0 .1 .1 .1 .1 .1 .0) in
         let ordered = and-both-ways (follows (lastId rs) (value id)) (ownTag (value id) tag) .0 (eleven .0) in
@@ -121,10 +123,10 @@ module _ (rs : List Row) (rows : List RowLine) (a : Alike rs rows) where
           tag-is = column-there line 1;
           tag = leb-is (length (tag .bytes)) (tagLimit n) .0 (short .0);
           no-comment-sign = not-is (reads percents tag) (reads-are percents tag) .0 (short .1);
-          flag = λ e. flagged n (columnAt 2 (line .bytes)) flag (column-there line 2) (eq-eqb n wordTags e) (h .0 .1 .1 .1 .0);
-          description =
-              subst (GivenUpTo 80) (described line n)
-              (given-are behindAll .0 (h .0 .0), leb-is (length (behindAll .bytes)) 80 .0 (h .0 .1 .1 .1 .1 .0));
+          flag = λ e. subst (λ (x : List ℕ). YesOrNo (x ∷ []) (flagRead n flag)) (column-there line 2) (flagged n flag e (h .0 .1 .1 .1 .0));
+          no-flag = λ e. unflagged n flag e;
+          description-is = described line n;
+          description = (given-are behindAll .0 (h .0 .0), leb-is (length (behindAll .bytes)) 80 .0 (h .0 .1 .1 .1 .1 .0));
         } in
         record {
           row = row;
@@ -140,7 +142,7 @@ module _ (rs : List Row) (rows : List RowLine) (a : Alike rs rows) where
                     (not-is (hasTag tag rs) (has-tag-alike rs rows a tag) .0 (eleven .1));
               };
           read-as = _;
-          alike = record { id = refl; text = refl };
+          alike = refl;
           goes-on = h .1;
         }
 
@@ -156,7 +158,7 @@ module _ (rs : List Row) (rows : List RowLine) (a : Alike rs rows) where
           goes-on = t .goes-on;
         }
 
-    pub row-granted : (n : ℕ) → RowsFit n rows → Through K used (next f (rowOf n rs line)) → Granted (RowsFit n)
+    pub row-granted : (n : ℕ) → RowsFit n rows → Through K out (next f (rowOf n rs line)) → Granted (RowsFit n)
     row-granted zero t g = with-table rows-of-origins (origin-granted (t .of-origins refl) g)
     row-granted (suc zero) t g = with-table rows-of-editors (editor-granted (t .of-editors refl) g)
     row-granted (suc (suc n)) t g =

@@ -1,5 +1,5 @@
 -- The rows of a table: each is fit to be printed, and may stand behind the rows in front of it. They stay so when origin
--- and editor rows are sorted, since their ids differ. By one step along the rows. Assumes nothing.
+-- and editor rows are sorted, since their ids differ. By one step along the rows.
 use Prim.Native.Nat.{ℕ, zero, suc, _+_, _≤_, _<_}
 use native.Mathlib.Omega.{arith}
 use mathlib.Core.Path.{_≡_, sym, subst}

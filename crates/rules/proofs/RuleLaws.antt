@@ -1,5 +1,5 @@
 -- Laws of the rules of a line: a line is granted if every rule holds, and refused by the smallest number among those
--- that don't, however the rules are put together. Assumes nothing.
+-- that don't, however the rules are put together.
 use Prim.Native.Nat.{ℕ, zero, suc, _≤_, _<_}
 use native.Mathlib.Omega.{arith}
 use mathlib.Core.Path.{_≡_, refl, ap, _∙_}
@@ -55,14 +55,6 @@ granted-holds rs a b e = by (broken rs) refl e
 pub holds-granted : {A : Type 0} (rs : List Rule) (a : A) → every holdsOf rs ≡ true → checked rs a ≡ granted a
 unfolding checked
 holds-granted rs a e = rw (all-hold rs e)
-
-pub granted-none : {A : Type 0} (rs : List Rule) (a : A) → broken rs ≡ none → checked rs a ≡ granted a
-unfolding checked
-granted-none rs a e = rw e
-
-pub refused-some : {A : Type 0} (rs : List Rule) (a : A) (r : Rule) → broken rs ≡ some r → checked rs a ≡ refused r
-unfolding checked
-refused-some rs a r e = rw e
 
 -- ---- rules put together
 

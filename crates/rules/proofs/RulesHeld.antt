@@ -1,4 +1,4 @@
--- Rules that hold together hold one by one. Assumes nothing.
+-- Rules that hold together hold one by one.
 use mathlib.Core.Path.{_≡_, refl}
 use mathlib.Core.Bool.{true}
 use mathlib.Core.List.{List, [], _∷_}

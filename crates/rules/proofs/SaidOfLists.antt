@@ -1,5 +1,5 @@
 -- Laws of what the grammar says of lists: being one of a list, no two being equal; along lists joined and mapped, and as
--- tests. By one step along the list. Assumes nothing.
+-- tests. By one step along the list.
 use Prim.Native.Nat.{suc}
 use mathlib.Core.Path.{_≡_, refl, sym, ap, _∙_}
 use mathlib.Core.Logic.{_⊎_, inl, inr, _↔_}

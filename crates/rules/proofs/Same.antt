@@ -1,5 +1,5 @@
 -- Laws of the comparison of two texts: it holds exactly where they are equal, and it goes byte by byte. By one step along
--- both. Assumes nothing.
+-- both.
 use Prim.Native.Nat.{ℕ, _+_, _≤_, _<_}
 use native.Mathlib.Numerals.{add-one}
 use mathlib.Core.Path.{_≡_, refl, sym, ap, _∙_}

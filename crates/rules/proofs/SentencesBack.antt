@@ -1,5 +1,5 @@
 -- The printed sentences are read back: each one's heading, words, phrases and end, and the sentences by number. By one
--- step along the words, the phrases and the sentences. Assumes nothing.
+-- step along the words, the phrases and the sentences.
 use Prim.Native.Nat.{ℕ, suc, _+_, _≤_, _<_}
 use native.Mathlib.Omega.{arith}
 use mathlib.Core.Path.{_≡_, refl, sym, ap, ap₂, _∙_, subst}
@@ -11,21 +11,22 @@ use Rattle.rules.specs.Bytes.{ignored}
 use Rattle.rules.specs.Texts.{Text}
 use Rattle.rules.specs.Numbers.{wordLimit, edgeLimit}
 use Rattle.rules.specs.Rules.{granted}
-use Rattle.rules.specs.Sentences.{Node, Heading, Sentence, edgeCount, edgesOf, listed, gapless, parented, headingOf, endOf}
-use Rattle.rules.specs.Lines.{Preamble, Phase, top, inSentence, behindSentence, go, hand, next, beginning, behindOne, atTop, amongNodes, lineAt}
+use Rattle.rules.specs.Sentences.{Node, Heading, Sentence, edgeCount, edgesOf, listed, gapless, parented, headingOf, endOf, soFar}
+use Rattle.rules.specs.Phases.{Preamble, Phase, top, inSentence, behindSentence, go, hand, next, begun, withWord, withPhrase}
 use Rattle.rules.specs.Reading.{Reading, numbers, read}
 use Rattle.rules.specs.Meaning.{bareNode, bareHeading, nodeNumber, sentenceNumberOf}
 use Rattle.rules.specs.Tidy.{space, digitsOf, keywordLine, nodeLine, headingLine, sentenceText}
+use Rattle.rules.proofs.Takings.{goBegun, answerBehind, answerTop, answerNodes, answerAt}
 use Rattle.rules.proofs.EachElement.{each-more, each-then}
 use Rattle.rules.proofs.ReadLines.{read-append}
 use Rattle.rules.proofs.Elements.{map-append}
 use Rattle.rules.proofs.Sorting.{has, Rising, below-lacks}
 use Rattle.rules.proofs.PrintedLines.{parted-printed, parted-plain}
-use Rattle.rules.proofs.KeywordLines.{keyed, keyed-number-fit, end-granted}
+use Rattle.rules.proofs.KeywordLines.{keyed, keyed-number-fit, end-passes}
 use Rattle.rules.proofs.Headings.{headingColumns, printedHeading, HeadingKept, heading-back}
 use Rattle.rules.proofs.LineFit.{LineFit}
 use Rattle.rules.proofs.NodesKept.{printedNode, WordKept, PhraseKept}
-use Rattle.rules.proofs.NodesBack.{node-printed, moreWord, morePhrase, NodeBack, word-back, phrase-back}
+use Rattle.rules.proofs.NodesBack.{node-printed, NodeBack, word-back, phrase-back}
 use Rattle.rules.proofs.SentencesKept.{bareSentence, Counted, SentenceKept, edges-append, edges-bare, listed-bare, gapless-bare, parents-bare}
 use Rattle.rules.proofs.Kept.{means}
 use Rattle.rules.proofs.KeptReading.{used-same}
@@ -38,7 +39,7 @@ pub record PartRead (p : Preamble) (s : Sentence) (ss : List Sentence) (x : Read
   pub stands : Stands (inSentence p sentence) ss x
 
 abbrev made : Heading → List Node → List Node → Sentence
-made h ws ps = record { heading = h; words = ws; phrases = ps }
+made h ws ps = record { start = 0; heading = h; words = ws; phrases = ps }
 
 empty-map : {A B : Type 0} (f : A → B) (xs : List A) → empty (map f xs) ≡ empty xs
 empty-map f [] = refl
@@ -55,7 +56,7 @@ module _ (p : Preamble) (ss : List Sentence) (h : Heading) where
       subst (λ (l : List ℕ). Stands (inSentence p (more (b .read))) ss (read x l)) (sym (node-printed n))
       (line-go (inSentence p s) ss x (printedNode n) st f (inSentence p (more (b .read))) (b .answer))
 
-  word-read : (n : Node) (done : List Node) (x : Reading) → WordKept (means p) n → n .number ≡ length done → length done < wordLimit → edgeCount done + length (n .secondary) ≤ edgeLimit
+  word-read : (n : Node) (done : List Node) (x : Reading) → WordKept (p .format) (means p) n → n .number ≡ length done → length done < wordLimit → edgeCount done + length (n .secondary) ≤ edgeLimit
       → PartRead p (made h done []) ss x → PartRead p (made h (done ++ (n ∷ [])) []) ss (read x (nodeLine n))
   word-read n done x k e few room r =
       let s = r .sentence in
@@ -67,14 +68,14 @@ module _ (p : Preamble) (ss : List Sentence) (h : Heading) where
       word-back p s (numbers (x .handed)) (x .lineStart) n (omega (arith, edges-same s (made h done []) (r .same), room)) k none-yet (e ∙ sym count)
       (omega (arith, count, few)) in
       record {
-        sentence = moreWord s (b .read);
+        sentence = withWord s (b .read);
         same =
             ap (λ (ws : List Node). made (bareHeading (s .heading)) ws (map bareNode (s .phrases))) (map-append bareNode (s .words) (b .read ∷ []))
-            ∙ ap₂ (λ (t : Sentence) (m : Node). moreWord t m) (r .same) (b .same);
-        stands = node-read s (moreWord s) n x b (k .node .fit) (r .stands);
+            ∙ ap₂ (λ (t : Sentence) (m : Node). withWord t m) (r .same) (b .same);
+        stands = node-read s (withWord s) n x b (k .node .fit) (r .stands);
       }
 
-  words-read : (todo done : List Node) (x : Reading) → Each (WordKept (means p)) todo → Counted (length done) todo → length done + length todo ≤ wordLimit
+  words-read : (todo done : List Node) (x : Reading) → Each (WordKept (p .format) (means p)) todo → Counted (length done) todo → length done + length todo ≤ wordLimit
       → edgeCount done + edgeCount todo ≤ edgeLimit → PartRead p (made h done []) ss x → PartRead p (made h (done ++ todo) []) ss (read x (joined (map nodeLine todo)))
   words-read [] done x k c few room r = subst (λ (ws : List Node). PartRead p (made h ws []) ss x) (sym (append-nil done)) r
   words-read (n ∷ todo) done x k c few room r =
@@ -86,7 +87,7 @@ module _ (p : Preamble) (ss : List Sentence) (h : Heading) where
       (subst (λ (ws : List Node). PartRead p (made h ws []) ss (read (read x (nodeLine n)) (joined (map nodeLine todo)))) (append-assoc done (n ∷ []) todo) all)
 
   module _ (ws : List Node) where
-    phrase-read : (n : Node) (done : List Node) (x : Reading) → PhraseKept (means p) n → listed done (n .number) ≡ false → edgeCount ws + edgeCount done + length (n .secondary) ≤ edgeLimit
+    phrase-read : (n : Node) (done : List Node) (x : Reading) → PhraseKept (p .format) (means p) n → listed done (n .number) ≡ false → edgeCount ws + edgeCount done + length (n .secondary) ≤ edgeLimit
         → PartRead p (made h ws done) ss x → PartRead p (made h ws (done ++ (n ∷ []))) ss (read x (nodeLine n))
     phrase-read n done x k new room r =
         let s = r .sentence in
@@ -94,14 +95,14 @@ module _ (p : Preamble) (ss : List Sentence) (h : Heading) where
         let absent : listed (s .phrases) (n .number) ≡ false = sym (listed-bare (s .phrases) (n .number)) ∙ ap (λ (ps : List Node). listed ps (n .number)) phrases ∙ new in
         let b = phrase-back p s (numbers (x .handed)) (x .lineStart) n (omega (arith, edges-same s (made h ws done) (r .same), room)) k absent in
         record {
-          sentence = morePhrase s (b .read);
+          sentence = withPhrase s (b .read);
           same =
               ap (λ (ps : List Node). made (bareHeading (s .heading)) (map bareNode (s .words)) ps) (map-append bareNode (s .phrases) (b .read ∷ []))
-              ∙ ap₂ (λ (t : Sentence) (m : Node). morePhrase t m) (r .same) (b .same);
-          stands = node-read s (morePhrase s) n x b (k .node .fit) (r .stands);
+              ∙ ap₂ (λ (t : Sentence) (m : Node). withPhrase t m) (r .same) (b .same);
+          stands = node-read s (withPhrase s) n x b (k .node .fit) (r .stands);
         }
 
-    phrases-read : (todo : List Node) (i : ℕ) (done : List Node) (x : Reading) → Each (PhraseKept (means p)) todo → Each (λ (n : Node). n .number < i) done → Rising nodeNumber i todo
+    phrases-read : (todo : List Node) (i : ℕ) (done : List Node) (x : Reading) → Each (PhraseKept (p .format) (means p)) todo → Each (λ (n : Node). n .number < i) done → Rising nodeNumber i todo
         → edgeCount ws + edgeCount done + edgeCount todo ≤ edgeLimit → PartRead p (made h ws done) ss x → PartRead p (made h ws (done ++ todo)) ss (read x (joined (map nodeLine todo)))
     phrases-read [] i done x k below rise room r = subst (λ (ps : List Node). PartRead p (made h ws ps) ss x) (sym (append-nil done)) r
     phrases-read (n ∷ todo) i done x k below rise room r =
@@ -122,10 +123,10 @@ front false p = behindSentence p
 
 module _ (p : Preamble) (ss : List Sentence) where
   begins : (t : Bool) (used : List ℕ) (line : Text) (at : ℕ) (h : Heading) → headingOf (p .tables) (λ n. member n used) line ≡ granted h
-      → lineAt (front t p) used line (record { start = at; bytes = bytes "#BOS" }) ≡ go (inSentence p (made h [] []))
-  unfolding lineAt atTop behindOne
-  begins true used line at h e = ap (next (beginning line line p)) e
-  begins false used line at h e = ap (next (beginning line line p)) e
+      → answerAt (front t p) used line (record { start = at; bytes = bytes "#BOS" }) ≡ go (inSentence p (begun (line .start) h))
+  unfolding answerAt answerTop answerBehind
+  begins true used line at h e = ap (next (goBegun p (line .start))) e
+  begins false used line at h e = ap (next (goBegun p (line .start))) e
 
   heading-read : (t : Bool) (s : Sentence) (x : Reading) → HeadingKept (means p) (s .heading) → has sentenceNumberOf (s .heading .number) ss ≡ false → Stands (front t p) ss x
       → PartRead p (made (s .heading) [] []) ss (read x (headingLine s))
@@ -134,12 +135,12 @@ module _ (p : Preamble) (ss : List Sentence) where
       let used = numbers (x .handed) in
       let unused : member (h .number) used ≡ false = used-same (x .handed) (h .number) ∙ ap (has sentenceNumberOf (h .number)) (st .handed) ∙ new in
       let b = heading-back (p .tables) h k (λ n. member n used) (x .lineStart) unused in
-      let q = inSentence p (made (b .read) [] []) in
+      let q = inSentence p (begun (x .lineStart) (b .read)) in
       let e =
       step-printed space refl (front t p) used (x .lineStart) (bytes "#BOS") (headingColumns h) (h .comment .bytes) refl (k .fit)
       ∙ begins t used (lineOf x (printedHeading h)) (x .lineStart) (b .read) (b .answer) in
       record {
-        sentence = made (b .read) [] [];
+        sentence = begun (x .lineStart) (b .read);
         same = ap (λ (g : Heading). made g [] []) (b .same);
         stands =
             subst (λ (l : List ℕ). Stands q ss (read x l)) (sym (parted-printed space (bytes "#BOS") (headingColumns h) (h .comment)))
@@ -152,11 +153,11 @@ module _ (p : Preamble) (ss : List Sentence) where
   unfolding ignored
   eos-seen = refl
 
-  hands : (s : Sentence) (used : List ℕ) (line : Text) (at : ℕ) → endOf s line ≡ granted s → lineAt (inSentence p s) used line (record { start = at; bytes = bytes "#EOS" }) ≡ hand p s
-  unfolding lineAt amongNodes
-  hands s used line at e = ap (next (hand p)) e
+  hands : (s : Sentence) (used : List ℕ) (line : Text) (at : ℕ) → endOf (soFar s) line ≡ granted (s .heading .number) → answerAt (inSentence p s) used line (record { start = at; bytes = bytes "#EOS" }) ≡ hand p s
+  unfolding answerAt answerNodes
+  hands s used line at e = ap (next (λ n. hand p s)) e
 
-  end-read : (s : Sentence) (x : Reading) → SentenceKept (means p) s → PartRead p s ss x
+  end-read : (s : Sentence) (x : Reading) → SentenceKept (p .format) (means p) s → PartRead p s ss x
       → Stands (behindSentence p) (ss ++ (s ∷ [])) (read x (keywordLine (bytes "#EOS" ∷ digitsOf (s .heading .number) ∷ [])))
   end-read s x k r =
       let t = r .sentence in
@@ -169,9 +170,9 @@ module _ (p : Preamble) (ss : List Sentence) where
       ∙ ap (λ (u : Sentence). every (parented (u .phrases)) (u .words ++ u .phrases)) (r .same) ∙ k .parents in
       let line = keyed (bytes "#EOS") (digitsOf n) in
       let fit = keyed-number-fit (bytes "#EOS") n refl eos-seen refl (omega arith) (omega (arith, range .1)) in
-      let grant : endOf t (lineOf x line) ≡ granted t =
-      ap (λ (i : ℕ). endOf t (lineOf x (keyed (bytes "#EOS") (digitsOf i)))) (sym number)
-      ∙ end-granted t (x .lineStart) (omega (arith, number, range .0)) (omega (arith, number, range .1)) whole parents in
+      let grant : endOf (soFar t) (lineOf x line) ≡ granted (t .heading .number) =
+      ap (λ (i : ℕ). endOf (soFar t) (lineOf x (keyed (bytes "#EOS") (digitsOf i)))) (sym number)
+      ∙ end-passes t (x .lineStart) (omega (arith, number, range .0)) (omega (arith, number, range .1)) whole parents in
       let e =
       step-printed space refl (inSentence p t) (numbers (x .handed)) (x .lineStart) (bytes "#EOS") (digitsOf n ∷ []) [] refl fit
       ∙ hands t (numbers (x .handed)) (lineOf x line) (x .lineStart) grant in
@@ -181,7 +182,7 @@ module _ (p : Preamble) (ss : List Sentence) where
 
   -- ---- a whole sentence, its phrases by number
 
-  sentence-read : (t : Bool) (s : Sentence) (x : Reading) → SentenceKept (means p) s → Rising nodeNumber 0 (s .phrases) → has sentenceNumberOf (s .heading .number) ss ≡ false
+  sentence-read : (t : Bool) (s : Sentence) (x : Reading) → SentenceKept (p .format) (means p) s → Rising nodeNumber 0 (s .phrases) → has sentenceNumberOf (s .heading .number) ss ≡ false
       → Stands (front t p) ss x → Stands (behindSentence p) (ss ++ (s ∷ [])) (read x (sentenceText s))
   sentence-read t s x k rise new st =
       let h = s .heading in
@@ -193,7 +194,8 @@ module _ (p : Preamble) (ss : List Sentence) where
       let r1 = heading-read t s x (part .heading) new st in
       let r2 = words-read p ss h (s .words) [] (read x a) (part .words) (part .counted) (omega (arith, part .few)) (omega (arith, part .edges)) r1 in
       let r3 = phrases-read p ss h (s .words) (s .phrases) 0 [] (read (read x a) b) (part .phrases) tt rise (omega (arith, part .edges)) r2 in
-      let r4 = end-read s (read (read (read x a) b) c) k r3 in
+      let here : made h (s .words) (s .phrases) ≡ s = ap (λ (i : ℕ). record { start = i; heading = h; words = s .words; phrases = s .phrases }) (sym (part .placeless)) in
+      let r4 = end-read s (read (read (read x a) b) c) k (subst (λ (u : Sentence). PartRead p u ss (read (read (read x a) b) c)) here r3) in
       let whole : read x (sentenceText s) ≡ read (read (read (read x a) b) c) d =
       read-append x ((a ++ b) ++ c) d ∙ ap (λ (y : Reading). read y d) (read-append x (a ++ b) c ∙ ap (λ (y : Reading). read y c) (read-append x a b)) in
       subst (Stands (behindSentence p) (ss ++ (s ∷ []))) (sym whole) r4
@@ -201,7 +203,7 @@ module _ (p : Preamble) (ss : List Sentence) where
 -- ---- the sentences by number
 
 module _ (p : Preamble) where
-  pub sentences-read : (todo : List Sentence) (i : ℕ) (done : List Sentence) (x : Reading) → Each (λ (s : Sentence). SentenceKept (means p) s × Rising nodeNumber 0 (s .phrases)) todo
+  pub sentences-read : (todo : List Sentence) (i : ℕ) (done : List Sentence) (x : Reading) → Each (λ (s : Sentence). SentenceKept (p .format) (means p) s × Rising nodeNumber 0 (s .phrases)) todo
       → Each (λ (s : Sentence). sentenceNumberOf s < i) done → Rising sentenceNumberOf i todo → Stands (behindSentence p) done x
       → Stands (behindSentence p) (done ++ todo) (read x (joined (map sentenceText todo)))
   sentences-read [] i done x k below rise st = subst (λ (ss : List Sentence). Stands (behindSentence p) ss x) (sym (append-nil done)) st
@@ -216,7 +218,7 @@ module _ (p : Preamble) where
       (subst (λ (ss : List Sentence). Stands (behindSentence p) ss (read (read x (sentenceText s)) (joined (map sentenceText todo)))) (append-assoc done (s ∷ []) todo) all)
 
   -- the first stands behind the tables
-  pub all-sentences-read : (s : Sentence) (todo : List Sentence) (x : Reading) → Each (λ (s : Sentence). SentenceKept (means p) s × Rising nodeNumber 0 (s .phrases)) (s ∷ todo)
+  pub all-sentences-read : (s : Sentence) (todo : List Sentence) (x : Reading) → Each (λ (s : Sentence). SentenceKept (p .format) (means p) s × Rising nodeNumber 0 (s .phrases)) (s ∷ todo)
       → Rising sentenceNumberOf 0 (s ∷ todo) → Stands (top p) [] x → Stands (behindSentence p) (s ∷ todo) (read x (joined (map sentenceText (s ∷ todo))))
   all-sentences-read s todo x k rise st =
       let one = sentence-read p [] true s x (k .0 .0) (k .0 .1) refl st in

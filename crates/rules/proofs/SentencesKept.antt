@@ -1,5 +1,5 @@
 -- A sentence that is fit to be printed: its heading, its words in their order, phrases whose numbers differ, few enough
--- edges, and at its end no gap and no absent parent. It stays so with its phrases sorted. Assumes nothing.
+-- edges, and at its end no gap and no absent parent. It stays so with its phrases sorted.
 use Prim.Native.Nat.{ℕ, suc, _+_, _≤_, _<_}
 use native.Mathlib.Nat.{add-zero}
 use native.Mathlib.Omega.{arith}
@@ -12,6 +12,7 @@ use Rattle.rules.specs.Lists.{every, counting, sorted, Each}
 use Rattle.rules.specs.Numbers.{wordLimit, edgeLimit}
 use Rattle.rules.specs.Tables.{Tables}
 use Rattle.rules.specs.Sentences.{Edge, Node, Heading, Sentence, edgeCount, edgesOf, listed, gapless, parented}
+use Rattle.rules.specs.Phases.{begun, withWord, withPhrase}
 use Rattle.rules.specs.Meaning.{bareEdge, bareNode, bareHeading, nodeNumber, meantSentence}
 use Rattle.rules.proofs.EachElement.{each-more}
 use Rattle.rules.proofs.Conjunctions.{every-append, every-front, every-back, every-map}
@@ -22,10 +23,10 @@ use Rattle.rules.proofs.Headings.{HeadingKept}
 
 -- places don't count; the order of phrases is the file's
 abbrev pub bareSentence : Sentence → Sentence
-bareSentence s = record { heading = bareHeading (s .heading); words = map bareNode (s .words); phrases = map bareNode (s .phrases) }
+bareSentence s = record { start = 0; heading = bareHeading (s .heading); words = map bareNode (s .words); phrases = map bareNode (s .phrases) }
 
 abbrev pub byNumber : Sentence → Sentence
-byNumber s = record { heading = s .heading; words = s .words; phrases = sorted nodeNumber (s .phrases) }
+byNumber s = record { start = s .start; heading = s .heading; words = s .words; phrases = sorted nodeNumber (s .phrases) }
 
 -- words count from k
 abbrev pub Counted : ℕ → List Node → Type 0
@@ -33,18 +34,19 @@ Counted k [] = Unit {0}
 Counted k (n ∷ ns) = (n .number ≡ k) × Counted (suc k) ns
 
 -- a sentence that is being read
-pub record PartKept (ts : Tables) (s : Sentence) : Type 0 where
+pub record PartKept (format : ℕ) (ts : Tables) (s : Sentence) : Type 0 where
+  pub placeless : s .start ≡ 0
   pub heading : HeadingKept ts (s .heading)
-  pub words : Each (WordKept ts) (s .words)
+  pub words : Each (WordKept format ts) (s .words)
   pub counted : Counted 0 (s .words)
   pub few : length (s .words) ≤ wordLimit
-  pub phrases : Each (PhraseKept ts) (s .phrases)
+  pub phrases : Each (PhraseKept format ts) (s .phrases)
   pub distinct : Distinct nodeNumber (s .phrases)
   pub edges : edgesOf s ≤ edgeLimit
 
 -- a sentence handed out
-pub record SentenceKept (ts : Tables) (s : Sentence) : Type 0 where
-  pub part : PartKept ts s
+pub record SentenceKept (format : ℕ) (ts : Tables) (s : Sentence) : Type 0 where
+  pub part : PartKept format ts s
   pub whole : gapless (s .phrases) ≡ true
   pub parents : every (parented (s .phrases)) (s .words ++ s .phrases) ≡ true
 
@@ -62,13 +64,14 @@ pub edges-bare : (ns : List Node) → edgeCount (map bareNode ns) ≡ edgeCount 
 edges-bare [] = refl
 edges-bare (n ∷ ns) = ap₂ _+_ (length-map (n .secondary) bareEdge) (edges-bare ns)
 
-module _ (ts : Tables) (s : Sentence) (k : PartKept ts s) (n : Node) (room : edgesOf s + length (n .secondary) ≤ edgeLimit) where
-  pub part-word : WordKept ts n → n .number ≡ length (s .words) → length (s .words) < wordLimit
-      → PartKept ts (record { heading = s .heading; words = s .words ++ (n ∷ []); phrases = s .phrases })
+module _ (format : ℕ) (ts : Tables) (s : Sentence) (k : PartKept format ts s) (n : Node) (room : edgesOf s + length (n .secondary) ≤ edgeLimit) where
+  pub part-word : WordKept format ts n → n .number ≡ length (s .words) → length (s .words) < wordLimit
+      → PartKept format ts (withWord s n)
   part-word w e h =
       record {
+        placeless = k .placeless;
         heading = k .heading;
-        words = each-more (WordKept ts) (s .words) n (k .words) w;
+        words = each-more (WordKept format ts) (s .words) n (k .words) w;
         counted = counted-last 0 (s .words) n (k .counted) (omega (arith, e));
         few = omega (arith, length-append (s .words) (n ∷ []));
         phrases = k .phrases;
@@ -76,21 +79,22 @@ module _ (ts : Tables) (s : Sentence) (k : PartKept ts s) (n : Node) (room : edg
         edges = omega (arith, edges-append (s .words) (n ∷ []));
       }
 
-  pub part-phrase : PhraseKept ts n → listed (s .phrases) (n .number) ≡ false
-      → PartKept ts (record { heading = s .heading; words = s .words; phrases = s .phrases ++ (n ∷ []) })
+  pub part-phrase : PhraseKept format ts n → listed (s .phrases) (n .number) ≡ false
+      → PartKept format ts (withPhrase s n)
   part-phrase p e =
       record {
+        placeless = k .placeless;
         heading = k .heading;
         words = k .words;
         counted = k .counted;
         few = k .few;
-        phrases = each-more (PhraseKept ts) (s .phrases) n (k .phrases) p;
+        phrases = each-more (PhraseKept format ts) (s .phrases) n (k .phrases) p;
         distinct = distinct-last nodeNumber (s .phrases) n (k .distinct) e;
         edges = omega (arith, edges-append (s .phrases) (n ∷ []));
       }
 
-pub part-begun : (ts : Tables) (h : Heading) → HeadingKept ts h → PartKept ts (record { heading = h; words = []; phrases = [] })
-part-begun ts h k = record { heading = k; words = tt; counted = tt; few = omega arith; phrases = tt; distinct = tt; edges = omega arith }
+pub part-begun : (format : ℕ) (ts : Tables) (h : Heading) → HeadingKept ts h → PartKept format ts (begun 0 h)
+part-begun format ts h k = record { placeless = refl; heading = k; words = tt; counted = tt; few = omega arith; phrases = tt; distinct = tt; edges = omega arith }
 
 -- ---- which phrases are listed is all that its end asks
 
@@ -130,8 +134,8 @@ edges-total : (ns : List Node) → edgeCount ns ≡ total nodeNumber (λ (n : No
 edges-total [] = refl
 edges-total (n ∷ ns) = ap (λ (k : ℕ). length (n .secondary) + k) (edges-total ns)
 
-pub sentence-sorted : (ts : Tables) (s : Sentence) → SentenceKept ts s → SentenceKept ts (byNumber s)
-sentence-sorted ts s k =
+pub sentence-sorted : (format : ℕ) (ts : Tables) (s : Sentence) → SentenceKept format ts s → SentenceKept format ts (byNumber s)
+sentence-sorted format ts s k =
     let ps = s .phrases in
     let qs = sorted nodeNumber ps in
     let same : (n : ℕ) → listed qs n ≡ listed ps n = λ n. any-sorted nodeNumber (λ (p : Node). eqb n (p .number)) ps in
@@ -139,11 +143,12 @@ sentence-sorted ts s k =
     record {
       part =
           record {
+            placeless = k .part .placeless;
             heading = k .part .heading;
             words = k .part .words;
             counted = k .part .counted;
             few = k .part .few;
-            phrases = all-sorted nodeNumber (PhraseKept ts) ps (k .part .phrases);
+            phrases = all-sorted nodeNumber (PhraseKept format ts) ps (k .part .phrases);
             distinct = sorted-distinct nodeNumber ps (k .part .distinct);
             edges = omega (arith, k .part .edges, count);
           };
@@ -157,5 +162,5 @@ sentence-sorted ts s k =
 -- what a sentence means is its bare sentence by number
 pub meant-by-number : (s : Sentence) → meantSentence s ≡ byNumber (bareSentence s)
 meant-by-number s =
-    ap (λ (ps : List Node). record { heading = bareHeading (s .heading); words = map bareNode (s .words); phrases = ps })
+    ap (λ (ps : List Node). record { start = 0; heading = bareHeading (s .heading); words = map bareNode (s .words); phrases = ps })
     (map-sorted nodeNumber nodeNumber bareNode (λ n. refl) (s .phrases))

@@ -1,4 +1,4 @@
--- A reading between two lines, and where one more line that fits takes it. From the law of one line. Assumes nothing.
+-- A reading between two lines, and where one more line that fits takes it. From the law of one line.
 use Prim.Native.Nat.{ℕ, _+_}
 use mathlib.Core.Path.{_≡_, refl, sym, ap, _∙_, subst}
 use mathlib.Core.Bool.{true, false, false≢true}
@@ -10,8 +10,9 @@ use Rattle.rules.specs.Lists.{every, bytes}
 use Rattle.rules.specs.Bytes.{newline, white, legal}
 use Rattle.rules.specs.Texts.{Text}
 use Rattle.rules.specs.Sentences.{Sentence}
-use Rattle.rules.specs.Lines.{Preamble, Phase, behindSentence, Answer, go, hand, lineAt, step}
+use Rattle.rules.specs.Phases.{Preamble, Phase, behindSentence, Answer, go, hand, step}
 use Rattle.rules.specs.Reading.{Handed, Reading, numbers, ended, read}
+use Rattle.rules.proofs.Takings.{answerAt}
 use Rattle.rules.proofs.Conjunctions.{and-left, and-right}
 use Rattle.rules.proofs.ReadLines.{hasNewline, read-line}
 use Rattle.rules.proofs.Elements.{map-append}
@@ -70,7 +71,7 @@ module _ (phase : Phase) (ss : List Sentence) (r : Reading) (l : List ℕ) (s : 
 
 -- a printed line is taken by the column that it is printed with
 pub step-printed : (w : ℕ) → white w ≡ true → (phase : Phase) (used : List ℕ) (at : ℕ) (c : List ℕ) (cs : List (List ℕ)) (n : List ℕ) → solid c ≡ true → LineFit (printed w c cs n)
-    → step phase used (record { start = at; bytes = printed w c cs n }) ≡ lineAt phase used (record { start = at; bytes = printed w c cs n }) (record { start = at; bytes = c })
+    → step phase used (record { start = at; bytes = printed w c cs n }) ≡ answerAt phase used (record { start = at; bytes = printed w c cs n }) (record { start = at; bytes = c })
 step-printed w h phase used at c cs n s f =
     let line : Text = record { start = at; bytes = printed w c cs n } in
-    step-fit phase used line f ∙ ap (lineAt phase used line) (printed-first w h at c cs n s)
+    step-fit phase used line f ∙ ap (answerAt phase used line) (printed-first w h at c cs n s)

@@ -1,8 +1,8 @@
 -- What one line does: a line that fits is taken at the place where the reading stands, by its first column; a line refused
--- is refused by a number of the table of refusals. Assumes nothing.
+-- is refused by a number of the table of refusals.
 use Prim.Native.Nat.{ℕ, zero, suc, _≤_}
 use native.Mathlib.Omega.{arith}
-use mathlib.Core.Path.{_≡_, refl, sym, ap, _∙_}
+use mathlib.Core.Path.{_≡_, refl, sym, ap, _∙_, subst}
 use mathlib.Core.Bool.{Bool, true, false, not, _&&_, false≢true}
 use mathlib.Core.Option.{Option, none, some}
 use mathlib.Core.List.{List, [], _∷_, _++_}
@@ -14,14 +14,15 @@ use Rattle.rules.specs.Bytes.{white, legal, percents, ignored}
 use Rattle.rules.specs.Texts.{Text, noText, given}
 use Rattle.rules.specs.Numbers.{lineLimit}
 use Rattle.rules.specs.Columns.{Column, goesOn, columnsFrom, columns, written, fields}
-use Rattle.rules.specs.Rules.{Rule, rule, broken, unless, checked}
+use Rattle.rules.specs.Rules.{Rule, broken, unless, checked}
 use Rattle.rules.specs.Keywords.{leadingWhite, firstColumn}
-use Rattle.rules.specs.Lines.{Phase, Answer, refuse, go, next, lineAt, taken, step}
+use Rattle.rules.specs.Phases.{Phase, Answer, refuse, go, next, step}
+use Rattle.rules.proofs.Takings.{answerAt, answerTo, lineRules, step-answers}
 use Rattle.rules.proofs.Conjunctions.{and-left, and-right}
 use Rattle.rules.proofs.Same.{same-eq}
 use Rattle.rules.proofs.RuleLaws.{holdsOf, numberOf, numbered, none-broken, holds-granted, told, told-checked}
 use Rattle.rules.proofs.PrintedLines.{solid, black, tailed, remark, printed, printed-columns, fields-field}
-use Rattle.rules.proofs.AnyLine.{solidColumn, columns-solid, begun}
+use Rattle.rules.proofs.AnyLine.{solidColumn, columns-solid, begun-by}
 use Rattle.rules.proofs.LineFit.{LineFit, ignored-first}
 
 -- ---- any answer
@@ -51,26 +52,26 @@ module _ (P : Answer → Type 0) where
         by none q e = g (none-broken rs q)
         by (some r) q e = bad r (above (r .number) e)
 
-    -- one line: it is ignored, or it fits and is taken where the reading stands
-    pub step-cases : (phase : Phase) (used : List ℕ) (line : Text) → P (go phase) → (LineFit (line .bytes) → P (lineAt phase used line (firstColumn line))) → P (step phase used line)
-    unfolding step taken
+    -- one line: it is ignored, or it fits and is answerTo where the reading stands
+    pub step-cases : (phase : Phase) (used : List ℕ) (line : Text) → P (go phase) → (LineFit (line .bytes) → P (answerAt phase used line (firstColumn line))) → P (step phase used line)
+    unfolding answerTo
     step-cases phase used line stay f =
-        next-checked (taken phase used)
-        (rule 4 line (every legal (line .bytes)) ∷ rule 5 line (leb (length (line .bytes)) lineLimit) ∷ [])
-        line refl
+        subst P (sym (step-answers phase used line))
+        (next-checked (answerTo phase used) (lineRules line) line refl
         (λ h.
         let lawful : every legal (line .bytes) ≡ true = and-left (every legal (line .bytes)) (leb (length (line .bytes)) lineLimit && true) h in
         let short : leb (length (line .bytes)) lineLimit ≡ true = and-left (leb (length (line .bytes)) lineLimit) true (and-right (every legal (line .bytes)) (leb (length (line .bytes)) lineLimit && true) h) in
-        either (ignored (line .bytes)) (go phase) (lineAt phase used line (firstColumn line)) (λ e. stay)
-        (λ e. f (record { lawful = lawful; short = leb-true (length (line .bytes)) lineLimit short; seen = e })))
+        either (ignored (line .bytes)) (go phase) (answerAt phase used line (firstColumn line)) (λ e. stay)
+        (λ e. f (record { lawful = lawful; short = leb-true (length (line .bytes)) lineLimit short; seen = e }))))
 
 -- ---- a line that fits
 
-pub step-fit : (phase : Phase) (used : List ℕ) (line : Text) → LineFit (line .bytes) → step phase used line ≡ lineAt phase used line (firstColumn line)
-unfolding step taken
+pub step-fit : (phase : Phase) (used : List ℕ) (line : Text) → LineFit (line .bytes) → step phase used line ≡ answerAt phase used line (firstColumn line)
+unfolding answerTo
 step-fit phase used line f =
-    ap (next (taken phase used))
-    (holds-granted (rule 4 line (every legal (line .bytes)) ∷ rule 5 line (leb (length (line .bytes)) lineLimit) ∷ []) line
+    step-answers phase used line
+    ∙ ap (next (answerTo phase used))
+    (holds-granted (lineRules line) line
     (rw (f .lawful, le-leb (length (line .bytes)) lineLimit (f .short))))
     ∙ rw (f .seen)
 
@@ -111,7 +112,7 @@ pub opened : (line : Text) → LineFit (line .bytes) → given (firstColumn line
 unfolding firstColumn
 opened line f g =
     let starts = first-goes (line .start) (line .bytes) g in
-    let b = begun (line .start) (line .bytes) starts in
+    let b = begun-by (line .start) (line .bytes) starts in
     let c = b .first .text .bytes in
     let every-solid = sym (ap (every solidColumn) (b .form)) ∙ columns-solid (line .start) (line .bytes) in
     let s : solid c ≡ true = and-left (solid c) (every solidColumn (b .others)) every-solid in

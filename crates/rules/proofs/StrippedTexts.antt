@@ -1,5 +1,4 @@
 -- A trimmed text is what its bytes are without the white ones at both ends, and nothing else is. By one step along the bytes.
--- Assumes nothing.
 use Prim.Native.Nat.{ℕ, suc, _+_}
 use native.Mathlib.Omega.{arith}
 use mathlib.Core.Path.{_≡_, refl, sym, ap, _∙_, subst}

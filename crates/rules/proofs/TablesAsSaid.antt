@@ -1,25 +1,30 @@
 -- The tables closed in a reading, and those of the grammar: which are there, and whether an id or a tag stands in one.
--- Table by table. Assumes nothing.
+-- Table by table.
 use Prim.Native.Nat.{ℕ, zero, suc, _+_, _<_}
 use native.Mathlib.Omega.{arith}
-use mathlib.Core.Path.{_≡_, refl, sym, ap, _∙_, subst}
+use native.Mathlib.Nat.{add-zero}
+use mathlib.Core.Path.{_≡_, refl, sym, ap, ap₂, _∙_, subst}
 use mathlib.Core.Logic.{_⊎_, inl, inr, _↔_}
 use mathlib.Core.Bool.{Bool, true, false, false≢true, not, _||_}
 use mathlib.Core.Option.{Option, none, some}
-use mathlib.Core.List.{List, [], _∷_, _++_}
+use mathlib.Core.List.{List, [], _∷_, _++_, map}
 use lib.ListN.{length, getD, set, replicate, length-set}
 use lib.Seq.{getD-set-same, getD-set-other}
 use lib.Dec.{eqb}
 use borrow.Author.Tests.{eqb-true, eqb-false}
-use Rattle.rules.specs.Lists.{pick}
+use Rattle.rules.specs.Lists.{pick, counting}
 use Rattle.rules.specs.Texts.{Text, reads}
 use Rattle.rules.specs.Tables.{Tables, Row, tableNames, placeFrom, tableNamed, noTables, table, there, present, closed, rowsOf, hasId, hasTag, dashes, unknown, reserved, known}
 use Rattle.rules.specs.GrammarLines.{In}
-use Rattle.rules.specs.GrammarTables.{TableLines, whiches, HasRow, Known}
+use Rattle.rules.specs.GrammarContent.{RowContent}
+use Rattle.rules.specs.GrammarSurvey.{rowRead, tableRead}
+use Rattle.rules.specs.GrammarRows.{rowSays}
+use Rattle.rules.specs.GrammarTables.{TableLines, whiches, HasRow, Known, rowsNamed, tablesSay}
+use Rattle.rules.proofs.Conjunctions.{false-if-never}
 use Rattle.rules.proofs.Elements.{map-append}
 use Rattle.rules.proofs.SaidOfLists.{in-front, in-either, in-last, in-map, in-mapped, or-both-ways, true-or-not}
 use Rattle.rules.proofs.TestsAsFacts.{reads-are, has-id, has-tag}
-use Rattle.rules.proofs.RowsAlike.{Alike}
+use Rattle.rules.proofs.RowsAlike.{Alike, alike-ids, alike-texts}
 
 -- ---- the name of a table
 
@@ -123,6 +128,39 @@ module _ (T : Tables) (ts : List TableLines) (s : Stand T ts) where
             let n = eqb-false w (t .which) e in
             subst (λ (o : Option (List Row)). Slot o w (ts ++ (t ∷ []))) (sym (getD-set-other T (t .which) w (some rs) none n)) (slot-other w (table w T) n (s .slot w))
 
+  -- ---- they say the same
+
+  none-named : (w : ℕ) (ts : List TableLines) → (In w (whiches ts) → ⊥) → none ≡ rowsNamed ts w
+  none-named w [] n = refl
+  none-named w (t ∷ ts) n =
+      none-named w ts (λ i. n (inr i))
+      ∙ sym (ap (λ (b : Bool). pick b (some (map rowSays (t .rows))) (rowsNamed ts w)) (false-if-never (eqb (t .which) w) (λ e. n (inl (sym (eqb-true (t .which) w e))))))
+
+  some-named : (w : ℕ) (rs : List Row) (ts : List TableLines) → In w (whiches ts) → ((t : TableLines) → In t ts → t .which ≡ w → Alike rs (t .rows)) → some (map rowRead rs) ≡ rowsNamed ts w
+  some-named w rs [] i f = absurd i
+  some-named w rs (t ∷ ts) i f = by (eqb (t .which) w) refl i (λ j. some-named w rs ts j (λ u k q. f u (inr k) q))
+    where
+      by : (b : Bool) → eqb (t .which) w ≡ b → In w (whiches (t ∷ ts)) → (In w (whiches ts) → some (map rowRead rs) ≡ rowsNamed ts w)
+          → some (map rowRead rs) ≡ pick b (some (map rowSays (t .rows))) (rowsNamed ts w)
+      by true e i more = ap some (f t (inl refl) (eqb-true (t .which) w e))
+      by false e (inl q) more = absurd (eqb-false (t .which) w e (sym q))
+      by false e (inr i) more = more i
+
+  slot-says : (w : ℕ) (o : Option (List Row)) → Slot o w ts → tableRead o ≡ rowsNamed ts w
+  slot-says w none k = none-named w ts k
+  slot-says w (some rs) k = some-named w rs ts (k .0) (k .1)
+
+  by-places : (f : ℕ → Option (List RowContent)) (U : Tables) (k : ℕ) → ((w : ℕ) → tableRead (table w U) ≡ f (k + w)) → map tableRead U ≡ map f (counting k (length U))
+  by-places f [] k h = refl
+  by-places f (o ∷ U) k h =
+      ap₂ (λ (x : Option (List RowContent)) (xs : List (Option (List RowContent))). x ∷ xs) (h 0 ∙ ap f (add-zero k))
+      (by-places f U (suc k) (λ w. h (suc w) ∙ ap f (let e : k + suc w ≡ suc k + w = omega arith in e)))
+
+  pub tables-say : map tableRead T ≡ tablesSay ts
+  tables-say =
+      by-places (rowsNamed ts) T 0 (λ w. slot-says w (table w T) (s .slot w) ∙ ap (rowsNamed ts) (let e : w ≡ 0 + w = omega arith in e))
+      ∙ ap (λ (n : ℕ). map (rowsNamed ts) (counting 0 n)) (s .seven)
+
   -- ---- what stands in them
 
   pub is-there : (w : ℕ) → (present w T ≡ true) ↔ In w (whiches ts)
@@ -139,8 +177,8 @@ module _ (T : Tables) (ts : List TableLines) (s : Stand T ts) where
       by none k =
           (λ e. absurd (has-id i [] .0 e), λ h. absurd (k (subst (λ (w : ℕ). In w (whiches ts)) (h .2) (in-map (λ (t : TableLines). t .which) (h .0) ts (h .1)))))
       by (some rs) k = (
-        λ e. let t = in-mapped (λ (t : TableLines). t .which) w ts (k .0) in (t .0, t .1, t .2, subst (In i) (k .1 (t .0) (t .1) (t .2) .ids) (has-id i rs .0 e)),
-        λ h. has-id i rs .1 (subst (In i) (sym (k .1 (h .0) (h .1) (h .2) .ids)) (h .3)),
+        λ e. let t = in-mapped (λ (t : TableLines). t .which) w ts (k .0) in (t .0, t .1, t .2, subst (In i) (alike-ids rs (t .0 .rows) (k .1 (t .0) (t .1) (t .2))) (has-id i rs .0 e)),
+        λ h. has-id i rs .1 (subst (In i) (sym (alike-ids rs (h .0 .rows) (k .1 (h .0) (h .1) (h .2)))) (h .3)),
       )
 
   pub known-is : (w : ℕ) (t : Text) → (known T w t ≡ true) ↔ Known ts w (t .bytes)
@@ -173,7 +211,7 @@ module _ (T : Tables) (ts : List TableLines) (s : Stand T ts) where
               first : (reserved t ≡ true) ⊎ (false ≡ true) → Known ts w (t .bytes)
               first (inl r) = reserved-known r
               first (inr z) = absurd (false≢true z)
-          there-known (inr e) = inr (inr (λ u i q. subst (In (t .bytes)) (k .1 u i q .texts) (has-tag t rs .0 e)))
+          there-known (inr e) = inr (inr (λ u i q. subst (In (t .bytes)) (alike-texts rs (u .rows) (k .1 u i q)) (has-tag t rs .0 e)))
 
           known-there : Known ts w (t .bytes) → ((reserved t || false) || hasTag t rs) ≡ true
           known-there (inl d) = or-both-ways (reserved t || false) (hasTag t rs) .1 (inl (known-reserved false (inl d)))
@@ -181,4 +219,4 @@ module _ (T : Tables) (ts : List TableLines) (s : Stand T ts) where
           known-there (inr (inr f)) =
               let u = in-mapped (λ (t : TableLines). t .which) w ts (k .0) in
               or-both-ways (reserved t || false) (hasTag t rs) .1
-              (inr (has-tag t rs .1 (subst (In (t .bytes)) (sym (k .1 (u .0) (u .1) (u .2) .texts)) (f (u .0) (u .1) (u .2)))))
+              (inr (has-tag t rs .1 (subst (In (t .bytes)) (sym (alike-texts rs (u .0 .rows) (k .1 (u .0) (u .1) (u .2)))) (f (u .0) (u .1) (u .2)))))

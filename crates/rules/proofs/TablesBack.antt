@@ -1,5 +1,5 @@
 -- The printed tables are read back: each table's rows, one behind the other, and the tables in their order. By one step
--- along the rows, and along the tables. Assumes nothing.
+-- along the rows, and along the tables.
 use Prim.Native.Nat.{ℕ, zero, suc, _+_, _<_}
 use native.Mathlib.Omega.{arith}
 use mathlib.Core.Path.{_≡_, refl, sym, ap, ap₂, _∙_, subst}
@@ -12,17 +12,18 @@ use Rattle.rules.specs.Lists.{same, bytes, joined}
 use Rattle.rules.specs.Bytes.{ignored}
 use Rattle.rules.specs.Texts.{Text}
 use Rattle.rules.specs.Rules.{granted}
-use Rattle.rules.specs.Tables.{Tables, Row, table, there, present, closed}
+use Rattle.rules.specs.Tables.{Tables, Row, table, there, present}
 use Rattle.rules.specs.Rows.{rowOf}
 use Rattle.rules.specs.Sentences.{Sentence}
-use Rattle.rules.specs.Lines.{Preamble, top, inTable, go, next, withTable, withRow, atTop, amongRows, lineAt, step}
+use Rattle.rules.specs.Phases.{Preamble, top, inTable, go, next, step, withTable}
 use Rattle.rules.specs.Reading.{Reading, numbers, read}
 use Rattle.rules.specs.Meaning.{bareRow, rowId, meantRows, byId, meantTables}
 use Rattle.rules.specs.Tidy.{space, tab, idDigits, keywordLine, rowLine, tableName, tableText, tablesText}
+use Rattle.rules.proofs.Takings.{goClosed, goRow, answerTop, answerRows, answerAt}
 use Rattle.rules.proofs.ReadLines.{read-append}
 use Rattle.rules.proofs.Elements.{map-append, set-map}
 use Rattle.rules.proofs.Sorting.{map-sorted}
-use Rattle.rules.proofs.PrintedLines.{plain, parted-plain}
+use Rattle.rules.proofs.PrintedLines.{parted-plain}
 use Rattle.rules.proofs.LineFit.{LineFit}
 use Rattle.rules.proofs.MeantTables.{there-meant}
 use Rattle.rules.proofs.NumbersAgain.{id-solid}
@@ -43,17 +44,17 @@ pub record RowsRead (p : Preamble) (n : ℕ) (done : List Row) (ss : List Senten
 -- a row's line is printed with its id first
 row-step : (p : Preamble) (n : ℕ) (rs : List Row) (used : List ℕ) (at : ℕ) (r : Row) → LineFit (printedRow n r)
     → step (inTable p n rs) used (record { start = at; bytes = printedRow n r })
-    ≡ lineAt (inTable p n rs) used (record { start = at; bytes = printedRow n r }) (record { start = at; bytes = idDigits (r .id1) })
+    ≡ answerAt (inTable p n rs) used (record { start = at; bytes = printedRow n r }) (record { start = at; bytes = idDigits (r .id1) })
 row-step p zero rs used at r f = step-printed tab refl (inTable p zero rs) used at (idDigits (r .id1)) _ _ (id-solid (r .id1)) f
 row-step p (suc zero) rs used at r f = step-printed tab refl (inTable p (suc zero) rs) used at (idDigits (r .id1)) _ _ (id-solid (r .id1)) f
 row-step p (suc (suc n)) rs used at r f = step-printed tab refl (inTable p (suc (suc n)) rs) used at (idDigits (r .id1)) _ _ (id-solid (r .id1)) f
 
 among-row : (p : Preamble) (n : ℕ) (rs : List Row) (used : List ℕ) (line : Text) (at i : ℕ) (q : Row) → rowOf n rs line ≡ granted q
-    → lineAt (inTable p n rs) used line (record { start = at; bytes = idDigits i }) ≡ go (inTable p n (rs ++ (q ∷ [])))
-unfolding lineAt amongRows
+    → answerAt (inTable p n rs) used line (record { start = at; bytes = idDigits i }) ≡ go (inTable p n (rs ++ (q ∷ [])))
+unfolding answerAt answerRows
 among-row p n rs used line at i q e =
     let b = id-begins i in
-    rw (b .no-end, b .row) (ap (next (withRow line (plain []) p n rs)) e)
+    rw (b .no-end, b .row) (ap (next (goRow p n rs)) e)
 
 module _ (p : Preamble) (n : ℕ) (ss : List Sentence) where
   row-read : (r : Row) (done : List Row) (x : Reading) → RowKept n done r → RowsRead p n done ss x → RowsRead p n (done ++ (r ∷ [])) ss (read x (rowLine n r))
@@ -87,28 +88,25 @@ eot-seen : ignored (bytes "#EOT") ≡ false
 unfolding ignored
 eot-seen = refl
 
-abbrev pub withRows : Preamble → ℕ → List Row → Preamble
-withRows p n rs = record { format = p .format; tables = closed n rs (p .tables) }
-
 pub record TableRead (p : Preamble) (n : ℕ) (rs : List Row) (ss : List Sentence) (x : Reading) : Type 0 where
   pub rows : List Row
   pub same : map bareRow rows ≡ rs
-  pub stands : Stands (top (withRows p n rows)) ss x
+  pub stands : Stands (top (withTable p n rows)) ss x
 
 module _ (p : Preamble) (n : ℕ) (h : n < 7) (ss : List Sentence) where
   opens : (used : List ℕ) (at : ℕ) → present n (p .tables) ≡ false
       → step (top p) used (record { start = at; bytes = keyed (bytes "#BOT") (tableName n) }) ≡ go (inTable p n [])
-  unfolding lineAt atTop
+  unfolding answerAt answerTop
   opens used at e =
       step-printed space refl (top p) used at (bytes "#BOT") (tableName n ∷ []) [] refl (table-fit n h at (bytes "#BOT") refl bot-seen refl (omega arith))
       ∙ ap (next (λ n. go (inTable p n []))) (table-opened n h at (p .tables) e)
 
-  ends : (used : List ℕ) (at : ℕ) (rs : List Row) → step (inTable p n rs) used (record { start = at; bytes = keyed (bytes "#EOT") (tableName n) }) ≡ go (top (withRows p n rs))
-  unfolding lineAt amongRows
+  ends : (used : List ℕ) (at : ℕ) (rs : List Row) → step (inTable p n rs) used (record { start = at; bytes = keyed (bytes "#EOT") (tableName n) }) ≡ go (top (withTable p n rs))
+  unfolding answerAt answerRows
   ends used at rs =
       let line : Text = record { start = at; bytes = keyed (bytes "#EOT") (tableName n) } in
       step-printed space refl (inTable p n rs) used at (bytes "#EOT") (tableName n ∷ []) [] refl (table-fit n h at (bytes "#EOT") refl eot-seen refl (omega arith))
-      ∙ ap (next (λ m. withTable line line p m rs)) (table-ended n h at)
+      ∙ ap (next (λ m. goClosed p n rs)) (table-ended n h at)
 
   table-read : (rs : List Row) (x : Reading) → present n (p .tables) ≡ false → RowsKept n [] rs → Stands (top p) ss x → TableRead p n rs ss (read x (tableText n (some rs)))
   table-read rs x e k s =
@@ -117,19 +115,19 @@ module _ (p : Preamble) (n : ℕ) (h : n < 7) (ss : List Sentence) where
       let last = keywordLine (bytes "#EOT" ∷ tableName n ∷ []) in
       let x1 = read x first in
       let x2 = read x1 middle in
-      let begun : Stands (inTable p n []) ss x1 =
+      let started : Stands (inTable p n []) ss x1 =
       subst (λ (l : List ℕ). Stands (inTable p n []) ss (read x l)) (sym (parted-plain space (bytes "#BOT") (tableName n ∷ [])))
       (line-go (top p) ss x (keyed (bytes "#BOT") (tableName n)) s (table-fit n h 0 (bytes "#BOT") refl bot-seen refl (omega arith)) (inTable p n []) (opens (numbers (x .handed)) (x .lineStart) e)) in
-      let filled = rows-read p n ss rs [] x1 k (record { rows = []; same = refl; stands = begun }) in
-      let ended : Stands (top (withRows p n (filled .rows))) ss (read x2 last) =
-      subst (λ (l : List ℕ). Stands (top (withRows p n (filled .rows))) ss (read x2 l)) (sym (parted-plain space (bytes "#EOT") (tableName n ∷ [])))
+      let filled = rows-read p n ss rs [] x1 k (record { rows = []; same = refl; stands = started }) in
+      let ended : Stands (top (withTable p n (filled .rows))) ss (read x2 last) =
+      subst (λ (l : List ℕ). Stands (top (withTable p n (filled .rows))) ss (read x2 l)) (sym (parted-plain space (bytes "#EOT") (tableName n ∷ [])))
       (line-go (inTable p n (filled .rows)) ss x2 (keyed (bytes "#EOT") (tableName n)) (filled .stands) (table-fit n h 0 (bytes "#EOT") refl eot-seen refl (omega arith))
-      (top (withRows p n (filled .rows))) (ends (numbers (x2 .handed)) (x2 .lineStart) (filled .rows))) in
+      (top (withTable p n (filled .rows))) (ends (numbers (x2 .handed)) (x2 .lineStart) (filled .rows))) in
       let whole : read x (tableText n (some rs)) ≡ read x2 last = read-append x (first ++ middle) last ∙ ap (λ (y : Reading). read y last) (read-append x first middle) in
       record {
         rows = filled .rows;
         same = filled .same;
-        stands = subst (Stands (top (withRows p n (filled .rows))) ss) (sym whole) ended;
+        stands = subst (Stands (top (withTable p n (filled .rows))) ss) (sym whole) ended;
       }
 
 -- ---- the tables in their order
@@ -171,7 +169,7 @@ module _ (ss : List Sentence) where
       (tables-read todo (done ++ (none ∷ [])) (suc n) p x (one-more done none n e) (omega (arith, seven)) (k .1) (m ∙ sym (append-assoc done (none ∷ []) (blanks todo))) s)
   tables-read (some rs ∷ todo) done n p x e seven k m s =
       let t = table-read p n (omega (arith, seven)) ss rs x (absent (p .tables) done (blanks todo) n e m) (k .0) s in
-      let q = withRows p n (t .rows) in
+      let q = withTable p n (t .rows) in
       let set-in : map meantRows (q .tables) ≡ (done ++ (some rs ∷ [])) ++ blanks todo =
       set-map meantRows (p .tables) n (some (t .rows)) ∙ ap₂ (λ (us : Tables) (r : List Row). set us n (some r)) m (t .same)
       ∙ set-at done none (blanks todo) (some rs) n e ∙ sym (append-assoc done (some rs ∷ []) (blanks todo)) in

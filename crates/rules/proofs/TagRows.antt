@@ -1,5 +1,5 @@
 -- A row of a tag table that was granted is fit to be printed, and read back from the printed line, with a flag where the
--- table is WORDTAG. From the line's rules, one by one. Assumes nothing.
+-- table is WORDTAG. From the line's rules, one by one.
 use Prim.Native.Nat.{ℕ, suc, _+_, _≤_, _<_}
 use native.Mathlib.Nat.{le-refl}
 use native.Mathlib.Omega.{arith}
@@ -18,7 +18,7 @@ use Rattle.rules.specs.Numbers.{rowLimit, signedId, good, value}
 use Rattle.rules.specs.Rules.{Rule, rule, granted}
 use Rattle.rules.specs.Tables.{Row, wordTags, morphTags, hasTag, tagLimit}
 use Rattle.rules.specs.Rows.{roomFor, lastId, follows, ownTag, yes, isFlag, tagRow}
-use Rattle.rules.specs.Lines.{Answer, refuse, next}
+use Rattle.rules.specs.Phases.{Answer, refuse, next}
 use Rattle.rules.specs.Meaning.{bareRow}
 use Rattle.rules.specs.Tidy.{tab, idDigits, flagText}
 use Rattle.rules.proofs.Conjunctions.{and-left, and-right, and-both, not-true}

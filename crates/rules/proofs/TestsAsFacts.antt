@@ -1,6 +1,6 @@
 -- What the tests of the rules say: that a text reads so, is given, is short enough; that a number is written; that an id,
--- a tag or a number is among others. Assumes nothing.
-use Prim.Native.Nat.{ℕ, _≤_, _<_}
+-- a tag or a number is among others.
+use Prim.Native.Nat.{ℕ, _≤_}
 use native.Mathlib.Omega.{arith}
 use mathlib.Core.Path.{_≡_, refl, ap}
 use mathlib.Core.Logic.{_↔_}
@@ -8,8 +8,8 @@ use mathlib.Core.Bool.{Bool, true, false, false≢true, not}
 use mathlib.Core.Option.{Option, none, some}
 use mathlib.Core.List.{List, [], _∷_, map}
 use lib.ListN.{length}
-use lib.Dec.{leb, ltb, eqb}
-use borrow.Author.Tests.{le-leb, leb-true, lt-ltb, ltb-true, eqb-true, eq-eqb}
+use lib.Dec.{leb, eqb}
+use borrow.Author.Tests.{le-leb, leb-true, eqb-true, eq-eqb}
 use Rattle.rules.specs.Lists.{same, member}
 use Rattle.rules.specs.Texts.{Text, given, reads}
 use Rattle.rules.specs.Numbers.{good, value}
@@ -31,9 +31,6 @@ given-are t = by (t .bytes)
 
 pub leb-is : (a b : ℕ) → (leb a b ≡ true) ↔ (a ≤ b)
 leb-is a b = (leb-true a b, le-leb a b)
-
-pub ltb-is : (a b : ℕ) → (ltb a b ≡ true) ↔ (a < b)
-ltb-is a b = (ltb-true a b, lt-ltb a b)
 
 pub eqb-is : (a b : ℕ) → (eqb a b ≡ true) ↔ (a ≡ b)
 eqb-is a b = (eqb-true a b, eq-eqb a b)

@@ -1,5 +1,5 @@
 -- Laws of texts that lose white bytes at both ends: what is left has none there, is no longer, and loses nothing again. By
--- one step along the bytes. Assumes nothing.
+-- one step along the bytes.
 use Prim.Native.Nat.{ℕ, suc, _≤_}
 use native.Mathlib.Omega.{arith}
 use mathlib.Core.Path.{_≡_, refl, ap, _∙_}

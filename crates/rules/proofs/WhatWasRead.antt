@@ -1,5 +1,5 @@
 -- What a reading has read by the time it stands in a phase: the parts of the file so far, with all that the grammar says of
--- them and that does not look ahead. Assumes nothing.
+-- them and that does not look ahead.
 use Prim.Native.Nat.{ℕ, _+_, _≤_, _<_}
 use mathlib.Core.Path.{_≡_, sym, ap, _∙_}
 use mathlib.Core.List.{List, [], _∷_, _++_, map, append-assoc, append-nil}
@@ -8,7 +8,8 @@ use Rattle.rules.specs.Lists.{bytes, joined, Each}
 use Rattle.rules.specs.Numbers.{wordLimit, edgeLimit}
 use Rattle.rules.specs.Tables.{Row, origins, editors}
 use Rattle.rules.specs.Sentences.{Sentence}
-use Rattle.rules.specs.Lines.{Preamble, Phase, start, top, inTable, inSentence, behindSentence}
+use Rattle.rules.specs.Phases.{Preamble, Phase, start, top, inTable, inSentence, behindSentence}
+use Rattle.rules.specs.GrammarNumbers.{sentenceRange}
 use Rattle.rules.specs.GrammarLines.{In, Differ}
 use Rattle.rules.specs.GrammarRows.{RowLine}
 use Rattle.rules.specs.GrammarTables.{TableLines, RowsFit, Names, TableFits, tableLines, whiches}
@@ -18,41 +19,42 @@ use Rattle.rules.specs.Grammar.{FormatFits, sentenceNumbers}
 use Rattle.rules.proofs.RowsAlike.{Alike}
 use Rattle.rules.proofs.TablesAsSaid.{Stand}
 use Rattle.rules.proofs.SentenceEnds.{SentenceAlike}
+use Rattle.rules.proofs.LineByLine.{numbersIn}
 
 abbrev pub preLines : List ℕ → List TableLines → List (List ℕ)
-preLines format ts = format ∷ joined (map tableLines ts)
+preLines format-line ts = format-line ∷ joined (map tableLines ts)
 
 abbrev pub rowLines : List RowLine → List (List ℕ)
 rowLines rows = map (λ (r : RowLine). r .line) rows
 
 -- the format line and whole tables
 pub record Preambled (p : Preamble) : Type 0 where
-  pub format : List ℕ
+  pub formatLine : List ℕ
   pub ts : List TableLines
-  pub format-fits : FormatFits format
+  pub format-fits : FormatFits formatLine (p .format)
   pub each-table : Each TableFits ts
   pub once : Differ (whiches ts)
   pub stand : Stand (p .tables) ts
 
 -- and whole sentences
-pub record Prior (p : Preamble) (used : List ℕ) : Type 0 where
+pub record Prior (p : Preamble) (out : List Sentence) : Type 0 where
   pub pre : Preambled p
   pub ss : List SentenceLines
-  pub each : Each (SentenceFits (pre .ts)) ss
+  pub each : Each (SentenceFits sentenceRange (p .format) (pre .ts)) ss
   pub differ : Differ (sentenceNumbers ss)
-  pub used-are : used ≡ sentenceNumbers ss
+  pub out-are : numbersIn out ≡ sentenceNumbers ss
 
-abbrev pub priorLines : (p : Preamble) (used : List ℕ) → Prior p used → List (List ℕ)
-priorLines p used r = preLines (r .pre .format) (r .pre .ts) ++ joined (map sentenceLines (r .ss))
+abbrev pub priorLines : (p : Preamble) (out : List Sentence) → Prior p out → List (List ℕ)
+priorLines p out r = preLines (r .pre .formatLine) (r .pre .ts) ++ joined (map sentenceLines (r .ss))
 
-pub record AtTop (p : Preamble) (used : List ℕ) (done : List (List ℕ)) : Type 0 where
+pub record AtTop (p : Preamble) (out : List Sentence) (done : List (List ℕ)) : Type 0 where
   pub pre : Preambled p
-  pub none-used : used ≡ []
-  pub lines : done ≡ preLines (pre .format) (pre .ts)
+  pub none-out : out ≡ []
+  pub lines : done ≡ preLines (pre .formatLine) (pre .ts)
 
-pub record InTable (p : Preamble) (n : ℕ) (rs : List Row) (used : List ℕ) (done : List (List ℕ)) : Type 0 where
+pub record InTable (p : Preamble) (n : ℕ) (rs : List Row) (out : List Sentence) (done : List (List ℕ)) : Type 0 where
   pub pre : Preambled p
-  pub none-used : used ≡ []
+  pub none-out : out ≡ []
   pub one-of-seven : n < 7
   pub new : In n (whiches (pre .ts)) → ⊥
   pub bot : List ℕ
@@ -60,40 +62,40 @@ pub record InTable (p : Preamble) (n : ℕ) (rs : List Row) (used : List ℕ) (d
   pub rows : List RowLine
   pub alike : Alike rs rows
   pub fit : RowsFit n rows
-  pub lines : done ≡ preLines (pre .format) (pre .ts) ++ (bot ∷ rowLines rows)
+  pub lines : done ≡ preLines (pre .formatLine) (pre .ts) ++ (bot ∷ rowLines rows)
 
 -- the first two tables are there, since a sentence has begun
 pub record BothThere (ts : List TableLines) : Type 0 where
   pub origin-there : In origins (whiches ts)
   pub editor-there : In editors (whiches ts)
 
-pub record Behind (p : Preamble) (used : List ℕ) (done : List (List ℕ)) : Type 0 where
-  pub prior : Prior p used
+pub record Behind (p : Preamble) (out : List Sentence) (done : List (List ℕ)) : Type 0 where
+  pub prior : Prior p out
   pub both : BothThere (prior .pre .ts)
-  pub lines : done ≡ priorLines p used prior
+  pub lines : done ≡ priorLines p out prior
 
-pub record InSentence (p : Preamble) (s : Sentence) (used : List ℕ) (done : List (List ℕ)) : Type 0 where
-  pub prior : Prior p used
+pub record InSentence (p : Preamble) (s : Sentence) (out : List Sentence) (done : List (List ℕ)) : Type 0 where
+  pub prior : Prior p out
   pub both : BothThere (prior .pre .ts)
   pub head : HeadLine
   pub words : List NodeLine
   pub phrases : List PhraseLine
-  pub head-fits : HeadFits (prior .pre .ts) head
+  pub head-fits : HeadFits sentenceRange (prior .pre .ts) head
   pub new : In (head .number) (sentenceNumbers (prior .ss)) → ⊥
-  pub each-word : Each (WordFits (prior .pre .ts)) words
-  pub each-phrase : Each (PhraseFits (prior .pre .ts)) phrases
+  pub each-word : Each (WordFits (p .format) (prior .pre .ts)) words
+  pub each-phrase : Each (PhraseFits (p .format) (prior .pre .ts)) phrases
   pub words-at-most : length words ≤ wordLimit
   pub edges-at-most : length (secondaryEdges words) + length (secondaryEdges (nodesOf phrases)) ≤ edgeLimit
   pub numbers-differ : Differ (numbersOf phrases)
-  pub alike : SentenceAlike s (head .number) words phrases
-  pub lines : done ≡ priorLines p used prior ++ (head .line ∷ nodeLines words ++ nodeLines (nodesOf phrases))
+  pub alike : SentenceAlike s head words phrases
+  pub lines : done ≡ priorLines p out prior ++ (head .line ∷ nodeLines words ++ nodeLines (nodesOf phrases))
 
-abbrev pub WasRead : Phase → List ℕ → List (List ℕ) → Type 0
-WasRead start used done = (done ≡ []) × (used ≡ [])
-WasRead (top p) used done = AtTop p used done
-WasRead (inTable p n rs) used done = InTable p n rs used done
-WasRead (inSentence p s) used done = InSentence p s used done
-WasRead (behindSentence p) used done = Behind p used done
+abbrev pub WasRead : Phase → List Sentence → List (List ℕ) → Type 0
+WasRead start out done = (done ≡ []) × (out ≡ [])
+WasRead (top p) out done = AtTop p out done
+WasRead (inTable p n rs) out done = InTable p n rs out done
+WasRead (inSentence p s) out done = InSentence p s out done
+WasRead (behindSentence p) out done = Behind p out done
 
 -- one part more
 module _ {A B : Type 0} (f : A → List B) where

@@ -1,5 +1,5 @@
 -- Document 01, "Lines and bytes": a line's bytes are 9, 32 to 127 or 160 to 255; white is 9 and 32 only, 160 is an
--- ordinary byte; there are four classes of bytes. Assumes nothing.
+-- ordinary byte; there are four classes of bytes.
 use Prim.Native.Nat.{ℕ}
 use mathlib.Core.Bool.{Bool, true, _||_}
 use mathlib.Core.List.{List, [], _∷_, map}

@@ -1,6 +1,6 @@
 -- Demand 2, of every sentence handed out: all references resolve, and every chain of parents climbs, in the sentence and on
--- its sheet (document 01, "The file from top to bottom" and "The sheets"). Assumes nothing.
-use Prim.Native.Nat.{ℕ, zero, suc, _+_, _*_, _≤_, _<_}
+-- its sheet (document 01, "The file from top to bottom" and "The sheets").
+use Prim.Native.Nat.{ℕ, zero, suc, _≤_, _<_}
 use mathlib.Core.Path.{_≡_}
 use mathlib.Core.Logic.{_⊎_}
 use mathlib.Core.Bool.{true}
@@ -10,7 +10,7 @@ use lib.Dec.{eqb}
 use Rattle.rules.specs.Lists.{pick, every, Each}
 use Rattle.rules.specs.Tables.{Tables, wordTags, morphTags, nodeTags, edgeTags, secEdgeTags, known}
 use Rattle.rules.specs.Sentences.{Edge, Node, Sentence, knownEditor, knownOrigin, listed}
-use Rattle.rules.specs.Sheets.{nodeWidth, nodes}
+use Rattle.rules.specs.Sheets.{fieldPlace, parentOffset, nodes}
 
 -- ---- references
 
@@ -39,18 +39,9 @@ parentAmong (n ∷ ns) k = let later = parentAmong ns k in pick (eqb (n .number)
 abbrev pub parentIn : Sentence → ℕ → ℕ
 parentIn s n = parentAmong (nodes s) n
 
--- the sentence sheet: how many numbers stand in front of the node records, and how many in a record in front of the parent
-abbrev pub leadingCount : ℕ
-leadingCount = 9
-
-abbrev pub parentOffset : ℕ
-parentOffset = 8
-
-abbrev pub parentPlace : ℕ → ℕ
-parentPlace n = leadingCount + (nodeWidth * n + parentOffset)
-
+-- the parent that the sentence sheet has for a number
 abbrev pub parentOn : List ℕ → ℕ → ℕ
-parentOn sheet n = getD sheet (parentPlace n) 0
+parentOn sheet n = getD sheet (fieldPlace parentOffset n) 0
 
 -- so many steps up from a number
 abbrev pub climbed : (ℕ → ℕ) → ℕ → ℕ → ℕ

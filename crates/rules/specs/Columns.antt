@@ -1,5 +1,5 @@
 -- Document 01, "Lines and bytes": a column is a run of bytes that aren't white. A line is a text too: its first byte's
--- place, and its bytes without the newline. Assumes nothing.
+-- place, and its bytes without the newline.
 use Prim.Native.Nat.{ℕ, suc}
 use mathlib.Core.Bool.{Bool, false, not}
 use mathlib.Core.List.{List, [], _∷_, map}
@@ -19,9 +19,9 @@ goesOn [] = false
 goesOn (b ∷ bs) = not (white b)
 
 -- the byte b at a place, in front of the column that follows at once
-abbrev pub longer : ℕ → ℕ → List Column → List Column
-longer at b [] = []
-longer at b (c ∷ cs) = record { text = record { start = at; bytes = b ∷ c .text .bytes }; after = c .after } ∷ cs
+abbrev pub withFirst : ℕ → ℕ → List Column → List Column
+withFirst at b [] = []
+withFirst at b (c ∷ cs) = record { text = record { start = at; bytes = b ∷ c .text .bytes }; after = c .after } ∷ cs
 
 -- the byte b at a place, the last of its column
 abbrev pub lastByte : ℕ → ℕ → List ℕ → Column
@@ -32,7 +32,7 @@ unfoldable pub columnsFrom : ℕ → List ℕ → List Column
 columnsFrom at [] = []
 columnsFrom at (b ∷ bs) =
     let cs = columnsFrom (suc at) bs in
-    pick (white b) cs (pick (goesOn bs) (longer at b cs) (lastByte at b bs ∷ cs))
+    pick (white b) cs (pick (goesOn bs) (withFirst at b cs) (lastByte at b bs ∷ cs))
 
 abbrev pub columns : Text → List Column
 columns line = columnsFrom (line .start) (line .bytes)

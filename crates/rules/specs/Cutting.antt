@@ -1,5 +1,5 @@
 -- Demand 3, of a file that is cut: which sentences come first, that no others do where nothing follows, and what the sound
--- part is. Assumes nothing.
+-- part is.
 use Prim.Native.Nat.{ℕ}
 use mathlib.Core.Path.{_≡_}
 use mathlib.Core.Logic.{_⊎_}
@@ -16,10 +16,10 @@ abbrev pub endsWithin : ℕ → Handed → Bool
 endsWithin n h = leb (h .end) n
 
 -- the sentences that end within the first n bytes
-abbrev pub within : ℕ → List Handed → List Handed
-within n [] = []
-within n (h ∷ hs) =
-    let later = within n hs in
+abbrev pub endedWithin : ℕ → List Handed → List Handed
+endedWithin n [] = []
+endedWithin n (h ∷ hs) =
+    let later = endedWithin n hs in
     pick (endsWithin n h) (h ∷ later) later
 
 -- from the first byte to the end of the last sentence handed out
@@ -36,6 +36,6 @@ pub record SoundPart (f : List ℕ) : Type 0 where
 -- of a file f whose first n bytes are kept, with x behind them
 pub record CutRule (f : List ℕ) (n : ℕ) (x : List ℕ) : Type 0 where
   pub others : List Handed
-  pub first : surveyOf (take n f ++ x) .handed ≡ within n (surveyOf f .handed) ++ others
+  pub first : surveyOf (take n f ++ x) .handed ≡ endedWithin n (surveyOf f .handed) ++ others
   pub alone : x ≡ [] → others ≡ []
   pub sound : (surveyOf (take n f ++ x) .soundEnd ≡ 0) ⊎ SoundPart (take n f ++ x)

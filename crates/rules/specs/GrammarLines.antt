@@ -1,13 +1,13 @@
 -- What the lines of a file are, and what the grammar says of lists. Document 01, "Lines and bytes": a line ends with byte
--- 10; its other bytes are 9, 32 to 127 or 160 to 255. Assumes nothing.
+-- 10; its other bytes are 9, 32 to 127 or 160 to 255.
 use Prim.Native.Nat.{ℕ, _≤_}
 use mathlib.Core.Path.{_≡_}
 use mathlib.Core.Logic.{_⊎_}
 use mathlib.Core.List.{List, [], _∷_, _++_, map}
 use lib.ListN.{length}
 use Rattle.rules.specs.Lists.{Each, joined}
-use Rattle.rules.specs.Bytes.{newline, percents}
-use Rattle.rules.specs.Numbers.{lineLimit}
+use Rattle.rules.specs.GrammarNumbers.{lineBytes}
+use Rattle.rules.specs.GrammarNames.{lineEnd, commentSign}
 
 -- ---- said of lists
 
@@ -29,11 +29,11 @@ Legal b = (b ≡ 9) ⊎ ((32 ≤ b) × (b ≤ 127)) ⊎ ((160 ≤ b) × (b ≤ 2
 
 pub record LineFits (l : List ℕ) : Type 0 where
   pub legal-bytes : Each Legal l
-  pub short : length l ≤ lineLimit
+  pub short : length l ≤ lineBytes
 
 -- every line with the newline that ends it
 abbrev pub linesWritten : List (List ℕ) → List ℕ
-linesWritten ls = joined (map (λ (l : List ℕ). l ++ (newline ∷ [])) ls)
+linesWritten ls = joined (map (λ (l : List ℕ). l ++ (lineEnd ∷ [])) ls)
 
 -- white is 9 and 32 only
 abbrev pub White : ℕ → Type 0
@@ -41,7 +41,7 @@ White b = (b ≡ 9) ⊎ (b ≡ 32)
 
 -- a line of only white bytes, or one that begins with %%, is ignored wherever it stands
 abbrev pub Ignored : List ℕ → Type 0
-Ignored l = Each White l ⊎ ((rest : List ℕ) × (l ≡ percents ++ rest))
+Ignored l = Each White l ⊎ ((rest : List ℕ) × (l ≡ commentSign ++ rest))
 
 -- the lines of a file that are not ignored
 pub data Heeded : List (List ℕ) → List (List ℕ) → Type 0 where

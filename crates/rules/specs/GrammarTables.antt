@@ -1,17 +1,20 @@
 -- What a table of a file is. Document 01, "The file from top to bottom": `#BOT NAME`, rows, `#EOT NAME`; what its rows are
--- together, and which of them can be cited. Assumes nothing.
+-- together, and which of them can be cited.
 use Prim.Native.Nat.{ℕ, _≤_, _<_}
 use mathlib.Core.Path.{_≡_}
 use mathlib.Core.Logic.{_⊎_, _↔_}
 use mathlib.Core.Bool.{Bool}
+use mathlib.Core.Option.{Option, none, some}
 use mathlib.Core.List.{List, [], _∷_, _++_, map}
 use lib.ListN.{length, getD}
+use lib.Dec.{eqb}
 use Rattle.rules.specs.Lists.{pick, bytes, counting, Each}
-use Rattle.rules.specs.Numbers.{rowLimit}
-use Rattle.rules.specs.Tables.{origins, editors, wordTags, tableNames, dashes, unknown}
+use Rattle.rules.specs.GrammarNumbers.{tableRows}
+use Rattle.rules.specs.GrammarNames.{noTag, unknownTag, titles, ofOrigin, ofEditor, ofWordtag}
+use Rattle.rules.specs.GrammarContent.{RowContent}
 use Rattle.rules.specs.GrammarLines.{In, Differ}
 use Rattle.rules.specs.GrammarColumns.{Columns}
-use Rattle.rules.specs.GrammarRows.{RowLine, ids1, firsts, OriginRow, EditorRow, TagRow}
+use Rattle.rules.specs.GrammarRows.{RowLine, rowSays, ids1, firsts, OriginRow, EditorRow, TagRow}
 
 -- which of the seven tables it is, from ORIGIN, 0, to SECEDGETAG, 6; its lines
 pub record TableLines : Type 0 where
@@ -31,8 +34,8 @@ pub record InOrder (ids : List ℕ) : Type 0 where
 
 -- row -1 carries UNKNOWN, row 0 --, no other row carries either
 pub record Carries (r : RowLine) : Type 0 where
-  pub minus : r .id1 ≡ 0 ↔ r .first ≡ unknown
-  pub zero-row : r .id1 ≡ 1 ↔ r .first ≡ dashes
+  pub minus : r .id1 ≡ 0 ↔ r .first ≡ unknownTag
+  pub zero-row : r .id1 ≡ 1 ↔ r .first ≡ noTag
 
 pub record TagTable (which : ℕ) (rows : List RowLine) : Type 0 where
   pub each-row : Each (TagRow which) rows
@@ -49,14 +52,14 @@ pub record EditorTable (rows : List RowLine) : Type 0 where
   pub ids-differ : Differ (ids1 rows)
 
 pub record RowsFit (which : ℕ) (rows : List RowLine) : Type 0 where
-  pub at-most : length rows ≤ rowLimit
-  pub of-origins : which ≡ origins → OriginTable rows
-  pub of-editors : which ≡ editors → EditorTable rows
-  pub of-tags : wordTags ≤ which → TagTable which rows
+  pub at-most : length rows ≤ tableRows
+  pub of-origins : which ≡ ofOrigin → OriginTable rows
+  pub of-editors : which ≡ ofEditor → EditorTable rows
+  pub of-tags : ofWordtag ≤ which → TagTable which rows
 
 -- a keyword and the name of a table, and nothing else
 abbrev pub Names : List ℕ → ℕ → List ℕ → Type 0
-Names keyword which line = Columns line (keyword ∷ getD tableNames which [] ∷ [])
+Names keyword which line = Columns line (keyword ∷ getD titles which [] ∷ [])
 
 pub record TableFits (t : TableLines) : Type 0 where
   pub one-of-seven : t .which < 7
@@ -76,8 +79,17 @@ whiches ts = map (λ (t : TableLines). t .which) ts
 pub record TablesFit (ts : List TableLines) : Type 0 where
   pub each-table : Each TableFits ts
   pub once : Differ (whiches ts)
-  pub origin-there : In origins (whiches ts)
-  pub editor-there : In editors (whiches ts)
+  pub origin-there : In ofOrigin (whiches ts)
+  pub editor-there : In ofEditor (whiches ts)
+
+-- the rows of the table at a place, if the file has it
+abbrev pub rowsNamed : List TableLines → ℕ → Option (List RowContent)
+rowsNamed [] which = none
+rowsNamed (t ∷ ts) which = let others = rowsNamed ts which in pick (eqb (t .which) which) (some (map rowSays (t .rows))) others
+
+-- what the tables say, in the order of the seven names
+abbrev pub tablesSay : List TableLines → List (Option (List RowContent))
+tablesSay ts = map (rowsNamed ts) (counting 0 7)
 
 -- one more than an id that a row of the file's table has
 abbrev pub HasRow : List TableLines → ℕ → ℕ → Type 0
@@ -85,4 +97,4 @@ HasRow ts which id1 = (t : TableLines) × (In t ts) × (t .which ≡ which) × (
 
 -- a tag must stand in its table if the file has that table; -- and UNKNOWN always may
 abbrev pub Known : List TableLines → ℕ → List ℕ → Type 0
-Known ts which tag = (tag ≡ dashes) ⊎ (tag ≡ unknown) ⊎ ((t : TableLines) → In t ts → t .which ≡ which → In tag (firsts (t .rows)))
+Known ts which tag = (tag ≡ noTag) ⊎ (tag ≡ unknownTag) ⊎ ((t : TableLines) → In t ts → t .which ≡ which → In tag (firsts (t .rows)))

@@ -1,5 +1,5 @@
 -- Document 01, "The file from top to bottom": the keyword lines of the format and of tables, and the kinds of lines, by
--- their first column. Assumes nothing.
+-- their first column.
 use Prim.Native.Nat.{ℕ}
 use mathlib.Core.Bool.{Bool, false, not, _&&_, _||_}
 use mathlib.Core.Option.{Option, none, some}
@@ -14,6 +14,10 @@ use Rattle.rules.specs.Numbers.{formatNumber, number, good, value}
 use Rattle.rules.specs.Rules.{rule, Verdict, checked}
 use Rattle.rules.specs.Tables.{Tables, tableNamed, present}
 
+-- the formats that are read
+abbrev pub accepts : ℕ → Bool
+accepts n = eqb n 3
+
 -- #FORMAT 3
 unfoldable pub formatOf : Text → Verdict ℕ
 formatOf line =
@@ -22,7 +26,7 @@ formatOf line =
     checked
     (rule 7 line (eqb (length cs) 2)
     ∷ rule 8 (written cs 1) (good n)
-    ∷ rule 9 line (eqb (value n) 3)
+    ∷ rule 9 line (accepts (value n))
     ∷ [])
     (value n)
 

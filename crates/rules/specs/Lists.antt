@@ -1,4 +1,4 @@
--- Words for lists and choices that the rules are written in. Assumes nothing.
+-- Words for lists and choices that the rules are written in.
 use Prim.Native.Nat.{ℕ, zero, suc, _+_}
 use Prim.Native.String.{String}
 use Prim.Native.Char.{code}

@@ -1,7 +1,6 @@
--- Document 01, "Tidy text": what a file means, places and the order that doesn't count left out; two files have the
--- same tables and the same sentences if these are equal. Assumes nothing.
+-- Document 01, "Tidy text": what a file means, places and the order that doesn't count left out; the tidy text is printed
+-- from it.
 use Prim.Native.Nat.{ℕ}
-use mathlib.Core.Path.{_≡_}
 use mathlib.Core.Option.{Option, none, some}
 use mathlib.Core.List.{List, [], _∷_, map}
 use Rattle.rules.specs.Lists.{sorted}
@@ -9,7 +8,7 @@ use Rattle.rules.specs.Texts.{Text, bare}
 use Rattle.rules.specs.Tables.{Tables, Row, origins, editors, table}
 use Rattle.rules.specs.Sentences.{Edge, Node, Heading, Sentence}
 use Rattle.rules.specs.Reading.{Handed}
-use Rattle.rules.specs.Survey.{Survey, surveyOf}
+use Rattle.rules.specs.Survey.{Survey}
 
 -- ---- places don't count
 
@@ -63,6 +62,7 @@ meantTables (o ∷ e ∷ ts) = meantRows (byId o) ∷ meantRows (byId e) ∷ map
 abbrev pub meantSentence : Sentence → Sentence
 meantSentence s =
     record {
+      start = 0;
       heading = bareHeading (s .heading);
       words = map bareNode (s .words);
       phrases = map bareNode (sorted nodeNumber (s .phrases));
@@ -78,11 +78,3 @@ pub record Meaning : Type 0 where
 
 unfoldable pub meaningOf : Survey → Meaning
 meaningOf s = record { format = s .format; tables = meantTables (s .tables); sentences = meantSentences (s .handed) }
-
--- ---- two files
-
-abbrev pub SameTables : List ℕ → List ℕ → Type 0
-SameTables f g = meaningOf (surveyOf f) .tables ≡ meaningOf (surveyOf g) .tables
-
-abbrev pub SameSentences : List ℕ → List ℕ → Type 0
-SameSentences f g = meaningOf (surveyOf f) .sentences ≡ meaningOf (surveyOf g) .sentences

@@ -1,4 +1,4 @@
--- Document 01, "The file from top to bottom": words, phrases and their secondary edges, line by line. Assumes nothing.
+-- Document 01, "The file from top to bottom": words, phrases and their secondary edges, line by line.
 use Prim.Native.Nat.{ℕ, suc, _+_}
 use mathlib.Core.Bool.{Bool, true, false, not, _&&_}
 use mathlib.Core.Option.{Option}
@@ -11,23 +11,23 @@ use Rattle.rules.specs.Columns.{columns, text, fields, comment}
 use Rattle.rules.specs.Numbers.{wordLimit, edgeLimit, phraseNumber, number, parentNumber, good, value}
 use Rattle.rules.specs.Rules.{Rule, rule, Verdict, checked}
 use Rattle.rules.specs.Tables.{Tables, wordTags, morphTags, nodeTags, edgeTags, secEdgeTags, dashes, known, tagLimit}
-use Rattle.rules.specs.Sentences.{Edge, Node}
+use Rattle.rules.specs.Sentences.{Edge, Node, SoFar}
 
--- the places of the fields behind the word, or behind # and its number
-abbrev pub tagField : ℕ
-tagField = 1
+-- the places of the fields in the lines of a format, behind the word, or behind # and its number
+abbrev pub tagField : ℕ → ℕ
+tagField format = 1
 
-abbrev pub morphologyField : ℕ
-morphologyField = 2
+abbrev pub morphologyField : ℕ → ℕ
+morphologyField format = suc (tagField format)
 
-abbrev pub edgeField : ℕ
-edgeField = 3
+abbrev pub edgeField : ℕ → ℕ
+edgeField format = suc (morphologyField format)
 
-abbrev pub parentField : ℕ
-parentField = 4
+abbrev pub parentField : ℕ → ℕ
+parentField format = suc (edgeField format)
 
-abbrev pub pairsField : ℕ
-pairsField = 5
+abbrev pub pairsField : ℕ → ℕ
+pairsField format = suc (parentField format)
 
 -- any number of pairs of secondary label and secondary parent
 pub record Pair : Type 0 where
@@ -50,21 +50,21 @@ secondaryParent p = number phraseNumber (p .parent .bytes)
 abbrev pub asEdge : Pair → Edge
 asEdge p = record { label = p .label; parent = value (secondaryParent p) }
 
-module _ (fs : List Text) where
+module _ (format : ℕ) (fs : List Text) where
   abbrev pub itsTag : Text
-  itsTag = text fs tagField
+  itsTag = text fs (tagField format)
 
   abbrev pub itsMorphology : Text
-  itsMorphology = text fs morphologyField
+  itsMorphology = text fs (morphologyField format)
 
   abbrev pub itsEdge : Text
-  itsEdge = text fs edgeField
+  itsEdge = text fs (edgeField format)
 
   abbrev pub itsParent : Option ℕ
-  itsParent = parentNumber (text fs parentField .bytes)
+  itsParent = parentNumber (text fs (parentField format) .bytes)
 
   abbrev pub itsPairs : List Pair
-  itsPairs = pairs (drop pairsField fs)
+  itsPairs = pairs (drop (pairsField format) fs)
 
   abbrev pub nodeOf : ℕ → Text → Text → Node
   nodeOf its-number word its-comment =
@@ -81,13 +81,13 @@ module _ (fs : List Text) where
 
   -- 7: no column is missing, no label is without its parent
   abbrev pub shaped : Bool
-  shaped = leb pairsField (length fs) && paired (drop pairsField fs)
+  shaped = leb (pairsField format) (length fs) && paired (drop (pairsField format) fs)
 
   -- 8: a parent is 0 or 500 to 999; a secondary parent is 500 to 999
   unfoldable pub parentsWritten : List Rule
   unfolding pairs
   parentsWritten =
-      rule 8 (text fs parentField) (good itsParent) ∷ map (λ (p : Pair). rule 8 (p .parent) (good (secondaryParent p))) itsPairs
+      rule 8 (text fs (parentField format)) (good itsParent) ∷ map (λ (p : Pair). rule 8 (p .parent) (good (secondaryParent p))) itsPairs
 
   -- 10: length limits hold without a table too
   unfoldable pub tagsShort : ℕ → List Rule
@@ -112,42 +112,42 @@ module _ (fs : List Text) where
   unfoldable pub parentsRise : ℕ → List Rule
   unfolding pairs
   parentsRise its-number =
-      rule 19 (text fs parentField) (pick (eqb (value itsParent) 0) (reads dashes itsEdge) (ltb its-number (value itsParent)))
+      rule 19 (text fs (parentField format)) (pick (eqb (value itsParent) 0) (reads dashes itsEdge) (ltb its-number (value itsParent)))
       ∷ map (λ (p : Pair). rule 19 (p .parent) (ltb its-number (value (secondaryParent p)))) itsPairs
 
 -- 16: at most 512 secondary edges, of which so many stand in front of this line
-abbrev pub roomy : ℕ → List Text → Bool
-roomy edges fs = leb (edges + length (itsPairs fs)) edgeLimit
+abbrev pub roomy : ℕ → ℕ → List Text → Bool
+roomy format edges fs = leb (edges + length (itsPairs format fs)) edgeLimit
 
--- words count from 0: so many words and secondary edges stand in front of this one; a word after a phrase can't stand
-unfoldable pub wordOf : Tables → ℕ → Bool → ℕ → Text → Verdict Node
+-- words count from 0; a word after a phrase can't stand
+unfoldable pub wordOf : ℕ → Tables → SoFar → Text → Verdict Node
 unfolding pairs
-wordOf ts words no-phrase edges line =
+wordOf format ts s line =
     let fs = fields (columns line) in
     checked
-    (rule 6 line no-phrase
-    ∷ rule 7 line (shaped fs)
-    ∷ parentsWritten fs
-    ++ tagsShort fs wordTags
-    ++ (rule 16 line (ltb words wordLimit && roomy edges fs) ∷ tagsKnown fs ts wordTags)
-    ++ parentsRise fs words)
-    (nodeOf fs words (text fs 0) (comment (columns line)))
+    (rule 6 line (s .no-phrase)
+    ∷ rule 7 line (shaped format fs)
+    ∷ parentsWritten format fs
+    ++ tagsShort format fs wordTags
+    ++ (rule 16 line (ltb (s .words) wordLimit && roomy format (s .edges) fs) ∷ tagsKnown format fs ts wordTags)
+    ++ parentsRise format fs (s .words))
+    (nodeOf format fs (s .words) (text fs 0) (comment (columns line)))
 
 -- the digits behind a phrase line's #
 abbrev pub behindHash : Text → Text
 behindHash t = record { start = suc (t .start); bytes = drop 1 (t .bytes) }
 
--- phrases are numbered from 500 and come in any order; given-before tells which numbers phrases in front have
-unfoldable pub phraseOf : Tables → (ℕ → Bool) → ℕ → Text → Verdict Node
+-- phrases are numbered from 500 and come in any order
+unfoldable pub phraseOf : ℕ → Tables → SoFar → Text → Verdict Node
 unfolding pairs
-phraseOf ts given-before edges line =
+phraseOf format ts s line =
     let fs = fields (columns line) in
     let its-number = number phraseNumber (behindHash (text fs 0) .bytes) in
     checked
-    (rule 7 line (shaped fs)
+    (rule 7 line (shaped format fs)
     ∷ rule 8 (text fs 0) (good its-number)
-    ∷ parentsWritten fs
-    ++ tagsShort fs nodeTags
-    ++ (rule 16 line (roomy edges fs) ∷ rule 17 line (not (given-before (value its-number))) ∷ tagsKnown fs ts nodeTags)
-    ++ parentsRise fs (value its-number))
-    (nodeOf fs (value its-number) noText (comment (columns line)))
+    ∷ parentsWritten format fs
+    ++ tagsShort format fs nodeTags
+    ++ (rule 16 line (roomy format (s .edges) fs) ∷ rule 17 line (not (s .given-before (value its-number))) ∷ tagsKnown format fs ts nodeTags)
+    ++ parentsRise format fs (value its-number))
+    (nodeOf format fs (value its-number) noText (comment (columns line)))

@@ -1,5 +1,5 @@
 -- Document 01, "Lines and bytes": numbers are decimal, without plus or leading zeros; the only negative is -1; the
--- limits belong to the kind of number they bound. Assumes nothing.
+-- limits belong to the kind of number they bound.
 use Prim.Native.Nat.{ℕ, suc, _+_, _-_, _*_}
 use mathlib.Core.Bool.{Bool, true, false, not, _&&_}
 use mathlib.Core.Option.{Option, none, some}

@@ -1,5 +1,5 @@
 -- Document 01, "The numbers of refusal": an opening gives a sentence handed out, else 24 with sentence sheet and edge
--- list zero; it fills the table sheet and the seen set as a survey does. Assumes nothing.
+-- list zero; it fills the table sheet and the seen set as a survey does.
 use Prim.Native.Nat.{ℕ}
 use mathlib.Core.Bool.{Bool, _&&_}
 use mathlib.Core.Option.{Option, none, some}

@@ -1,5 +1,5 @@
 -- Document 01, "The numbers of refusal": a file is read byte by byte, and each line that ends takes one step; the first
--- faulty line decides. Assumes nothing.
+-- faulty line decides.
 use Prim.Native.Nat.{ℕ, suc}
 use mathlib.Core.Option.{Option, none, some}
 use mathlib.Core.List.{List, [], _∷_, _++_, map, reverse}
@@ -9,7 +9,7 @@ use Rattle.rules.specs.Bytes.{newline}
 use Rattle.rules.specs.Texts.{Text}
 use Rattle.rules.specs.Rules.{Rule, Fault, faultOf}
 use Rattle.rules.specs.Sentences.{Sentence}
-use Rattle.rules.specs.Lines.{Phase, start, behindSentence, Answer, refuse, go, hand, step, atEnd}
+use Rattle.rules.specs.Phases.{Phase, start, behindSentence, Answer, refuse, go, hand, step, atEnd}
 
 -- a sentence handed out, and the place behind its end line
 pub record Handed : Type 0 where
@@ -58,8 +58,8 @@ ended r (hand p s) =
       fault = none;
     }
 
-abbrev pub longer : Reading → ℕ → Reading
-longer r b =
+abbrev pub withByte : Reading → ℕ → Reading
+withByte r b =
     record { at = suc (r .at); lineStart = r .lineStart; part = b ∷ r .part; phase = r .phase; handed = r .handed; fault = none }
 
 abbrev pub later : Reading → Fault → Reading
@@ -67,7 +67,7 @@ later r f =
     record { at = suc (r .at); lineStart = r .lineStart; part = r .part; phase = r .phase; handed = r .handed; fault = some f }
 
 abbrev pub sound : Reading → ℕ → Reading
-sound r b = pick (eqb b newline) (ended r (step (r .phase) (numbers (r .handed)) (line r))) (longer r b)
+sound r b = pick (eqb b newline) (ended r (step (r .phase) (numbers (r .handed)) (line r))) (withByte r b)
 
 abbrev pub byteUnless : Option Fault → Reading → ℕ → Reading
 byteUnless none r b = sound r b
@@ -92,5 +92,5 @@ closingUnless none r = closing r (r .part)
 closingUnless (some f) r = f
 
 -- refusal (0 if accepted) and place (the file length if accepted)
-abbrev pub outcome : Reading → Fault
-outcome r = closingUnless (r .fault) r
+abbrev pub verdict : Reading → Fault
+verdict r = closingUnless (r .fault) r

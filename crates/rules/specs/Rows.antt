@@ -1,5 +1,5 @@
 -- Document 01, "The file from top to bottom": the rows of the tables, line by line; rs are the rows in front of the
--- line in its table. Assumes nothing.
+-- line in its table.
 use Prim.Native.Nat.{ℕ, suc}
 use mathlib.Core.Bool.{Bool, not, _&&_, _||_}
 use mathlib.Core.Option.{Option, none, some}

@@ -1,5 +1,4 @@
--- Document 01, "The numbers of refusal": the first faulty line decides, and within it the smallest number. Assumes
--- nothing.
+-- Document 01, "The numbers of refusal": the first faulty line decides, and within it the smallest number.
 use Prim.Native.Nat.{ℕ}
 use mathlib.Core.Bool.{Bool}
 use mathlib.Core.Option.{Option, none, some}

@@ -1,4 +1,4 @@
--- Document 01, "The file from top to bottom": a sentence, its beginning and its end. Assumes nothing.
+-- Document 01, "The file from top to bottom": a sentence, its beginning and its end.
 use Prim.Native.Nat.{ℕ, suc, _+_}
 use mathlib.Core.Bool.{Bool, not, _&&_, _||_}
 use mathlib.Core.List.{List, [], _∷_, _++_}
@@ -34,8 +34,9 @@ pub record Heading : Type 0 where
   pub origin : ℕ
   pub comment : Text
 
--- its words and its phrases are in file order
+-- the place of its first line; its words and its phrases are in file order
 pub record Sentence : Type 0 where
+  pub start : ℕ
   pub heading : Heading
   pub words : List Node
   pub phrases : List Node
@@ -109,9 +110,30 @@ endRules itself no-gap no-absent line =
     ∷ rule 22 line no-absent
     ∷ []
 
-unfoldable pub endOf : Sentence → Text → Verdict Sentence
+-- ---- what a line needs to know of the sentence in front of it
+
+pub record SoFar : Type 0 where
+  pub number : ℕ
+  pub words : ℕ
+  pub no-phrase : Bool
+  pub edges : ℕ
+  pub given-before : ℕ → Bool
+  pub no-gap : Bool
+  pub no-absent : Bool
+
+abbrev pub soFar : Sentence → SoFar
+soFar s =
+    record {
+      number = s .heading .number;
+      words = length (s .words);
+      no-phrase = empty (s .phrases);
+      edges = edgesOf s;
+      given-before = listed (s .phrases);
+      no-gap = gapless (s .phrases);
+      no-absent = every (parented (s .phrases)) (s .words ++ s .phrases);
+    }
+
+-- #EOS number
+unfoldable pub endOf : SoFar → Text → Verdict ℕ
 unfolding endRules
-endOf s line =
-    checked
-    (endRules (s .heading .number) (gapless (s .phrases)) (every (parented (s .phrases)) (s .words ++ s .phrases)) line)
-    s
+endOf s line = checked (endRules (s .number) (s .no-gap) (s .no-absent) line) (s .number)

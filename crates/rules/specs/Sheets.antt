@@ -1,12 +1,12 @@
--- Document 01, "The sheets". Assumes nothing.
-use Prim.Native.Nat.{ℕ, suc, _+_, _-_, _*_}
+-- Document 01, "The sheets".
+use Prim.Native.Nat.{ℕ, suc, _+_, _-_, _*_, _/_}
 use mathlib.Core.Option.{Option, none, some}
 use mathlib.Core.List.{List, [], _∷_, _++_, map}
 use lib.ListN.{length, replicate}
 use lib.Dec.{eqb}
 use Rattle.rules.specs.Lists.{pick, member, counting, joined}
 use Rattle.rules.specs.Texts.{Text}
-use Rattle.rules.specs.Numbers.{rowLimit, edgeLimit}
+use Rattle.rules.specs.Numbers.{rowLimit, edgeLimit, sentenceNumber}
 use Rattle.rules.specs.Tables.{Tables, Row, rowsOf}
 use Rattle.rules.specs.Sentences.{Edge, Node, Sentence, edgesOf}
 
@@ -20,11 +20,22 @@ span t = t .start ∷ length (t .bytes) ∷ []
 
 -- ---- the table sheet: seven counts, then for each table 256 rows of 6
 
-abbrev pub tableSheetSize : ℕ
-tableSheetSize = 10759
+abbrev pub tableCount : ℕ
+tableCount = 7
 
 abbrev pub rowWidth : ℕ
 rowWidth = 6
+
+-- the numbers that a table has room for
+abbrev pub tableRoom : ℕ
+tableRoom = rowLimit * rowWidth
+
+-- the place of row k of table n
+abbrev pub rowPlace : ℕ → ℕ → ℕ
+rowPlace n k = tableCount + tableRoom * n + rowWidth * k
+
+abbrev pub tableSheetSize : ℕ
+tableSheetSize = rowPlace tableCount 0
 
 -- 0 absent, else rows + 1
 abbrev pub count : Option (List Row) → ℕ
@@ -35,7 +46,7 @@ abbrev pub rowNumbers : Row → List ℕ
 rowNumbers r = r .id1 ∷ span (r .first) ++ span (r .second) ++ (r .flag ∷ [])
 
 unfoldable pub rowsRoom : List Row → List ℕ
-rowsRoom rs = filledUp (rowLimit * rowWidth) 0 (joined (map rowNumbers rs))
+rowsRoom rs = filledUp tableRoom 0 (joined (map rowNumbers rs))
 
 unfoldable pub tableSheet : Tables → List ℕ
 unfolding rowsRoom
@@ -44,7 +55,7 @@ tableSheet ts = map count ts ++ joined (map (λ (t : Option (List Row)). rowsRoo
 -- ---- the seen set: number n is bit n mod 8 (bit 0 weighs 1) of byte n / 8
 
 abbrev pub seenSetSize : ℕ
-seenSetSize = 8192
+seenSetSize = suc (sentenceNumber .highest) / 8
 
 -- a bit and those behind it, each weighing twice the one before
 abbrev pub weighed : List ℕ → List ℕ → ℕ
@@ -59,14 +70,25 @@ seenSet ns = map (seenByte ns) (counting 0 seenSetSize)
 
 -- ---- the sentence sheet: nine numbers, then 1,000 node records of 11 at the node's number
 
-abbrev pub sentenceSheetSize : ℕ
-sentenceSheetSize = 11009
+abbrev pub leadingCount : ℕ
+leadingCount = 9
 
 abbrev pub nodeRoom : ℕ
 nodeRoom = 1000
 
 abbrev pub nodeWidth : ℕ
 nodeWidth = 11
+
+-- the place of a field of a node's record: 0 for the word's start, to 10 for the comment's length
+abbrev pub fieldPlace : ℕ → ℕ → ℕ
+fieldPlace field node = leadingCount + (nodeWidth * node + field)
+
+-- the field that the parent stands in
+abbrev pub parentOffset : ℕ
+parentOffset = 8
+
+abbrev pub sentenceSheetSize : ℕ
+sentenceSheetSize = fieldPlace 0 nodeRoom
 
 abbrev pub nodes : Sentence → List Node
 nodes s = s .words ++ s .phrases

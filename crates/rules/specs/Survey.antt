@@ -1,5 +1,5 @@
 -- Document 01, "What the library does" and "The numbers of refusal": what a survey answers, and what the buffers lent
--- to it then hold. Assumes nothing.
+-- to it then hold.
 use Prim.Native.Nat.{ℕ}
 use mathlib.Core.Bool.{Bool, _&&_}
 use mathlib.Core.List.{List, [], _∷_}
@@ -8,11 +8,15 @@ use lib.Dec.{leb, eqb}
 use Rattle.rules.specs.Lists.{pick}
 use Rattle.rules.specs.Numbers.{fileLimit}
 use Rattle.rules.specs.Tables.{Tables, noTables}
-use Rattle.rules.specs.Lines.{formatAt, tablesAt}
-use Rattle.rules.specs.Reading.{Handed, Reading, begin, read, outcome, numbers}
+use Rattle.rules.specs.Phases.{formatAt, tablesAt}
+use Rattle.rules.specs.Reading.{Handed, Reading, begin, read, verdict, numbers}
 use Rattle.rules.specs.Sheets.{tableSheetSize, tableSheet, seenSetSize, seenSet}
 
 -- ---- what a file is read as
+
+-- the file is no longer than the limit
+abbrev pub fileFits : List ℕ → Bool
+fileFits file = leb (length file) fileLimit
 
 -- the end of the last sentence handed out, or 0
 abbrev pub lastEnd : List Handed → ℕ
@@ -31,8 +35,8 @@ pub record Survey : Type 0 where
 abbrev pub answered : Reading → Survey
 answered r =
     record {
-      refusal = outcome r .number;
-      place = outcome r .place;
+      refusal = verdict r .number;
+      place = verdict r .place;
       handed = r .handed;
       soundEnd = lastEnd (r .handed);
       format = formatAt (r .phase);
@@ -43,7 +47,7 @@ abbrev pub nothingRead : ℕ → Survey
 nothingRead n = record { refusal = n; place = 0; handed = []; soundEnd = 0; format = 0; tables = noTables }
 
 unfoldable pub surveyOf : List ℕ → Survey
-surveyOf file = pick (leb (length file) fileLimit) (answered (read begin file)) (nothingRead 2)
+surveyOf file = pick (fileFits file) (answered (read begin file)) (nothingRead 2)
 
 -- ---- with lent buffers: 1 comes first, then 2; after either no buffer has changed
 
@@ -65,10 +69,6 @@ pub record SurveyOutcome : Type 0 where
 -- the table sheet and the seen set have their fixed sizes
 abbrev pub sheetsFit : List ℕ → List ℕ → Bool
 sheetsFit tables seen = eqb (length tables) tableSheetSize && eqb (length seen) seenSetSize
-
--- the file is no longer than the limit
-abbrev pub fileFits : List ℕ → Bool
-fileFits file = leb (length file) fileLimit
 
 unfoldable pub afterSurvey : List ℕ → List ℕ → List ℕ → SurveyOutcome
 afterSurvey file tables seen =

@@ -1,4 +1,4 @@
--- Document 01, "The file from top to bottom": the seven tables, and which tags are known. Assumes nothing.
+-- Document 01, "The file from top to bottom": the seven tables, and which tags are known.
 use Prim.Native.Nat.{ℕ, suc}
 use mathlib.Core.Bool.{Bool, true, false, not, _||_}
 use mathlib.Core.Option.{Option, none, some}

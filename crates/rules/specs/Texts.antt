@@ -1,5 +1,5 @@
 -- A text of the file: its place and its bytes. Document 01, "The file from top to bottom": names, comments and
--- descriptions lose white bytes at both ends; "The sheets": an absent text is 0, 0. Assumes nothing.
+-- descriptions lose white bytes at both ends; "The sheets": an absent text is 0, 0.
 use Prim.Native.Nat.{ℕ, suc}
 use mathlib.Core.Bool.{Bool, not, _&&_}
 use mathlib.Core.List.{List, [], _∷_}

@@ -1,4 +1,4 @@
--- Document 01, "Tidy text". Assumes nothing.
+-- Document 01, "Tidy text".
 use Prim.Native.Nat.{ℕ, zero, suc, _+_, _-_, _/_, _%_}
 use mathlib.Core.Bool.{Bool}
 use mathlib.Core.Option.{Option, none, some}

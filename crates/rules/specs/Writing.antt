@@ -1,5 +1,5 @@
 -- Document 01, "The numbers of refusal": what a writing answers, and what the buffers lent to it then hold: a refused
--- writing changes nothing in the output, a granted one only its first bytes. Assumes nothing.
+-- writing changes nothing in the output, a granted one only its first bytes.
 use Prim.Native.Nat.{ℕ}
 use mathlib.Core.Bool.{Bool, _&&_}
 use mathlib.Core.List.{List, [], _∷_, _++_}
@@ -21,7 +21,7 @@ tidyOf file = tidyText (meaningOf (surveyOf file))
 pub record Written : Type 0 where
   pub refusal : ℕ
   pub place : ℕ
-  pub length : ℕ
+  pub written : ℕ
 
 pub record WritingOutcome : Type 0 where
   pub answer : Written
@@ -36,9 +36,9 @@ abbrev pub writingAnswer : List ℕ → List ℕ → Written
 writingAnswer file output =
     pick (eqb (surveyOf file .refusal) 0)
     (pick (leb (length (tidyOf file)) (length output) && leb (length (tidyOf file)) fileLimit)
-    (record { refusal = 0; place = length file; length = length (tidyOf file) })
-    (record { refusal = 25; place = length file; length = 0 }))
-    (record { refusal = surveyOf file .refusal; place = surveyOf file .place; length = 0 })
+    (record { refusal = 0; place = length file; written = length (tidyOf file) })
+    (record { refusal = 25; place = length file; written = 0 }))
+    (record { refusal = surveyOf file .refusal; place = surveyOf file .place; written = 0 })
 
 abbrev pub writtenOver : List ℕ → List ℕ → List ℕ
 writtenOver text output = text ++ drop (length text) output
@@ -58,5 +58,5 @@ afterWriting file tables seen sheet edges output =
       edges = noEdges;
       output = outputAfter file output;
     })
-    (record { answer = record { refusal = 2; place = 0; length = 0 }; tables = tables; seen = seen; sheet = sheet; edges = edges; output = output }))
-    (record { answer = record { refusal = 1; place = 0; length = 0 }; tables = tables; seen = seen; sheet = sheet; edges = edges; output = output })
+    (record { answer = record { refusal = 2; place = 0; written = 0 }; tables = tables; seen = seen; sheet = sheet; edges = edges; output = output }))
+    (record { answer = record { refusal = 1; place = 0; written = 0 }; tables = tables; seen = seen; sheet = sheet; edges = edges; output = output })
