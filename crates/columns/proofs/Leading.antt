@@ -1,5 +1,5 @@
 -- Laws of the leading bytes that pass a test: seen from the place that a loop has come to, and as a run with what stands
--- behind it. By one step along the bytes. Assumes nothing.
+-- behind it. By one step along the bytes.
 use Prim.Native.Nat.{ℕ, suc, _+_, _≤_, _<_, suc-le-suc}
 use native.Mathlib.Nat.{add-zero, add-suc, suc-add}
 use native.Mathlib.Numerals.{add-one}

@@ -1,2 +1,11 @@
 pub mod Leading
 pub mod Steps
+pub mod Twice
+pub mod Splices
+pub mod Shifts
+pub mod Stands
+pub mod Walks
+pub mod Trimming
+pub mod ListedColumns
+pub mod FieldColumns
+pub mod FirstBytes

@@ -1,5 +1,5 @@
 -- What a step of the cursor says of the line's columns: where it finds none there are none, and a column that it finds is
--- the first of them. By the two runs that it passes. Assumes nothing.
+-- the first of them. By the two runs that it passes.
 use Prim.Native.Nat.{ℕ, suc, _+_, _-_, _≤_, _<_}
 use native.Mathlib.Nat.{add-sub-cancel-left}
 use native.Mathlib.Omega.{arith}

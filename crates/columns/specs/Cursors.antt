@@ -1,5 +1,5 @@
 -- What a cursor finds. Document 01, "Lines and bytes": a column place is a value, and each step hands back the advanced
--- place; "The numbers of refusal": 7, a column is missing. Assumes nothing.
+-- place.
 use Prim.Native.Nat.{ℕ, _+_}
 use mathlib.Core.List.{List, [], _∷_}
 use lib.ListN.{length, drop}
@@ -17,8 +17,3 @@ firstOf (c ∷ cs) =
 -- the next column from a place on, in the file up to the line's end
 unfoldable pub columnAt : List ℕ → ℕ → Column
 columnAt head at = firstOf (lines.columnsFrom at (drop at head))
-
--- the number of refusal; 0 is none
-abbrev pub refusalOf : Column → ℕ
-refusalOf (Found start end next) = 0
-refusalOf Missing = 7

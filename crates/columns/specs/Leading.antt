@@ -1,5 +1,4 @@
 -- How far a run of like bytes goes. Document 01, "Lines and bytes": a column is a run of bytes that aren't white.
--- Assumes nothing.
 use Prim.Native.Nat.{ℕ, suc}
 use mathlib.Core.Bool.{Bool, not}
 use mathlib.Core.List.{List, [], _∷_}

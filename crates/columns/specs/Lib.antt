@@ -1,2 +1,4 @@
 pub mod Leading
 pub mod Cursors
+pub mod Splices
+pub mod Listing

@@ -1,10 +1,13 @@
 // The columns of a line, found one by one: a column is a run of bytes that aren't white. A cursor is a place by value,
 // and each step hands back the next one.
+pub mod listing;
 pub mod reader;
 
 ghost use mathlib.Core.Path.{_≡_};
+ghost use mathlib.Core.List.{[], _∷_};
 ghost use Prim.Native.Nat.{_+_};
 ghost use lib.ListN.{drop};
+ghost use Rattle.rules.specs.Lists.{same};
 ghost use Rattle.rules.specs.Bytes.{classTable, white};
 ghost use Rattle.columns.specs.Leading.{leading, solid};
 ghost use Rattle.columns.specs.Cursors.{columnAt};
@@ -16,7 +19,7 @@ pub fn is_white(b: u8, classes: &[u8; 256]) -> bool
     requires { ⌜ now classes ≡ classTable ⌝ }
     ensures { λ r. ⌜ r ≡ white b ⌝ }
 {
-    classes::class_of(classes, b) == WHITE
+    classes[b as usize] == WHITE
 }
 
 // The first place from `at` on that has no white byte.
@@ -49,6 +52,19 @@ pub fn skip_column(head: &[u8], at: usize, classes: &[u8; 256]) -> usize
     end
 }
 
+// Two bytes, both b, as -- and %% are.
+pub fn is_twice(text: &[u8], b: u8) -> bool
+    ensures { λ r. ⌜ r ≡ same (now (text .entry)) (b ∷ b ∷ []) ⌝ }
+{
+    if text.len() != 2 {
+        return false;
+    }
+    if text[0] != b {
+        return false;
+    }
+    text[1] == b
+}
+
 pub struct Cursor {
     pub at: usize,
 }
@@ -70,7 +86,7 @@ impl Cursor {
         Cursor { at }
     }
 
-    // `head` is the file up to the line's end.
+    // `head` is the line.
     pub fn next(self, head: &[u8], classes: &[u8; 256]) -> Column
         requires { ⌜ now classes ≡ classTable ⌝ }
         ensures { λ r. ⌜ r ≡ columnAt (now (head .entry)) (self .at) ⌝ }

@@ -1,27 +1,36 @@
-// The reader of a line's columns holds the line and the place in it. The cursor does the work.
+// The reader of a line's columns holds the line and the place in it: it is made once a line, and walks all its columns.
 ghost use mathlib.Core.Path.{_≡_};
+ghost use Prim.Native.Nat.{_+_, _≤_};
+ghost use lib.ListN.{length, drop};
 ghost use Rattle.rules.specs.Bytes.{classTable};
-ghost use Rattle.columns.specs.Cursors.{columnAt};
-use crate::Column;
-use crate::Cursor;
+ghost use Rattle.rules.specs.Numbers.{lineLimit, fileLimit};
+ghost use Rattle.rules.specs.Columns.{columnsFrom};
+ghost use Rattle.columns.specs.Splices.{splice};
+ghost use Rattle.columns.specs.Listing.{placesOf};
+use crate::listing::walk_columns;
 
-// `head` is the file up to the line's end, `at` the place in it.
 pub struct Reader<'a> {
-    pub head: &'a [u8],
+    pub line: &'a [u8],
     pub at: usize,
 }
 
-pub fn next_column<'a>(reader: Reader<'a>, classes: &[u8; 256]) -> Column
-    requires { ⌜ now classes ≡ classTable ⌝ }
-    ensures { λ r. ⌜ r ≡ columnAt (now (reader .entry .head)) (reader .entry .at) ⌝ }
+// All columns from the reader's place on. The line starts at `start` in the file.
+pub fn all_columns<'a>(
+    reader: Reader<'a>,
+    start: usize,
+    classes: &[u8; 256],
+    places: &mut [u32],
+) -> usize
+    requires { ⌜ (now classes ≡ classTable) × (length (now (reader .line)) ≤ lineLimit) × (start + length (now (reader .line)) ≤ fileLimit) × (reader .at ≤ length (now (reader .line))) × (length (now places) ≡ 4096) ⌝ }
+    ensures { λ r. ⌜ (r ≡ length (columnsFrom (start + reader .entry .at) (drop (reader .entry .at) (now (reader .entry .line))))) × (now (places .exit) ≡ splice 0 (placesOf (columnsFrom (start + reader .entry .at) (drop (reader .entry .at) (now (reader .entry .line))))) (now (places .entry))) ⌝ }
 {
-    Cursor::new(reader.at).next(reader.head, classes)
+    walk_columns(reader.line, reader.at, start, classes, places)
 }
 
 // No reader among the parameters, so that callers need no proof by hand.
-pub fn column_at(head: &[u8], at: usize, classes: &[u8; 256]) -> Column
-    requires { ⌜ now classes ≡ classTable ⌝ }
-    ensures { λ r. ⌜ r ≡ columnAt (now (head .entry)) at ⌝ }
+pub fn list_columns(line: &[u8], start: usize, classes: &[u8; 256], places: &mut [u32]) -> usize
+    requires { ⌜ (now classes ≡ classTable) × (length (now line) ≤ lineLimit) × (start + length (now line) ≤ fileLimit) × (length (now places) ≡ 4096) ⌝ }
+    ensures { λ r. ⌜ (r ≡ length (columnsFrom start (now (line .entry)))) × (now (places .exit) ≡ splice 0 (placesOf (columnsFrom start (now (line .entry)))) (now (places .entry))) ⌝ }
 {
-    next_column(Reader { head, at }, classes)
+    all_columns(Reader { line, at: 0 }, start, classes, places)
 }

@@ -1,6 +1,6 @@
 pub mod Outcomes
-pub mod Accepted
 pub mod SentenceNumbers
+pub mod Accepted
+pub mod TidySurveyed
 pub mod CutSurveyed
 pub mod Records
-pub mod TidySurveyed

@@ -1,5 +1,5 @@
--- The promise of survey leaves no second outcome; refusals 1 and 2 change nothing; what buffers held before never shows.
--- By the three cases of afterSurvey. Assumes nothing.
+-- What the contract of survey says leaves no second outcome; refusals 1 and 2 change nothing; what buffers held before never
+-- shows. By the three cases of afterSurvey. The functions of src/ have Met from the contract of the survey they call.
 use Prim.Native.Nat.{ℕ, _≤_, _<_}
 use mathlib.Core.Path.{_≡_, sym, ap, ap₂, _∙_}
 use mathlib.Core.Bool.{true, false}
@@ -11,7 +11,11 @@ use Rattle.rules.specs.Reading.{numbers}
 use Rattle.rules.specs.Sheets.{tableSheet, seenSet}
 use Rattle.rules.specs.Survey.{SurveyOutcome, surveyOf, told, nothingRead, sheetsFit, afterSurvey}
 use Rattle.survey.specs.Promise.{outcome, numbersOf}
-use Rattle.demands.specs.Surveying.{Surveying, Sized, SameOutcome, Untouched}
+use Rattle.demands.specs.Surveying.{Surveying, Readable, SameOutcome, Untouched}
+
+-- the outcome of a call is what the rules say
+abbrev pub Met : Surveying → Type 0
+Met c = outcome (c .answer) (c .tablesLeft) (c .seenLeft) ≡ afterSurvey (c .file) (c .tables) (c .seen)
 
 -- ---- afterSurvey, case by case
 
@@ -34,8 +38,7 @@ module _ (f tables seen : List ℕ) where
 
 -- ---- an outcome tells what was answered and left
 
-same-outcome : {f g : List ℕ} (c : Surveying f) (d : Surveying g)
-    → outcome (c .answer) (c .tablesLeft) (c .seenLeft) ≡ outcome (d .answer) (d .tablesLeft) (d .seenLeft) → SameOutcome c d
+same-outcome : (c d : Surveying) → outcome (c .answer) (c .tablesLeft) (c .seenLeft) ≡ outcome (d .answer) (d .tablesLeft) (d .seenLeft) → SameOutcome c d
 same-outcome c d e =
     record {
       answer = ap (λ (o : SurveyOutcome). numbersOf (o .answer)) e;
@@ -44,27 +47,32 @@ same-outcome c d e =
     }
 
 -- for the same file and the same buffers lent there is one outcome
-pub only-outcome : {f : List ℕ} (c d : Surveying f) → c .tables ≡ d .tables → c .seen ≡ d .seen → SameOutcome c d
-only-outcome {f = f} c d t s = same-outcome c d (c .promise ∙ ap₂ (afterSurvey f) t s ∙ sym (d .promise))
+pub only-outcome : (c d : Surveying) → Met c → Met d → c .file ≡ d .file → c .tables ≡ d .tables → c .seen ≡ d .seen → SameOutcome c d
+only-outcome c d p q f t s =
+    same-outcome c d
+    (p ∙ ap (λ (l : List ℕ). afterSurvey l (c .tables) (c .seen)) f ∙ ap₂ (λ (t s : List ℕ). afterSurvey (d .file) t s) t s ∙ sym q)
 
 -- whatever buffers of the right size held before
-pub old-never-shows : {f : List ℕ} (c d : Surveying f) → Sized c → Sized d → length f ≤ fileLimit → SameOutcome c d
-old-never-shows {f = f} c d k l h =
-    same-outcome c d (c .promise ∙ after-read f (c .tables) (c .seen) k h ∙ sym (d .promise ∙ after-read f (d .tables) (d .seen) l h))
+pub old-never-shows : (c d : Surveying) → Met c → Met d → c .file ≡ d .file → Readable (c .file) (c .tables) (c .seen) → Readable (d .file) (d .tables) (d .seen) → SameOutcome c d
+old-never-shows c d p q f k l =
+    same-outcome c d
+    (p ∙ after-read (c .file) (c .tables) (c .seen) (k .sized) (k .short)
+    ∙ ap (λ (g : List ℕ). record { answer = told (surveyOf g); tables = tableSheet (surveyOf g .tables); seen = seenSet (numbers (surveyOf g .handed)) }) f
+    ∙ sym (q ∙ after-read (d .file) (d .tables) (d .seen) (l .sized) (l .short)))
 
 -- ---- 1 and 2
 
-untouched : {f : List ℕ} (c : Surveying f) (n : ℕ)
-    → afterSurvey f (c .tables) (c .seen) ≡ record { answer = told (nothingRead n); tables = c .tables; seen = c .seen } → Untouched c n
-untouched c n e =
+untouched : (c : Surveying) (n : ℕ) → Met c
+    → afterSurvey (c .file) (c .tables) (c .seen) ≡ record { answer = told (nothingRead n); tables = c .tables; seen = c .seen } → Untouched c n
+untouched c n p e =
     record {
-      answer = ap (λ (o : SurveyOutcome). numbersOf (o .answer)) (c .promise ∙ e);
-      tables = ap (λ (o : SurveyOutcome). o .tables) (c .promise ∙ e);
-      seen = ap (λ (o : SurveyOutcome). o .seen) (c .promise ∙ e);
+      answer = ap (λ (o : SurveyOutcome). numbersOf (o .answer)) (p ∙ e);
+      tables = ap (λ (o : SurveyOutcome). o .tables) (p ∙ e);
+      seen = ap (λ (o : SurveyOutcome). o .seen) (p ∙ e);
     }
 
-pub wrong-size : {f : List ℕ} (c : Surveying f) → sheetsFit (c .tables) (c .seen) ≡ false → Untouched c 1
-wrong-size {f = f} c e = untouched c 1 (after-wrong-size f (c .tables) (c .seen) e)
+pub wrong-size : (c : Surveying) → Met c → sheetsFit (c .tables) (c .seen) ≡ false → Untouched c 1
+wrong-size c p e = untouched c 1 p (after-wrong-size (c .file) (c .tables) (c .seen) e)
 
-pub too-long : {f : List ℕ} (c : Surveying f) → Sized c → fileLimit < length f → Untouched c 2
-too-long {f = f} c k h = untouched c 2 (after-too-long f (c .tables) (c .seen) k h)
+pub too-long : (c : Surveying) → Met c → sheetsFit (c .tables) (c .seen) ≡ true → fileLimit < length (c .file) → Untouched c 2
+too-long c p k h = untouched c 2 p (after-too-long (c .file) (c .tables) (c .seen) k h)

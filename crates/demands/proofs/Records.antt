@@ -1,5 +1,5 @@
 -- Demand 3, unchanged records: what ends within the cut is opened alike from the whole file and from what was restored,
--- number by number and place by place. From the cut rule, and from what an opening finds first. Assumes nothing.
+-- number by number and place by place. From the cut rule, and from what an opening finds first.
 use Prim.Native.Nat.{ℕ, _≤_}
 use mathlib.Core.Path.{_≡_, ap, _∙_, subst}
 use mathlib.Core.Bool.{true}
@@ -13,7 +13,7 @@ use Rattle.rules.specs.Reading.{Handed}
 use Rattle.rules.specs.Sheets.{EdgeRecord}
 use Rattle.rules.specs.Survey.{surveyOf}
 use Rattle.rules.specs.Opening.{sentenceOf, Opened, opened, allFit, afterOpening}
-use Rattle.rules.specs.Cutting.{within}
+use Rattle.rules.specs.Cutting.{endedWithin}
 use Rattle.rules.proofs.EachElement.{each-then}
 use Rattle.rules.proofs.Sorting.{Distinct}
 use Rattle.rules.proofs.CutRule.{cut-rule}
@@ -46,9 +46,9 @@ found-opens f k s h found =
 
 module _ (f : List ℕ) (n : ℕ) (x : List ℕ) (h : n ≤ length f) (k : length f ≤ fileLimit) (m : length (take n f ++ x) ≤ fileLimit) where
   -- the sentence of a number, if it ends within the cut
-  pub records-unchanged : (i : ℕ) (s : Sentence) → sentenceOf i (within n (surveyOf f .handed)) ≡ some s → Opens f i s × Opens (take n f ++ x) i s
+  pub records-unchanged : (i : ℕ) (s : Sentence) → sentenceOf i (endedWithin n (surveyOf f .handed)) ≡ some s → Opens f i s × Opens (take n f ++ x) i s
   records-unchanged i s e =
-      let hs = within n (surveyOf f .handed) in
+      let hs = endedWithin n (surveyOf f .handed) in
       let w = front f n h k in
       let c = cut-rule f n x h k m in (
         found-opens f i s k (ap (sentenceOf i) (w .first) ∙ found-front i s hs (w .others) e),
@@ -58,7 +58,7 @@ module _ (f : List ℕ) (n : ℕ) (x : List ℕ) (h : n ≤ length f) (k : lengt
   -- each sentence that ends within the cut, by its own number
   pub each-unchanged : Unchanged f n x
   each-unchanged =
-      let hs = within n (surveyOf f .handed) in
+      let hs = endedWithin n (surveyOf f .handed) in
       let w = front f n h k in
       each-then (λ (g : Handed). sentenceOf (numberOf g) hs ≡ some (g .sentence))
       (λ (g : Handed). Opens f (numberOf g) (g .sentence) × Opens (take n f ++ x) (numberOf g) (g .sentence))

@@ -1,5 +1,5 @@
 -- The numbers of the sentences handed out, of any file: they differ and are in their range, so each sentence is found by its
--- number, and its number is in the seen set. By one step along the sentences. Assumes nothing.
+-- number, and its number is in the seen set. By one step along the sentences.
 use Prim.Native.Nat.{ℕ, _≤_}
 use native.Mathlib.Omega.{arith}
 use mathlib.Core.Path.{_≡_, refl, sym, _∙_, subst}
@@ -12,7 +12,7 @@ use borrow.Author.Tests.{eq-eqb, ne-eqb}
 use Rattle.rules.specs.Lists.{pick, member, Each}
 use Rattle.rules.specs.Numbers.{fileLimit}
 use Rattle.rules.specs.Sentences.{Sentence}
-use Rattle.rules.specs.Lines.{Phase, start, top, inTable, inSentence, behindSentence}
+use Rattle.rules.specs.Phases.{Phase, start, top, inTable, inSentence, behindSentence}
 use Rattle.rules.specs.Reading.{Handed, begin, read, numbers}
 use Rattle.rules.specs.Sheets.{seenSet}
 use Rattle.rules.specs.Survey.{Survey, answered, nothingRead, surveyOf}

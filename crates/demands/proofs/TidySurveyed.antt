@@ -1,7 +1,7 @@
 -- Demand 2, the round trip carried to survey: the tidy text of an accepted file is accepted, and the same sentences are
--- counted and seen. Files with the same sentences have as many, of the same numbers. Assumes nothing.
+-- counted and seen. Files with the same sentences have as many, of the same numbers.
 use Prim.Native.Nat.{ℕ, _+_, _*_, _≤_}
-use mathlib.Core.Path.{_≡_, refl, sym, ap, ap₂, _∙_}
+use mathlib.Core.Path.{_≡_, refl, sym, ap, ap₂, _∙_, subst}
 use mathlib.Core.Bool.{Bool}
 use mathlib.Core.List.{List, [], _∷_, map}
 use lib.ListN.{length}
@@ -12,16 +12,18 @@ use Rattle.rules.specs.Sentences.{Sentence}
 use Rattle.rules.specs.Reading.{Handed, numbers}
 use Rattle.rules.specs.Sheets.{seenSetSize, weighed, seenByte, seenSet}
 use Rattle.rules.specs.Survey.{surveyOf}
-use Rattle.rules.specs.Meaning.{Meaning, sentenceNumberOf, meantSentence, meantSentences, meaningOf, SameSentences}
+use Rattle.rules.specs.Meaning.{sentenceNumberOf, meantSentence, meantSentences, meaningOf}
+use Rattle.rules.specs.Same.{SameSentences, SameMeaning}
 use Rattle.rules.specs.Writing.{tidyOf}
 use Rattle.rules.proofs.Elements.{any-map}
 use Rattle.rules.proofs.SaidOfLists.{length-map}
 use Rattle.rules.proofs.Sorting.{any-sorted, length-sorted}
-use Rattle.rules.proofs.AcceptedExactly.{accepted-exactly}
+use Rattle.rules.proofs.SameMeaning.{same-sentences}
 use Rattle.rules.proofs.RoundTrip.{round-trip}
-use Rattle.demands.specs.Surveying.{Surveying, Sized}
+use Rattle.demands.specs.Surveying.{Surveying, Readable}
 use Rattle.demands.specs.Tidying.{TidyAlike}
-use Rattle.demands.proofs.Accepted.{accepted-by-survey, handed-by-survey}
+use Rattle.demands.proofs.Outcomes.{Met}
+use Rattle.demands.proofs.Accepted.{handed-by-survey}
 
 -- ---- a seen set is made of what is a member
 
@@ -62,23 +64,20 @@ module _ (hs gs : List Handed) (same : meantSentences hs ≡ meantSentences gs) 
 
 same-handed : (f g : List ℕ) → SameSentences f g → meantSentences (surveyOf f .handed) ≡ meantSentences (surveyOf g .handed)
 unfolding meaningOf
-same-handed f g e = e
+same-handed f g s = same-sentences f g .1 s
 
-pub tidy-by-survey : {f : List ℕ} (c : Surveying f) (tidy : Surveying (tidyOf f)) → Sized c → Sized tidy → c .answer .refusal ≡ 0
-    → length (tidyOf f) ≤ fileLimit → TidyAlike c tidy
-tidy-by-survey {f = f} c tidy k l e fits =
-    let good = accepted-by-survey c k .0 e in
-    let back = round-trip f (accepted-exactly f .1 good) fits in
-    let sentences : SameSentences (tidyOf f) f = ap (λ (m : Meaning). m .sentences) (back .1) in
-    let same = same-handed (tidyOf f) f sentences in
-    let whole = handed-by-survey c k (good .short) in
-    let again = handed-by-survey tidy l fits in
-    let hs = surveyOf (tidyOf f) .handed in
+pub tidy-by-survey : (f : List ℕ) (tidy : Surveying) → Met tidy → surveyOf f .refusal ≡ 0 → tidy .file ≡ tidyOf f
+    → Readable (tidy .file) (tidy .tables) (tidy .seen) → TidyAlike f tidy
+tidy-by-survey f tidy p e of-f k =
+    let fits : length (tidyOf f) ≤ fileLimit = subst (λ (l : List ℕ). length l ≤ fileLimit) of-f (k .short) in
+    let back = subst (λ (l : List ℕ). (surveyOf l .refusal ≡ 0) × SameMeaning l f) (sym of-f) (round-trip f e fits) in
+    let same = same-handed (tidy .file) f (back .1 .sentences) in
+    let again = handed-by-survey tidy p k in
+    let hs = surveyOf (tidy .file) .handed in
     let gs = surveyOf f .handed in
     record {
       accepted = again .refusal ∙ back .0;
-      sameTables = ap (λ (m : Meaning). m .tables) (back .1);
-      sameSentences = sentences;
-      sentences = again .sentences ∙ count-alike hs gs same ∙ sym (whole .sentences);
-      seen = again .seen ∙ seen-alike (numbers hs) (numbers gs) (members-alike hs gs same) ∙ sym (whole .seen);
+      sameMeaning = back .1;
+      sentences = again .sentences ∙ count-alike hs gs same;
+      seen = again .seen ∙ seen-alike (numbers hs) (numbers gs) (members-alike hs gs same);
     }

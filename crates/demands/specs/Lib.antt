@@ -1,4 +1,5 @@
 pub mod Surveying
+pub mod Accepting
+pub mod Tidying
 pub mod Cutting
 pub mod Opening
-pub mod Tidying

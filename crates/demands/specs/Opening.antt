@@ -1,5 +1,5 @@
 -- What is said of an opening: that it gives a sentence, with its sheet and its list, whatever buffers of the right size held;
--- and demand 3, that records are unchanged. Assumes nothing.
+-- and demand 3, that records are unchanged.
 use Prim.Native.Nat.{ℕ}
 use mathlib.Core.Path.{_≡_}
 use mathlib.Core.Bool.{true}
@@ -12,7 +12,7 @@ use Rattle.rules.specs.Reading.{Handed}
 use Rattle.rules.specs.Sheets.{sentenceSheet, EdgeRecord, edgeList}
 use Rattle.rules.specs.Survey.{surveyOf}
 use Rattle.rules.specs.Opening.{sentenceOf, Opened, allFit, afterOpening}
-use Rattle.rules.specs.Cutting.{within}
+use Rattle.rules.specs.Cutting.{endedWithin}
 use Rattle.demands.specs.Surveying.{numberOf}
 
 -- this outcome gives the sentence s
@@ -30,4 +30,4 @@ pub record Opens (f : List ℕ) (k : ℕ) (s : Sentence) : Type 0 where
 -- each sentence that ends within the first n bytes of f is opened alike from f and from these bytes with x behind them
 abbrev pub Unchanged : List ℕ → ℕ → List ℕ → Type 0
 Unchanged f n x =
-    Each (λ (h : Handed). Opens f (numberOf h) (h .sentence) × Opens (take n f ++ x) (numberOf h) (h .sentence)) (within n (surveyOf f .handed))
+    Each (λ (h : Handed). Opens f (numberOf h) (h .sentence) × Opens (take n f ++ x) (numberOf h) (h .sentence)) (endedWithin n (surveyOf f .handed))

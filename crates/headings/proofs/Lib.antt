@@ -1,11 +1,3 @@
-pub mod Refusals
-pub mod TableLines
-pub mod ToldTables
-pub mod ColumnSteps
-pub mod Comments
-pub mod GoodNumbers
-pub mod HeadingLines
-pub mod WholeHeadings
-pub mod ToldHeadings
-pub mod EndLines
-pub mod ToldEnds
+pub mod BosLines
+pub mod ColumnNumbers
+pub mod EosLines

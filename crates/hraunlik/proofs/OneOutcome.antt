@@ -1,5 +1,5 @@
 -- The promise of `hraunlik_survey` leaves no second outcome: two that meet it, from the same file and buffers, are the
--- same in every number and every entry. By the fields of one equation. Assumes nothing.
+-- same in every number and every entry. By the fields of one equation.
 use Prim.Native.Nat.{ℕ}
 use mathlib.Core.Path.{_≡_, sym, ap, _∙_}
 use mathlib.Core.List.{List}

@@ -1,5 +1,5 @@
 -- What a caller in another language has after a survey: the refusal, the three numbers lent and the two buffers, as
--- one outcome of rules/Survey. Assumes nothing.
+-- one outcome of rules/Survey.
 use Prim.Native.Nat.{ℕ}
 use mathlib.Core.List.{List}
 use Rattle.rules.specs.Survey.{SurveyOutcome}

@@ -1,4 +1,4 @@
--- What the end found of a line tells of its bytes: laws that callers cite, by cases on what was found. Assumes nothing.
+-- What the end found of a line tells of its bytes: laws that callers cite, by cases on what was found.
 use mathlib.Core.Path.{_≡_, refl, sym, ap, _∙_, subst}
 use mathlib.Core.Bool.{Bool, true, false, _||_}
 use mathlib.Core.List.{List, [], _∷_, _++_}

@@ -1,5 +1,5 @@
 -- What is still to be found of a line, from a place within it on: the same at every place, so that the walk along the
--- line finds what the line's start asks for. Assumes nothing.
+-- line finds what the line's start asks for.
 use mathlib.Core.Path.{_≡_, sym, ap, _∙_}
 use mathlib.Core.Bool.{Bool, true, false, _&&_, and-false, and-true}
 use mathlib.Core.List.{List, _∷_}

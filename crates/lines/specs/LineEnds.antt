@@ -1,5 +1,5 @@
 -- Document 01, "Lines and bytes" and "The numbers of refusal": a line ends with a newline; an unended rest is only ever
--- 3; of an ended line an illegal byte is 4, and more than 4,096 bytes are 5. Assumes nothing.
+-- 3; of an ended line an illegal byte is 4, and more than 4,096 bytes are 5.
 use Prim.Native.Nat.{ℕ, _+_}
 use mathlib.Core.Bool.{Bool}
 use mathlib.Core.List.{List, [], _∷_}

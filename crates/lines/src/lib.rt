@@ -1,9 +1,8 @@
-// Where a line ends, and whether it is ignored.
+// Where a line ends, and whether it may be read.
 ghost use mathlib.Core.Path.{_≡_};
 ghost use Prim.Native.Nat.{_≤_};
-ghost use lib.ListN.{length, drop};
-ghost use Rattle.rules.specs.Lists.{every};
-ghost use Rattle.rules.specs.Bytes.{white, classTable, ignored};
+ghost use lib.ListN.{length};
+ghost use Rattle.rules.specs.Bytes.{classTable};
 ghost use Rattle.lines.specs.LineEnds.{lineEnd};
 
 // What is found of the line that starts at a place.
@@ -42,33 +41,4 @@ pub fn line_end(file: &[u8], from: usize, classes: &[u8; 256]) -> LineEnd
         at += 1;
     }
     LineEnd::Unended
-}
-
-fn all_white(head: &[u8], from: usize, classes: &[u8; 256]) -> bool
-    requires { ⌜ (from ≤ length (now head)) × (now classes ≡ classTable) ⌝ }
-    ensures { λ r. ⌜ r ≡ every white (drop from (now (head .entry))) ⌝ }
-{
-    let mut at = from;
-    while at < head.len() {
-        if classes::class_of(classes, head[at]) != 1 {
-            return false;
-        }
-        at += 1;
-    }
-    true
-}
-
-// The line from `at` to the end of `head`.
-pub fn is_ignored(head: &[u8], at: usize, classes: &[u8; 256]) -> bool
-    requires { ⌜ (at ≤ length (now head)) × (now classes ≡ classTable) ⌝ }
-    ensures { λ r. ⌜ r ≡ ignored (drop at (now (head .entry))) ⌝ }
-{
-    if 2 <= head.len() - at {
-        if head[at] == 37 {
-            if head[at + 1] == 37 {
-                return true;
-            }
-        }
-    }
-    all_white(head, at, classes)
 }

@@ -1,7 +1,5 @@
-pub mod FaultLaws
-pub mod Tallies
-pub mod PairWalk
-pub mod NodeRules
-pub mod NodeAnswers
-pub mod LineAnswers
-pub mod TakenNodes
+pub mod ListedFields
+pub mod PairWalks
+pub mod RisingRules
+pub mod Judgements
+pub mod NodeSteps

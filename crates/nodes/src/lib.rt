@@ -1,194 +1,223 @@
-// A word line and a phrase line: what the survey is told of them.
-mod faults;
+// A word line and a phrase line. The rules are asked in the order of their numbers, and the first that is broken decides.
+mod fields;
+mod groups;
+mod pairs;
 
 ghost use mathlib.Core.Path.{_≡_};
-ghost use mathlib.Core.Bool.{_&&_};
-ghost use Prim.Native.Nat.{_+_, _≤_, _<_};
+ghost use mathlib.Core.Bool.{not, _&&_};
+ghost use mathlib.Core.List.{List};
+ghost use Prim.Native.Nat.{ℕ, _+_, _-_, _≤_, _/_};
 ghost use lib.ListN.{length};
 ghost use lib.Dec.{leb, ltb};
 ghost use Rattle.rules.specs.Bytes.{classTable};
-ghost use Rattle.rules.specs.Numbers.{fileLimit, wordLimit, edgeLimit};
-ghost use Rattle.rules.specs.Nodes.{wordOf, phraseOf};
-ghost use Rattle.rules.proofs.LesserLaws.{wrong};
-ghost use Rattle.sheets.specs.SheetRows.{tablesIn};
-ghost use Rattle.tags.specs.Tabled.{Tabled};
-ghost use Rattle.fields.specs.Fields.{lineAt, Placed, fiveTexts};
-ghost use Rattle.nodes.specs.Faults.{ownOf, tallyOf};
-ghost use Rattle.nodes.specs.Answers.{nodeAnswer, answered, marked};
-use faults::Parent;
-use fields::Fields;
-use fields::Five;
+ghost use Rattle.rules.specs.Texts.{Text};
+ghost use Rattle.rules.specs.Columns.{comment};
+ghost use Rattle.rules.specs.Numbers.{fileLimit, wordLimit, edgeLimit, value};
+ghost use Rattle.rules.specs.Lists.{pick};
+ghost use Rattle.rules.specs.Sentences.{SoFar};
+ghost use Rattle.rules.specs.Lines.{takenAs, wordLine, phraseLine};
+ghost use Rattle.rules.specs.Nodes.{itsParent, nodeOf, shaped, wordOf, phraseOf};
+ghost use Rattle.rules.specs.Highest.{highestParent};
+ghost use Rattle.columns.specs.Listing.{lineOf, columnsOf, spanOf, Listed};
+ghost use Rattle.table_sheet.specs.SheetRows.{tablesIn};
+ghost use Rattle.citations.specs.Tabled.{Tabled};
+ghost use Rattle.steps.specs.Faults.{noFault};
+ghost use Rattle.steps.specs.Steps.{nodeSaid, stepOf};
+ghost use Rattle.nodes.specs.NodeLines.{columnLimit, fieldsOf, marked, Whole};
+use columns::listing;
+use columns::listing::Line;
+use columns::listing::Span;
+use groups::Own;
 use numbers::Number;
 use numbers::PhraseNumber;
+use pairs::Judged;
+use steps::Fault;
+use steps::NodeSaid;
+use steps::Step;
+use steps::refusals;
 
-// The number where a rule is broken, else 0.
-fn fault_unless(holds: bool, number: u32) -> u32
-    ensures { λ r. ⌜ r ≡ wrong number holds ⌝ }
+// Five fields and pairs of two behind them.
+fn is_shaped(count: usize) -> bool
+    ensures { λ r. ⌜ ((format : ℕ) (fs : List Text) → length fs ≡ count → r ≡ shaped format fs) ⌝ }
 {
-    if holds { 0 } else { number }
-}
-
-fn own_of(
-    head: &[u8],
-    sheet: &[u32],
-    hints: &[u8; 3584],
-    tags: usize,
-    number: u32,
-    f: Fields,
-    classes: &[u8; 256],
-) -> Parent
-    requires { ⌜ Tabled (now head) (now sheet) × (now classes ≡ classTable) × (tags < 7) × Placed (now head) f ⌝ }
-    ensures { λ r. ⌜ r ≡ ownOf (tablesIn (now (head .entry)) (now (sheet .entry))) tags number (fiveTexts (now (head .entry)) f) ⌝ }
-{
-    let tag = faults::tag_fault(head, sheet, hints, tags, f.tag, f.tag_end);
-    let morphology = faults::tag_fault(
-        head,
-        sheet,
-        hints,
-        sheets::MORPH_TAGS,
-        f.morphology,
-        f.morphology_end,
-    );
-    let edge = faults::tag_fault(head, sheet, hints, sheets::EDGE_TAGS, f.edge, f.edge_end);
-    let parent = faults::parent_at(
-        head,
-        number,
-        f.edge,
-        f.edge_end,
-        f.parent,
-        f.parent_end,
-        classes,
-    );
-    Parent {
-        number: parent.number,
-        fault: faults::lesser_fault(
-            tag,
-            faults::lesser_fault(morphology, faults::lesser_fault(edge, parent.fault)),
-        ),
+    if count < 5 {
+        return false;
     }
+    (count - 5) % 2 == 0
 }
 
-// What all fields of a line tell: its secondary edges, its highest parent, and the number of refusal.
-pub struct Tally {
-    pub edges: u32,
-    pub highest: u32,
-    pub fault: u32,
-}
-
-fn tally_of(
-    head: &[u8],
-    sheet: &[u32],
-    hints: &[u8; 3584],
-    tags: usize,
-    number: u32,
-    f: Fields,
-    classes: &[u8; 256],
-) -> Tally
-    requires { ⌜ Tabled (now head) (now sheet) × (now classes ≡ classTable) × (tags < 7) × Placed (now head) f × (length (now head) ≤ fileLimit) ⌝ }
-    ensures { λ r. ⌜ r ≡ tallyOf (tablesIn (now (head .entry)) (now (sheet .entry))) tags number (fiveTexts (now (head .entry)) f) ⌝ }
+fn count_pairs(count: usize) -> u32
+    requires { ⌜ (5 ≤ count) × (count ≤ columnLimit) ⌝ }
+    ensures { λ r. ⌜ r ≡ (count - 5) / 2 ⌝ }
 {
-    let from = f.parent_end;
-    let own = own_of(head, sheet, hints, tags, number, f, classes);
-    let pairs = faults::pairs_from(head, from, sheet, hints, number, classes);
-    let shape = fault_unless(pairs.whole, 7);
-    Tally {
-        edges: pairs.count,
-        highest: numbers::larger_of(own.number, pairs.highest),
-        fault: faults::lesser_fault(shape, faults::lesser_fault(own.fault, pairs.fault)),
-    }
+    ((count - 5) / 2) as u32
 }
 
 // At most 500 words and 512 secondary edges in a sentence.
-fn room_fault(words: u32, edges: u32, more: u32) -> u32
-    requires { ⌜ (edges ≤ edgeLimit) × (more ≤ fileLimit) ⌝ }
-    ensures { λ r. ⌜ r ≡ wrong 16 (ltb words wordLimit && leb (edges + more) edgeLimit) ⌝ }
+fn has_room(words: u32, edges: u32, count: usize) -> bool
+    requires { ⌜ (edges ≤ edgeLimit) × (5 ≤ count) × (count ≤ columnLimit) ⌝ }
+    ensures { λ r. ⌜ r ≡ (ltb words wordLimit && leb (edges + (count - 5) / 2) edgeLimit) ⌝ }
 {
     if 500 <= words {
-        return 16;
+        return false;
     }
-    if edges + more <= 512 { 0 } else { 16 }
+    edges + count_pairs(count) <= 512
 }
 
-pub enum NodeAnswer {
-    Taken {
-        number: u32,
-        edges: u32,
-        highest: u32,
-    },
-    Refused(u32),
-}
-
-fn answer(fault: u32, number: u32, edges: u32, highest: u32) -> NodeAnswer
-    ensures { λ r. ⌜ r ≡ answered fault number edges highest ⌝ }
+fn fault_of(line: Line, number: u32) -> Fault
+    requires { ⌜ line .start ≤ fileLimit ⌝ }
+    ensures { λ r. ⌜ r ≡ record { number = number; place = line .start } ⌝ }
 {
-    if fault == 0 {
-        NodeAnswer::Taken {
-            number,
-            edges,
-            highest,
-        }
-    } else {
-        NodeAnswer::Refused(fault)
-    }
+    let place = line.start as u32;
+    Fault { number, place }
 }
 
-// `words` words and `edges` secondary edges stand in front of this one, and no phrase may.
-pub fn word_line(
-    head: &[u8],
-    at: usize,
-    sheet: &[u32],
-    hints: &[u8; 3584],
-    words: u32,
-    no_phrase: bool,
-    edges: u32,
-    classes: &[u8; 256],
-) -> NodeAnswer
-    requires { ⌜ Tabled (now head) (now sheet) × (now classes ≡ classTable) × (at ≤ length (now head)) × (length (now head) ≤ fileLimit) × (edges ≤ edgeLimit) ⌝ }
-    ensures { λ r. ⌜ r ≡ nodeAnswer (wordOf (tablesIn (now (head .entry)) (now (sheet .entry))) words «no_phrase» edges (lineAt (now (head .entry)) at)) ⌝ }
+fn word_limits(line: Line, words: u32, edges: u32, count: usize) -> Fault
+    requires { ⌜ (line .start ≤ fileLimit) × (edges ≤ edgeLimit) × (5 ≤ count) × (count ≤ columnLimit) ⌝ }
+    ensures { λ r. ⌜ r ≡ pick (ltb words wordLimit && leb (edges + (count - 5) / 2) edgeLimit) noFault (record { number = 16; place = line .start }) ⌝ }
 {
-    if !no_phrase {
-        return NodeAnswer::Refused(6);
+    if has_room(words, edges, count) {
+        return Fault {
+            number: 0,
+            place: 0,
+        };
     }
-    let five = fields::five_fields(head, at, classes);
-    let Five::Whole(f) = five else {
-        return NodeAnswer::Refused(7);
-    };
-    let tally = tally_of(head, sheet, hints, sheets::WORD_TAGS, words, f, classes);
-    let room = room_fault(words, edges, tally.edges);
-    let fault = faults::lesser_fault(tally.fault, room);
-    answer(fault, words, tally.edges, tally.highest)
+    fault_of(line, refusals::SENTENCE_FULL)
 }
 
 // `marks` holds, for each phrase's number from 500 on, the stamp of the sentence that last had a phrase of it.
-pub fn phrase_line(
-    head: &[u8],
-    at: usize,
-    sheet: &[u32],
-    hints: &[u8; 3584],
+fn phrase_limits(
+    line: Line,
+    number: u32,
     marks: &[u32],
     stamp: u32,
     edges: u32,
-    classes: &[u8; 256],
-) -> NodeAnswer
-    requires { ⌜ Tabled (now head) (now sheet) × (now classes ≡ classTable) × (at ≤ length (now head)) × (length (now head) ≤ fileLimit) × (edges ≤ edgeLimit) × (length (now marks) ≡ 500) ⌝ }
-    ensures { λ r. ⌜ r ≡ nodeAnswer (phraseOf (tablesIn (now (head .entry)) (now (sheet .entry))) (marked (now (marks .entry)) stamp) edges (lineAt (now (head .entry)) at)) ⌝ }
+    count: usize,
+) -> Fault
+    requires { ⌜ (line .start ≤ fileLimit) × (edges ≤ edgeLimit) × (5 ≤ count) × (count ≤ columnLimit) × (500 ≤ number) × (number ≤ 999) × (length (now marks) ≡ 500) ⌝ }
+    ensures { λ r. ⌜ r ≡ pick (leb (edges + (count - 5) / 2) edgeLimit) (pick (not (marked (now (marks .entry)) stamp number)) noFault (record { number = 17; place = line .start })) (record { number = 16; place = line .start }) ⌝ }
 {
-    let five = fields::five_fields(head, at, classes);
-    let Five::Whole(f) = five else {
-        return NodeAnswer::Refused(7);
+    if !has_room(0, edges, count) {
+        return fault_of(line, refusals::SENTENCE_FULL);
+    }
+    if marks[(number - PhraseNumber::LOWEST) as usize] == stamp {
+        return fault_of(line, refusals::PHRASE_TWICE);
+    }
+    Fault {
+        number: 0,
+        place: 0,
+    }
+}
+
+// What a line says of its node, with the node's parent and the highest of its parents.
+fn node_said(
+    line: Line,
+    places: &[u32; 4096],
+    count: usize,
+    number: u32,
+    word: Span,
+    parent: u32,
+    highest: u32,
+) -> NodeSaid
+    requires { ⌜ ((file : List ℕ) × Whole file line (now places) count) ⌝ }
+    ensures { λ r. ⌜ ((file : List ℕ) (format : ℕ) (t : Text) → Whole file line (now (places .entry)) count → word ≡ spanOf t → parent ≡ value (itsParent format (fieldsOf file line)) → highest ≡ highestParent (nodeOf format (fieldsOf file line) number t (comment (columnsOf file line))) → r ≡ nodeSaid (nodeOf format (fieldsOf file line) number t (comment (columnsOf file line)))) ⌝ }
+{
+    let tag = listing::column_span(line, places, 1);
+    let morphology = listing::column_span(line, places, 2);
+    let edge = listing::column_span(line, places, 3);
+    let comment = listing::comment_of(line, places, count);
+    let edges = count_pairs(count);
+    NodeSaid {
+        number,
+        word,
+        tag,
+        morphology,
+        edge,
+        parent,
+        comment,
+        edges,
+        highest,
+    }
+}
+
+// `words` words and `edges` secondary edges stand in front of this one in its sentence, and no phrase may.
+pub fn word_line(
+    file: &[u8],
+    line: Line,
+    places: &[u32; 4096],
+    words: u32,
+    no_phrase: bool,
+    edges: u32,
+    sheet: &[u32],
+    hints: &[u8; 3584],
+    classes: &[u8; 256],
+) -> Step
+    requires { ⌜ (now classes ≡ classTable) × Listed (now file) line (now places) × Tabled (now file) (now sheet) × (edges ≤ edgeLimit) ⌝ }
+    ensures { λ r. ⌜ ((format : ℕ) (s : SoFar) → s .words ≡ words → s .no-phrase ≡ «no_phrase» → s .edges ≡ edges → r ≡ stepOf (takenAs wordLine (wordOf format (tablesIn (now (file .entry)) (now (sheet .entry))) s (lineOf (now (file .entry)) line)))) ⌝ }
+{
+    let start = line.start;
+    if !no_phrase {
+        return steps::refused(refusals::CANNOT_STAND, start);
+    }
+    let count = listing::count_fields(file, line, places);
+    if !is_shaped(count) {
+        return steps::refused(refusals::WRONG_COLUMNS, start);
+    }
+    let limits = word_limits(line, words, edges, count);
+    let own = Own {
+        count,
+        tags: table_sheet::WORD_TAGS,
+        number: words,
+        limits,
     };
-    let digits = f.first + 1;
-    let end = f.first_end;
-    let read = PhraseNumber::read(&head[digits..end], classes);
+    let judged = groups::judge(file, line, places, own, sheet, hints, classes);
+    match judged {
+        Judged::Faulty(fault) => Step::Refused(fault),
+        Judged::Fine(parent, highest) => {
+            let word = listing::column_span(line, places, 0);
+            Step::Word(node_said(line, places, count, words, word, parent, highest))
+        }
+    }
+}
+
+// `marks` and `stamp` tell which phrases stand in front of this one in its sentence, `edges` how many secondary edges.
+pub fn phrase_line(
+    file: &[u8],
+    line: Line,
+    places: &[u32; 4096],
+    marks: &[u32],
+    stamp: u32,
+    edges: u32,
+    sheet: &[u32],
+    hints: &[u8; 3584],
+    classes: &[u8; 256],
+) -> Step
+    requires { ⌜ (now classes ≡ classTable) × Listed (now file) line (now places) × Tabled (now file) (now sheet) × (edges ≤ edgeLimit) × (length (now marks) ≡ 500) ⌝ }
+    ensures { λ r. ⌜ ((format : ℕ) (s : SoFar) → s .edges ≡ edges → ((n : ℕ) → s .given-before n ≡ marked (now (marks .entry)) stamp n) → r ≡ stepOf (takenAs phraseLine (phraseOf format (tablesIn (now (file .entry)) (now (sheet .entry))) s (lineOf (now (file .entry)) line)))) ⌝ }
+{
+    let start = line.start;
+    let count = listing::count_fields(file, line, places);
+    if !is_shaped(count) {
+        return steps::refused(refusals::WRONG_COLUMNS, start);
+    }
+    let digits = fields::behind_hash(file, line, places);
+    let read = PhraseNumber::read(digits, classes);
     let Number::Good(number) = read else {
-        let tally = tally_of(head, sheet, hints, sheets::NODE_TAGS, 0, f, classes);
-        return NodeAnswer::Refused(faults::lesser_fault(8, tally.fault));
+        return Step::Refused(fields::fault_at(places, refusals::BAD_NUMBER, 0));
     };
-    let tally = tally_of(head, sheet, hints, sheets::NODE_TAGS, number, f, classes);
-    let fresh = marks[(number - PhraseNumber::LOWEST) as usize] != stamp;
-    let again = fault_unless(fresh, 17);
-    let room = room_fault(0, edges, tally.edges);
-    let limits = faults::lesser_fault(room, again);
-    let fault = faults::lesser_fault(tally.fault, limits);
-    answer(fault, number, tally.edges, tally.highest)
+    let limits = phrase_limits(line, number, marks, stamp, edges, count);
+    let own = Own {
+        count,
+        tags: table_sheet::NODE_TAGS,
+        number,
+        limits,
+    };
+    let judged = groups::judge(file, line, places, own, sheet, hints, classes);
+    match judged {
+        Judged::Faulty(fault) => Step::Refused(fault),
+        Judged::Fine(parent, highest) => {
+            let word = Span { start: 0, len: 0 };
+            Step::Phrase(node_said(line, places, count, number, word, parent, highest))
+        }
+    }
 }

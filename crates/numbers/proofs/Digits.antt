@@ -1,4 +1,4 @@
--- A byte's class tells whether it is a digit; whether all bytes from a place on are. Assumes nothing.
+-- A byte's class tells whether it is a digit; whether all bytes from a place on are.
 use mathlib.Core.Path.{_≡_, refl, sym, _∙_}
 use mathlib.Core.Bool.{true, false}
 use mathlib.Core.List.{List, [], _∷_}

@@ -1,4 +1,4 @@
--- Which columns have no leading zero, by their length and their first byte; which is -1. Assumes nothing.
+-- Which columns have no leading zero, by their length and their first byte; which is -1.
 use mathlib.Core.Path.{_≡_, refl}
 use mathlib.Core.Bool.{Bool, true, false, not, and-false, and-true}
 use mathlib.Core.List.{List, [], _∷_}

@@ -1,5 +1,5 @@
 -- The walk along the digits of a number: what the value so far and the bytes that are left make of the answer.
--- Past the highest it is bad whatever follows. Assumes nothing.
+-- Past the highest it is bad whatever follows.
 use mathlib.Core.Path.{_≡_, refl}
 use mathlib.Core.Bool.{Bool, true, false, and-false}
 use mathlib.Core.Option.{none, some}

@@ -1,5 +1,5 @@
 -- What the answer of a reading of a number means. Document 01, "The numbers of refusal": 8 is given when a number is
--- badly written or outside its range. Assumes nothing.
+-- badly written or outside its range.
 use Prim.Native.Nat.{ℕ}
 use mathlib.Core.Option.{Option, none, some}
 use Rattle.rules.specs.Numbers.{Kind}
@@ -10,10 +10,6 @@ use Rattle.numbers.specs.declared.Number.the-variants.{Good, Bad}
 abbrev pub asNumber : Option ℕ → Number
 asNumber none = Bad
 asNumber (some n) = Good n
-
-abbrev pub refusalOf : Number → ℕ
-refusalOf (Good n) = 0
-refusalOf Bad = 8
 
 -- the kind of number with these limits
 abbrev pub kind : ℕ → ℕ → Kind

@@ -5,9 +5,9 @@ ghost use Rattle.rules.specs.Lists.{same, bytes};
 ghost use Rattle.rules.specs.Bytes.{classTable};
 ghost use Rattle.rules.specs.Numbers.{plain, number, sentenceNumber, originId, date, formatNumber, phraseNumber, signedId, parentNumber};
 ghost use Rattle.rules.specs.Keywords.{digits};
-ghost use Rattle.rules.proofs.Largest.{larger};
+ghost use Rattle.rules.specs.Highest.{larger};
 ghost use Rattle.numbers.specs.Answers.{asNumber, kind};
-ghost use Rattle.numbers.specs.Ranges.{rangeOf};
+ghost use Rattle.numbers.specs.Ranges.{rangeOf, nodeNumber};
 
 const DIGIT_CLASS: u8 = 2;
 
@@ -72,7 +72,7 @@ impl SentenceNumber {
         requires { ⌜ now classes ≡ classTable ⌝ }
         ensures { λ r. ⌜ r ≡ asNumber (number sentenceNumber (now (s .entry))) ⌝ }
     {
-        read_within(s, classes, Self::LOWEST, Self::HIGHEST)
+        read_within(s, classes, SentenceNumber::LOWEST, SentenceNumber::HIGHEST)
     }
 }
 
@@ -87,7 +87,7 @@ impl OriginId {
         requires { ⌜ now classes ≡ classTable ⌝ }
         ensures { λ r. ⌜ r ≡ asNumber (number originId (now (s .entry))) ⌝ }
     {
-        read_within(s, classes, Self::LOWEST, Self::HIGHEST)
+        read_within(s, classes, OriginId::LOWEST, OriginId::HIGHEST)
     }
 }
 
@@ -102,7 +102,7 @@ impl Date {
         requires { ⌜ now classes ≡ classTable ⌝ }
         ensures { λ r. ⌜ r ≡ asNumber (number date (now (s .entry))) ⌝ }
     {
-        read_within(s, classes, Self::LOWEST, Self::HIGHEST)
+        read_within(s, classes, Date::LOWEST, Date::HIGHEST)
     }
 }
 
@@ -117,7 +117,7 @@ impl FormatNumber {
         requires { ⌜ now classes ≡ classTable ⌝ }
         ensures { λ r. ⌜ r ≡ asNumber (number formatNumber (now (s .entry))) ⌝ }
     {
-        read_within(s, classes, Self::LOWEST, Self::HIGHEST)
+        read_within(s, classes, FormatNumber::LOWEST, FormatNumber::HIGHEST)
     }
 }
 
@@ -133,8 +133,59 @@ impl PhraseNumber {
         requires { ⌜ now classes ≡ classTable ⌝ }
         ensures { λ r. ⌜ r ≡ asNumber (number phraseNumber (now (s .entry))) ⌝ }
     {
-        read_within(s, classes, Self::LOWEST, Self::HIGHEST)
+        read_node(s, classes, false)
     }
+}
+
+pub enum NodeRange {
+    Root,
+    Word,
+    Phrase,
+    Above,
+}
+
+pub fn node_range(n: u32) -> NodeRange
+    ensures { λ r. ⌜ r ≡ rangeOf n ⌝ }
+{
+    match n {
+        0 => NodeRange::Root,
+        1..PhraseNumber::LOWEST => NodeRange::Word,
+        PhraseNumber::LOWEST..=PhraseNumber::HIGHEST => NodeRange::Phrase,
+        _ => NodeRange::Above,
+    }
+}
+
+// What lies above it lies above every number of a node.
+const HIGHEST_READ: u32 = 4294967295;
+
+// A phrase's number, or 0 where the root may stand: the digits are read first, and their range decides.
+fn read_node(s: &[u8], classes: &[u8; 256], or_root: bool) -> Number
+    requires { ⌜ now classes ≡ classTable ⌝ }
+    ensures { λ r. ⌜ r ≡ asNumber (nodeNumber «or_root» (now (s .entry))) ⌝ }
+{
+    let read = read_within(s, classes, 0, HIGHEST_READ);
+    let Number::Good(n) = read else {
+        return Number::Bad;
+    };
+    let range = node_range(n);
+    match range {
+        NodeRange::Root => if or_root {
+            Number::Good(n)
+        } else {
+            Number::Bad
+        },
+        NodeRange::Phrase => Number::Good(n),
+        NodeRange::Word => Number::Bad,
+        NodeRange::Above => Number::Bad,
+    }
+}
+
+// A parent is the root's 0 or a phrase's number.
+pub fn read_parent(s: &[u8], classes: &[u8; 256]) -> Number
+    requires { ⌜ now classes ≡ classTable ⌝ }
+    ensures { λ r. ⌜ r ≡ asNumber (parentNumber (now (s .entry))) ⌝ }
+{
+    read_node(s, classes, true)
 }
 
 fn is_minus_one(s: &[u8]) -> bool
@@ -179,42 +230,6 @@ pub fn larger_of(m: u32, n: u32) -> u32
     ensures { λ r. ⌜ r ≡ larger m n ⌝ }
 {
     if m < n { n } else { m }
-}
-
-pub enum NodeRange {
-    Root,
-    Word,
-    Phrase,
-    Above,
-}
-
-pub fn node_range(n: u32) -> NodeRange
-    ensures { λ r. ⌜ r ≡ rangeOf n ⌝ }
-{
-    match n {
-        0 => NodeRange::Root,
-        1..PhraseNumber::LOWEST => NodeRange::Word,
-        PhraseNumber::LOWEST..=PhraseNumber::HIGHEST => NodeRange::Phrase,
-        _ => NodeRange::Above,
-    }
-}
-
-// A parent is the root's 0 or a phrase's number.
-pub fn read_parent(s: &[u8], classes: &[u8; 256]) -> Number
-    requires { ⌜ now classes ≡ classTable ⌝ }
-    ensures { λ r. ⌜ r ≡ asNumber (parentNumber (now (s .entry))) ⌝ }
-{
-    let read = read_within(s, classes, 0, PhraseNumber::HIGHEST);
-    let Number::Good(n) = read else {
-        return Number::Bad;
-    };
-    let range = node_range(n);
-    match range {
-        NodeRange::Root => Number::Good(n),
-        NodeRange::Phrase => Number::Good(n),
-        NodeRange::Word => Number::Bad,
-        NodeRange::Above => Number::Bad,
-    }
 }
 
 // What stands behind the # of a phrase's line.

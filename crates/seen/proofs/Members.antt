@@ -1,4 +1,4 @@
--- Which numbers stand in a list that has one number more at its end. Assumes nothing.
+-- Which numbers stand in a list that has one number more at its end.
 use mathlib.Core.Path.{_≡_, refl, ap, _∙_}
 use mathlib.Core.Bool.{Bool, true, false, _||_}
 use mathlib.Core.List.{List, [], _∷_, _++_}

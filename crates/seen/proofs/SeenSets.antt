@@ -1,5 +1,5 @@
 -- The seen set of a list of numbers holds just these, and one number more sets one bit more. Stated over the size of the
--- set; `seenSet` is the one of `seenSetSize` bytes. Assumes nothing.
+-- set; `seenSet` is the one of `seenSetSize` bytes.
 use mathlib.Core.Path.{_≡_, refl, sym, ap, ap₂, _∙_}
 use mathlib.Core.Bool.{Bool, true, false}
 use mathlib.Core.List.{List, [], _∷_, _++_, map}

@@ -1,5 +1,5 @@
 -- What the bits of a byte weigh: a test computed over all bytes and all bits, and how bits that weigh twice the one
--- before are read back. Assumes nothing.
+-- before are read back.
 use mathlib.Core.Path.{_≡_, sym, ap, _∙_}
 use mathlib.Core.Bool.{Bool, true, false}
 use mathlib.Core.List.{List, [], _∷_}

@@ -1,5 +1,4 @@
--- The seen set, bit by bit. Document 01, "The sheets": number n is bit n mod 8 (bit 0 weighs 1) of byte n / 8. Assumes
--- nothing.
+-- The seen set, bit by bit. Document 01, "The sheets": number n is bit n mod 8 (bit 0 weighs 1) of byte n / 8.
 use Prim.Native.Nat.{ℕ, _+_, _/_, _%_, _^_}
 use mathlib.Core.Bool.{Bool}
 use mathlib.Core.List.{List, map}

@@ -5,6 +5,9 @@ ghost use Prim.Native.Nat.{_*_, _<_};
 ghost use lib.ListN.{length, replicate};
 ghost use Rattle.seen.specs.Bits.{bitAt, withBit};
 
+// The bytes of a set that has a bit for each number from 0 to the highest of a sentence.
+pub const SIZE: usize = 8192;
+
 // What each bit of a byte weighs.
 const WEIGHTS: [u8; 8] = [1, 2, 4, 8, 16, 32, 64, 128];
 

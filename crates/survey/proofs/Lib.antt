@@ -1,16 +1,1 @@
-pub mod Uses
-pub mod SameTaking
-pub mod GrantedNodes
-pub mod GrantedKeywords
-pub mod Growing
-pub mod Counts
-pub mod Closings
-pub mod TakenLines
 pub mod Lent
-pub mod Carrying
-pub mod LineSteps
-pub mod Going
-pub mod Stopping
-pub mod Unwritten
-pub mod Fitting
-pub mod Turning

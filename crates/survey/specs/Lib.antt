@@ -1,5 +1,1 @@
 pub mod Promise
-pub mod Keeping
-pub mod Applying
-pub mod Walks
-pub mod Closing

@@ -1,7 +1,8 @@
--- The promise: what the survey answers and leaves in the two buffers, as one outcome of rules/Survey. Assumes nothing.
+-- The promise: what the survey answers and leaves in the two buffers, as one outcome of rules/Survey.
 use Prim.Native.Nat.{ℕ}
 use mathlib.Core.List.{List}
 use Rattle.rules.specs.Survey.{Told, SurveyOutcome}
+use Rattle.reading.specs.declared.Read.{Read}
 use Rattle.survey.specs.declared.Surveyed.{Surveyed}
 
 abbrev pub outcome : Surveyed → List ℕ → List ℕ → SurveyOutcome
@@ -15,3 +16,6 @@ outcome r tables seen =
 -- the four numbers that are told
 abbrev pub numbersOf : Told → Surveyed
 numbersOf t = record { refusal = t .refusal; place = t .place; sentences = t .sentences; «sound_end» = t .soundEnd }
+
+abbrev pub surveyedAs : Read → Surveyed
+surveyedAs r = record { refusal = r .refusal; place = r .place; sentences = r .sentences; «sound_end» = r .«sound_end» }

@@ -1,5 +1,5 @@
 -- Laws of the first two adjacent percent signs: their place, seen from where a loop has come to, and what stands in front
--- of them and behind. By one step along the bytes. Assumes nothing.
+-- of them and behind. By one step along the bytes.
 use Prim.Native.Nat.{ℕ, suc, _+_, _-_, _≤_, _<_, suc-le-suc}
 use native.Mathlib.Nat.{add-zero, add-suc, suc-add, le-of-suc-le-suc, not-suc-le-zero}
 use native.Mathlib.Numerals.{add-one, add-two}

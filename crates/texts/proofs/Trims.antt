@@ -1,5 +1,5 @@
 -- Laws of the text without white bytes at its ends: where it starts, where it ends, and that its bytes lie there. By one
--- step along the bytes, at the front or at the back. Assumes nothing.
+-- step along the bytes, at the front or at the back.
 use Prim.Native.Nat.{ℕ, suc, _+_, _-_, _≤_, _<_, suc-le-suc}
 use native.Mathlib.Nat.{add-zero, add-suc, suc-add, sub-self}
 use native.Mathlib.Omega.{arith}
@@ -13,8 +13,8 @@ use lib.Seq.{drop-drop, take-suc, take-all, getD-drop, length-take-le}
 use Rattle.rules.specs.Lists.{pick}
 use Rattle.rules.specs.Bytes.{white}
 use Rattle.rules.specs.Texts.{Text, noText, unlessWhite, rightTrim, trimFrom}
-use Rattle.texts.specs.Spans.{spanOf}
-use Rattle.texts.specs.declared.Span.{Span}
+use Rattle.columns.specs.Listing.{spanOf}
+use Rattle.columns.specs.declared.listing.Span.{Span}
 use Rattle.columns.specs.Leading.{leading}
 use Rattle.columns.proofs.Leading.{leading-behind}
 
@@ -62,6 +62,10 @@ trimmed-shorter (x ∷ xs) = go (rightTrim xs) (trimmed-shorter xs)
         only true = omega arith
         only false = omega arith
     go (y ∷ ys) e = suc-le-suc e
+
+-- nor is it behind the head's end
+pub end-inside : (s : List ℕ) (start end : ℕ) → start ≤ length s → end ≡ start + length (rightTrim (drop start s)) → end ≤ length s
+end-inside s start end h e = omega (arith, trimmed-shorter (drop start s), length-drop start s)
 
 -- the same, of the bytes of a head between two places
 abbrev pub between : List ℕ → ℕ → ℕ → List ℕ

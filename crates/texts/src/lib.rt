@@ -5,7 +5,9 @@ ghost use lib.ListN.{length, drop};
 ghost use Rattle.rules.specs.Lists.{same};
 ghost use Rattle.rules.specs.Bytes.{classTable};
 ghost use Rattle.rules.specs.Texts.{rightTrim, trimFrom, frontBytes};
-ghost use Rattle.texts.specs.Spans.{spanOf};
+ghost use Rattle.rules.specs.Numbers.{fileLimit};
+ghost use Rattle.columns.specs.Listing.{spanOf};
+use columns::listing::Span;
 
 pub fn same_text(a: &[u8], b: &[u8]) -> bool
     ensures { λ r. ⌜ r ≡ same (now (a .entry)) (now (b .entry)) ⌝ }
@@ -21,12 +23,6 @@ pub fn same_text(a: &[u8], b: &[u8]) -> bool
         i += 1;
     }
     true
-}
-
-// Where a text lies in the file; an absent one is 0, 0.
-pub struct Span {
-    pub start: usize,
-    pub len: usize,
 }
 
 // The place behind the last byte from `start` on that isn't white, or `start`.
@@ -46,7 +42,7 @@ pub fn trimmed_end(head: &[u8], start: usize, classes: &[u8; 256]) -> usize
 
 // The bytes from `at` on, without the white ones at both ends.
 pub fn trim(head: &[u8], at: usize, classes: &[u8; 256]) -> Span
-    requires { ⌜ now classes ≡ classTable ⌝ }
+    requires { ⌜ (now classes ≡ classTable) × (length (now head) ≤ fileLimit) ⌝ }
     ensures { λ r. ⌜ r ≡ spanOf (trimFrom at (drop at (now (head .entry)))) ⌝ }
 {
     let start = columns::skip_white(head, at, classes);
@@ -55,8 +51,8 @@ pub fn trim(head: &[u8], at: usize, classes: &[u8; 256]) -> Span
     }
     let end = trimmed_end(head, start, classes);
     Span {
-        start,
-        len: end - start,
+        start: start as u32,
+        len: (end - start) as u32,
     }
 }
 

@@ -1,4 +1,4 @@
--- `classes::byte_classes` meets its contract: one test, computed over the whole table. Assumes nothing.
+-- `classes::byte_classes` meets its contract: one test, computed over the whole table.
 use mathlib.Core.Path.{refl}
 use Rattle.rules.specs.Bytes.{classTable}
 use Rattle.classes.proofs.byte_classes.Statement.{statement}

@@ -1,4 +1,4 @@
--- `classes::class_of` meets its contract: the table's rule at the byte. Assumes nothing.
+-- `classes::class_of` meets its contract: the table's rule at the byte.
 use borrow.Author.Needs.{needs}
 use Prim.Native.Nat.{ℕ}
 use mathlib.Core.Path.{ap, _∙_}

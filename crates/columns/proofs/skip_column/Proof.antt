@@ -1,5 +1,5 @@
 -- `columns::skip_column` meets its contract. The invariant: from the loop's place on, the bytes that aren't white go as far as from `at` on.
--- The measure is what is left of the head. Assumes nothing.
+-- The measure is what is left of the head.
 use borrow.Author.Needs.{needs}
 use Prim.Native.Nat.{ℕ, _+_, _-_}
 use mathlib.Core.Path.{_≡_, sym, ap, _∙_}

@@ -1,5 +1,5 @@
 -- `lines::line_end` meets its contract. The loop's invariant: what is still to be found from here on, `scan`, is what the
--- line's start asks for. The measure is what is left of the file. Assumes nothing.
+-- line's start asks for. The measure is what is left of the file.
 use borrow.Author.Needs.{needs}
 use native.Mathlib.Omega.{arith}
 use Prim.Native.Nat.{ℕ, _+_, _-_, _≤_, _<_}

@@ -1,176 +1,150 @@
--- `nodes::phrase_line` meets its contract: a short line, a number badly written, or the tally with the sentence's limits.
--- Assumes nothing.
 use borrow.Author.Needs.{needs}
 use native.Mathlib.Omega.{arith}
-use Prim.Native.Nat.{ℕ, _+_, _-_}
-use mathlib.Core.Path.{_≡_, sym, ap, _∙_}
-use mathlib.Core.Bool.{Bool, not, _&&_}
-use lib.Dec.{eqb}
-use borrow.Author.Tests.{le-leb}
-use mathlib.Core.Option.{some}
+use mathlib.Core.Path.{_≡_, refl, sym, ap, _∙_}
+use Prim.Native.Nat.{ℕ, _+_, _-_, _/_}
 use mathlib.Core.List.{List}
-use lib.ListN.{take, drop, getD}
-use Rattle.rules.specs.Tables.{Tables}
-use Rattle.rules.proofs.LesserLaws.{wrong}
-use Rattle.rules.specs.Numbers.{phraseNumber, number}
-use Rattle.sheets.specs.SheetRows.{tablesIn}
-use Rattle.numbers.proofs.Told.{Within, good-tells, bad-tells, number-tells}
-use Rattle.rules.specs.Numbers.{decimal}
-use Rattle.fields.specs.Fields.{fieldsFrom, firstFive, Placed}
-use Rattle.nodes.specs.Answers.{marked}
-use Rattle.fields.specs.declared.Fields.{Fields}
-use Rattle.fields.specs.declared.Five.the-variants.{Whole}
-use Rattle.nodes.proofs.LineAnswers.{phrase-line-short, line-placed, line-edges-fit, phrase-line-told, phrase-line-misnumbered}
+use borrow.Author.Tests.{not-true, not-false}
+use lib.Dec.{leb}
+use lib.ListN.{length}
+use Rattle.rules.specs.Lists.{pick}
+use mathlib.Core.Bool.{true, not}
+use mathlib.Core.Option.{Option}
+use Rattle.rules.specs.Texts.{Text, noText}
+use Rattle.rules.specs.Columns.{text}
+use Rattle.rules.specs.Numbers.{edgeLimit, phraseNumber, value}
+use Rattle.rules.specs.Tables.{Tables, nodeTags}
+use Rattle.rules.specs.Nodes.{itsParent, shaped, behindHash}
+use Rattle.columns.specs.Listing.{lineOf}
+use Rattle.table_sheet.specs.SheetRows.{tablesIn}
+use Rattle.numbers.specs.Answers.{asNumber}
+use Rattle.numbers.specs.declared.Number.the-variants.{Good}
+use Rattle.numbers.proofs.Told.{good-tells, good-is-good, good-value, bad-is-not-good, number-tells}
+use Rattle.steps.specs.Faults.{noFault}
+use Rattle.steps.specs.declared.Fault.{Fault}
+use Rattle.steps.specs.declared.Step.the-variants.{Phrase, Refused}
+use Rattle.nodes.specs.NodeLines.{fieldsOf, phraseIn, firstFault, highestIn, marked, unlessFaulty, Whole}
+use Rattle.nodes.proofs.ListedFields.{whole, first-of, phrase-read}
+use Rattle.nodes.proofs.Judgements.{fine-tells}
+use Rattle.nodes.proofs.NodeSteps.{phrase-stepped, refused-by, taken-as}
 use Rattle.nodes.proofs.phrase_line.Statement.{statement}
 use Rattle.nodes.proofs.phrase_line.Tie as tie
 
-abbrev head : tie.Start → List ℕ
-head s = s .args .head .now
+abbrev fields : tie.Start → List Text
+fields s = fieldsOf (s .args .file .now) (s .args .line)
 
 abbrev tables : tie.Start → Tables
-tables s = tablesIn (head s) (s .args .sheet .now)
+tables s = tablesIn (s .args .file .now) (s .args .sheet .now)
 
-abbrev marks : tie.Start → ℕ → Bool
-marks s = marked (s .args .marks .now) (s .args .stamp)
+abbrev line : tie.Start → Text
+line s = lineOf (s .args .file .now) (s .args .line)
 
-abbrev start : tie.After-five → tie.Start
-start k = k .before .before .before .before .before .before
+abbrev start : tie.After-is-shaped → tie.Start
+start k = k .before .before .before .before .before
 
-abbrev fields : tie.After-five → Fields
-fields k = k .five .given .0 .0
+shape : (k : tie.After-is-shaped) (format : ℕ) → shaped format (fields (start k)) ≡ k .is-shaped .result
+shape k format = sym (k .is-shaped .ensures format (fields (start k)) (sym (k .before .count-fields .ensures)))
 
-whole : (k : tie.After-five) → firstFive (fieldsFrom (head (start k)) (start k .args .at)) ≡ Whole (fields k)
-whole k = sym (k .before .before .five-fields .ensures) ∙ k .five .given .1
+has-shape : (c : tie.Else1) (format : ℕ) → shaped format (fields (start (c .before))) ≡ true
+has-shape c format = shape (c .before) format ∙ not-false _ (c .if1 .left)
 
-placed : (k : tie.After-five) → Placed (head (start k)) (fields k)
-placed k = line-placed (tables (start k)) (start k .args .edges) (head (start k)) (start k .args .at) (fields k) (whole k)
-
--- the digits behind #, and the number they are read as
-abbrev digits : tie.After-five → List ℕ
-digits k = take (fields k .«first_end» - (fields k .first + 1)) (drop (fields k .first + 1) (head (start k)))
-
-abbrev five : tie.After-read → tie.After-five
-five r = r .before .before .before .before
-
-abbrev numbered : tie.After-read2 → tie.After-five
-numbered g = five (g .before .before)
-
-abbrev its-number : tie.After-read2 → ℕ
-its-number g = g .read2 .given .0 .0
-
-good : (g : tie.After-read2) → number phraseNumber (digits (numbered g)) ≡ some (its-number g)
-good g = good-tells (number phraseNumber (digits (numbered g))) (its-number g) (sym (g .before .before .read .ensures) ∙ g .read2 .given .1)
-
-within : (g : tie.After-read2) → Within phraseNumber (decimal (digits (numbered g))) (its-number g)
-within g = number-tells phraseNumber (digits (numbered g)) (its-number g) (good g)
-
-five-fields-requires : tie.Need-five-fields-requires
-five-fields-requires c κs = search needs
-
-enum-known-five : tie.Need-enum-known-five
-enum-known-five c = search needs
-
-enum-told : tie.Need-enum-told
-enum-told c = search needs
+lined : (c : tie.Else1)
+    → let s = start (c .before) in Whole (s .args .file .now) (s .args .line) (s .args .places .now) (c .before .before .count-fields .result)
+lined c = whole 0 (start (c .before) .pre .1) (c .before .before .count-fields .ensures) (has-shape c 0)
 
 returns : tie.Need-returns
-returns c =
-    let v = c .before .before in
-    let s = v .before .before .before .before in
-    sym (phrase-line-short (tables s) (s .args .edges) (head s) (s .args .at) (marks s) (sym (v .five-fields .ensures) ∙ c .enum-told .given .1))
+returns c format s e g =
+    let k = c .before .before in
+    let a = start k in
+    c .refused .ensures
+    ∙ sym (phrase-stepped format (tables a) s (line a) (length (fields a)) _ refl e _ _ refl refl .first (shape k format ∙ not-true _ (c .before .if1 .taken)))
 
-add-digits : tie.Need-add-digits
-add-digits c = let p = placed (c .before .before) in omega arith
+-- ---- the number
 
-sub-read : tie.Need-sub-read
-sub-read c = let p = placed (c .before .before) in omega arith
+abbrev entry : tie.After-read → tie.Start
+entry r = start (r .before .before .before)
 
-part-read-start : tie.Need-part-read-start
-part-read-start c = let p = placed (c .before .before) in omega arith
+abbrev digits : tie.After-read → Option ℕ
+digits r = phraseIn (behindHash (text (fields (entry r)) 0))
 
-part-read-end : tie.Need-part-read-end
-part-read-end c = let p = placed (c .before .before) in omega arith
-
-read-requires : tie.Need-read-requires
-read-requires c κs = search needs
-
-enum-known-read : tie.Need-enum-known-read
-enum-known-read c = search needs
-
-enum-told-2 : tie.Need-enum-told-2
-enum-told-2 c = search needs
-
-tally-of-requires : tie.Need-tally-of-requires
-tally-of-requires c κs =
-    let k = five (c .before .before) in
-    (start k .pre .0, start k .pre .1, search needs, placed k, start k .pre .3)
-
-lesser-fault-requires : tie.Need-lesser-fault-requires
-lesser-fault-requires c κs = search needs
+read : (r : tie.After-read) → asNumber (digits r) ≡ r .read .result
+read r = sym (phrase-read (behindHash (text (fields (entry r)) 0)) (r .before .behind-hash .ensures) (r .read .ensures))
 
 returns-2 : tie.Need-returns-2
-returns-2 c =
+returns-2 c format s e g =
     let t = c .before in
-    let e = t .before in
-    let r = e .before .before in
-    let k = five r in
-    let s = start k in
-    phrase-line-misnumbered (tables s) (s .args .edges) (head s) (s .args .at) (fields k) (whole k) (marks s) _ _
-    (bad-tells (number phraseNumber (digits k)) (sym (r .read .ensures) ∙ e .enum-told2 .given .1)) (t .tally-of .ensures) (c .lesser-fault .ensures)
+    let r = t .before .before in
+    let a = entry r in
+    ap Refused (c .fault-at .ensures _ _ (first-of (lined (r .before .before)) 0 (omega arith)))
+    ∙ sym
+    (phrase-stepped format (tables a) s (line a) (length (fields a)) _ refl e _ _ refl refl
+    .second (has-shape (r .before .before) format) (bad-is-not-good (digits r) (read r ∙ t .enum-told .given .1)))
 
-tally-of-requires-2 : tie.Need-tally-of-requires-2
-tally-of-requires-2 c κs =
-    let k = numbered (c .before) in
-    (start k .pre .0, start k .pre .1, search needs, placed k, start k .pre .3)
+abbrev asked : tie.After-known-told → tie.After-read
+asked k = k .before .before .before
 
-sub-fresh : tie.Need-sub-fresh
-sub-fresh c = let w = within (c .before .before) in omega arith
+abbrev number : tie.After-known-told → ℕ
+number k = k .before .read2 .given .0 .0
 
-cast-fresh : tie.Need-cast-fresh
-cast-fresh c = let w = within (c .before .before) in omega arith
+phrase-limits-requires : tie.Need-phrase-limits-requires
+phrase-limits-requires c κs =
+    let r = asked c in
+    let l = lined (r .before .before) in
+    let w = number-tells phraseNumber (behindHash (text (fields (entry r)) 0) .bytes) (number c) (good-tells (digits r) (number c) (read r ∙ c .before .read2 .given .1)) in
+    (search needs, entry r .pre .3, l .five, l .few, w .lowest, w .highest, entry r .pre .4)
 
-mul-fresh : tie.Need-mul-fresh
-mul-fresh c = search needs
+-- ---- the rules of the fields
 
-shared-slice-read-fresh : tie.Need-shared-slice-read-fresh
-shared-slice-read-fresh c =
-    let g = c .before .before .before in
-    let w = within g in
-    omega (arith, start (numbered g) .pre .5)
+abbrev found : tie.After-judge → tie.After-known-told
+found j = j .before .before
 
-fault-unless-requires : tie.Need-fault-unless-requires
-fault-unless-requires c κs = search needs
+abbrev from : tie.After-judge → tie.Start
+from j = entry (asked (found j))
 
-room-fault-requires : tie.Need-room-fault-requires
-room-fault-requires c κs =
-    let t = c .before .before in
-    let g = t .before .before in
-    let k = numbered g in
-    let s = start k in
-    (s .pre .4, line-edges-fit (tables s) (s .args .edges) (head s) (s .args .at) (fields k) (whole k) 4 (its-number g) _ (t .tally-of2 .ensures) (s .pre .2) (s .pre .3))
+abbrev seen : tie.After-judge → tie.Else1
+seen j = asked (found j) .before .before
 
-lesser-fault-requires-2 : tie.Need-lesser-fault-requires-2
-lesser-fault-requires-2 c κs = search needs
+abbrev fault : tie.After-judge → ℕ → Fault → Fault
+fault j format limits = firstFault format (fields (from j)) (tables (from j)) nodeTags (number (found j)) limits
 
-lesser-fault-requires-3 : tie.Need-lesser-fault-requires-3
-lesser-fault-requires-3 c κs = search needs
+abbrev limits : tie.After-judge → Fault
+limits j =
+    let a = from j .args in
+    pick (leb (a .edges + (seen j .before .before .count-fields .result - 5) / 2) edgeLimit)
+    (pick (not (marked (a .marks .now) (a .stamp) (number (found j)))) noFault (record { number = 17; place = a .line .start }))
+    (record { number = 16; place = a .line .start })
 
-answer-requires : tie.Need-answer-requires
-answer-requires c κs = search needs
+abbrev parent : tie.After-judge → ℕ → ℕ
+parent j format = value (itsParent format (fields (from j)))
+
+abbrev highest : tie.After-judge → ℕ → ℕ
+highest j format = highestIn format (fields (from j))
+
+judged : (j : tie.After-judge) (format : ℕ) → unlessFaulty (fault j format (limits j)) (parent j format) (highest j format) ≡ j .judge .result
+judged j format =
+    sym (j .judge .ensures format ∙ ap (λ (l : Fault). unlessFaulty (fault j format l) (parent j format) (highest j format)) (j .before .phrase-limits .ensures))
+
+numbered : (j : tie.After-judge) → asNumber (digits (asked (found j))) ≡ Good (number (found j))
+numbered j = read (asked (found j)) ∙ found j .before .read2 .given .1
 
 returns-3 : tie.Need-returns-3
-returns-3 c =
-    let m = c .before .before .before in
-    let u = m .before in
-    let t = u .before .before in
-    let g = t .before .before in
-    let k = numbered g in
-    let s = start k in
-    c .answer .ensures
-    ∙ phrase-line-told (tables s) (s .args .edges) (head s) (s .args .at) (fields k) (whole k) (marks s) (its-number g) _ _ _ _ _ (good g)
-    (t .tally-of2 .ensures)
-    (u .fault-unless .ensures ∙ ap (λ (b : Bool). wrong 17 (not (b && eqb (getD (s .args .marks .now) (its-number g - 500) 0) (s .args .stamp)))) (sym (le-leb 500 (its-number g) (within g .lowest))))
-    (m .room-fault .ensures) (c .before .before .lesser-fault2 .ensures) (c .before .lesser-fault3 .ensures)
+returns-3 c format s e g =
+    let t = c .before in
+    let j = t .before .before in
+    let o = digits (asked (found j)) in
+    refused-by
+    (phrase-stepped format (tables (from j)) s (line (from j)) _ _ (sym (seen j .before .before .count-fields .ensures)) e _ _ (good-value o _ (numbered j)) (g (number (found j))))
+    (has-shape (seen j) format) (good-is-good o _ (numbered j)) (parent j format) (highest j format) _ (judged j format ∙ t .judged .given .1)
+
+returns-4 : tie.Need-returns-4
+returns-4 c format s e g =
+    let t = c .before .before in
+    let j = t .before .before in
+    let o = digits (asked (found j)) in
+    let w = fine-tells (fault j format (limits j)) (parent j format) (highest j format) _ _ (judged j format ∙ t .judged2 .given .1) in
+    ap Phrase (c .node-said .ensures _ format noText (lined (seen j)) refl (sym (w .itself)) (sym (w .top)))
+    ∙ taken-as
+    (phrase-stepped format (tables (from j)) s (line (from j)) _ _ (sym (seen j .before .before .count-fields .ensures)) e _ _ (good-value o _ (numbered j)) (g (number (found j))))
+    (has-shape (seen j) format) (good-is-good o _ (numbered j)) (w .none)
 
 pub phrase-line-spec : {M : Type 1} → statement M
-phrase-line-spec = tie.close (tie.spec five-fields-requires enum-known-five enum-told returns add-digits sub-read part-read-start part-read-end read-requires enum-known-read enum-told-2 tally-of-requires lesser-fault-requires returns-2 tally-of-requires-2 sub-fresh cast-fresh mul-fresh shared-slice-read-fresh fault-unless-requires room-fault-requires lesser-fault-requires-2 lesser-fault-requires-3 answer-requires returns-3)
+phrase-line-spec = tie.close (tie.spec (λ c κs. c .before .before .before .pre .1) (λ c κs. tt) (λ c κs. search needs) returns (λ c κs. first-of (lined c) 0 (omega arith)) (λ c κs. search needs) (λ c. search needs) (λ c. search needs) (λ c κs. search needs) returns-2 phrase-limits-requires (λ c κs. let r = asked (c .before) in (entry r .pre .0, lined (r .before .before), entry r .pre .2, search needs)) (λ c. search needs) (λ c. search needs) (λ c κs. (_, lined (seen (c .before .before .before)))) returns-3 returns-4)

@@ -1,95 +1,118 @@
--- `nodes::word_line` meets its contract: a word behind a phrase, a short line, or the tally with the sentence's limits.
--- Assumes nothing.
 use borrow.Author.Needs.{needs}
-use borrow.Author.Tests.{not-true, not-false}
-use Prim.Native.Nat.{ℕ}
-use mathlib.Core.Path.{_≡_, sym, ap, _∙_}
-use mathlib.Core.Bool.{Bool, true}
+use native.Mathlib.Omega.{arith}
+use mathlib.Core.Path.{_≡_, refl, sym, ap, _∙_}
+use Prim.Native.Nat.{ℕ, _+_, _-_, _/_}
 use mathlib.Core.List.{List}
-use Rattle.rules.specs.Tables.{Tables}
-use Rattle.rules.specs.Nodes.{wordOf}
-use Rattle.sheets.specs.SheetRows.{tablesIn}
-use Rattle.fields.specs.Fields.{lineAt, fieldsFrom, firstFive}
-use Rattle.nodes.specs.Answers.{nodeAnswer}
-use Rattle.fields.specs.declared.Fields.{Fields}
-use Rattle.fields.specs.declared.Five.the-variants.{Whole}
-use Rattle.nodes.specs.declared.NodeAnswer.{NodeAnswer}
-use Rattle.nodes.proofs.LineAnswers.{word-line-late, word-line-short, line-placed, line-edges-fit, word-line-told}
+use borrow.Author.Tests.{not-true, not-false}
+use lib.Dec.{leb, ltb}
+use lib.ListN.{length}
+use Rattle.rules.specs.Lists.{pick}
+use mathlib.Core.Bool.{true, _&&_}
+use Rattle.rules.specs.Texts.{Text}
+use Rattle.rules.specs.Columns.{text}
+use Rattle.rules.specs.Numbers.{wordLimit, edgeLimit, value}
+use Rattle.rules.specs.Tables.{Tables, wordTags}
+use Rattle.rules.specs.Nodes.{itsParent, shaped}
+use Rattle.columns.specs.Listing.{lineOf, spanOf}
+use Rattle.table_sheet.specs.SheetRows.{tablesIn}
+use Rattle.steps.specs.Faults.{noFault}
+use Rattle.steps.specs.declared.Fault.{Fault}
+use Rattle.steps.specs.declared.Step.the-variants.{Word}
+use Rattle.nodes.specs.NodeLines.{fieldsOf, firstFault, highestIn, unlessFaulty, Whole}
+use Rattle.nodes.proofs.ListedFields.{whole, first-of, at-column, at-field}
+use Rattle.nodes.proofs.Judgements.{fine-tells}
+use Rattle.nodes.proofs.NodeSteps.{word-stepped, refused-by, taken-as}
 use Rattle.nodes.proofs.word_line.Statement.{statement}
 use Rattle.nodes.proofs.word_line.Tie as tie
 
-abbrev head : tie.Start → List ℕ
-head s = s .args .head .now
+abbrev fields : tie.Start → List Text
+fields s = fieldsOf (s .args .file .now) (s .args .line)
 
 abbrev tables : tie.Start → Tables
-tables s = tablesIn (head s) (s .args .sheet .now)
+tables s = tablesIn (s .args .file .now) (s .args .sheet .now)
 
-abbrev right : tie.Start → Bool → NodeAnswer
-right s no-phrase = nodeAnswer (wordOf (tables s) (s .args .words) no-phrase (s .args .edges) (lineAt (head s) (s .args .at)))
+abbrev line : tie.Start → Text
+line s = lineOf (s .args .file .now) (s .args .line)
 
-abbrev start : tie.Else1 → tie.Start
-start e = e .before .before .before
+abbrev start : tie.After-is-shaped → tie.Start
+start k = k .before .before .before .before .before
 
--- behind the first test no phrase stands in front
-no-phrase : (e : tie.Else1) (r : NodeAnswer) → r ≡ right (start e) true → r ≡ right (start e) (start e .args .no-phrase)
-no-phrase e r q = q ∙ ap (right (start e)) (sym (not-false _ (e .if1 .left)))
+shape : (k : tie.After-is-shaped) (format : ℕ) → shaped format (fields (start k)) ≡ k .is-shaped .result
+shape k format = sym (k .is-shaped .ensures format (fields (start k)) (sym (k .before .count-fields .ensures)))
 
-abbrev fields : tie.After-five → Fields
-fields k = k .five .given .0 .0
+lined : (c : tie.Else2)
+    → let s = start (c .before) in Whole (s .args .file .now) (s .args .line) (s .args .places .now) (c .before .before .count-fields .result)
+lined c = let k = c .before in whole 0 (start k .pre .1) (k .before .count-fields .ensures) (shape k 0 ∙ not-false _ (c .if2 .left))
 
-abbrev early : tie.After-five → tie.Else1
-early k = k .before .before .before
-
-whole : (k : tie.After-five) → firstFive (fieldsFrom (head (start (early k))) (start (early k) .args .at)) ≡ Whole (fields k)
-whole k = sym (k .before .before .five-fields .ensures) ∙ k .five .given .1
+first : (k : tie.After-is-shaped) → start k .args .no-phrase ≡ true
+first k = not-false _ (k .before .before .if1 .left)
 
 returns : tie.Need-returns
-returns c =
-    let s = c .before .before .before in
-    sym (ap (right s) (not-true _ (c .if1 .taken)) ∙ word-line-late (tables s) (s .args .edges) (head s) (s .args .at) (s .args .words))
-
-five-fields-requires : tie.Need-five-fields-requires
-five-fields-requires c κs = search needs
-
-enum-known-five : tie.Need-enum-known-five
-enum-known-five c = search needs
-
-enum-told : tie.Need-enum-told
-enum-told c = search needs
+returns c format s w p e =
+    let a = c .before .before .before .before in
+    c .refused .ensures ∙ sym (word-stepped format (tables a) s (line a) (length (fields a)) _ refl e _ _ w p .first (not-true _ (c .before .if1 .taken)))
 
 returns-2 : tie.Need-returns-2
-returns-2 c =
-    let v = c .before .before in
-    let s = start (v .before) in
-    no-phrase (v .before) _ (sym (word-line-short (tables s) (s .args .edges) (head s) (s .args .at) (s .args .words) (sym (v .five-fields .ensures) ∙ c .enum-told .given .1)))
-
-tally-of-requires : tie.Need-tally-of-requires
-tally-of-requires c κs =
-    let k = c .before in
-    let s = start (early k) in
-    (s .pre .0, s .pre .1, search needs, line-placed (tables s) (s .args .edges) (head s) (s .args .at) (fields k) (whole k), s .pre .3)
-
-room-fault-requires : tie.Need-room-fault-requires
-room-fault-requires c κs =
+returns-2 c format s w p e =
     let k = c .before .before in
-    let s = start (early k) in
-    (s .pre .4, line-edges-fit (tables s) (s .args .edges) (head s) (s .args .at) (fields k) (whole k) 2 (s .args .words) _ (c .tally-of .ensures) (s .pre .2) (s .pre .3))
+    let a = start k in
+    c .refused2 .ensures
+    ∙ sym (word-stepped format (tables a) s (line a) (length (fields a)) _ refl e _ _ w p .second (first k) (shape k format ∙ not-true _ (c .before .if2 .taken)))
 
-lesser-fault-requires : tie.Need-lesser-fault-requires
-lesser-fault-requires c κs = search needs
+-- ---- the rules of the fields
 
-answer-requires : tie.Need-answer-requires
-answer-requires c κs = search needs
+abbrev entry : tie.After-judge → tie.Start
+entry j = start (j .before .before .before)
+
+abbrev fault : tie.After-judge → ℕ → Fault → Fault
+fault j format limits = firstFault format (fields (entry j)) (tables (entry j)) wordTags (entry j .args .words) limits
+
+abbrev limits : tie.After-judge → Fault
+limits j =
+    let a = entry j .args in
+    pick (ltb (a .words) wordLimit && leb (a .edges + (j .before .before .before .before .count-fields .result - 5) / 2) edgeLimit) noFault
+    (record { number = 16; place = a .line .start })
+
+abbrev parent : tie.After-judge → ℕ → ℕ
+parent j format = value (itsParent format (fields (entry j)))
+
+abbrev highest : tie.After-judge → ℕ → ℕ
+highest j format = highestIn format (fields (entry j))
+
+judged : (j : tie.After-judge) (format : ℕ) → unlessFaulty (fault j format (limits j)) (parent j format) (highest j format) ≡ j .judge .result
+judged j format =
+    sym (j .judge .ensures format ∙ ap (λ (l : Fault). unlessFaulty (fault j format l) (parent j format) (highest j format)) (j .before .word-limits .ensures))
+
+column-span-requires : tie.Need-column-span-requires
+column-span-requires c κs =
+    let l = lined (c .before .before .before .before .before) in
+    (at-column (first-of l 0 (omega arith)), (_, l .listed))
 
 returns-3 : tie.Need-returns-3
-returns-3 c =
-    let t = c .before .before .before in
-    let k = t .before .before in
-    let s = start (early k) in
-    no-phrase (early k) _
-    (c .answer .ensures
-    ∙ word-line-told (tables s) (s .args .edges) (head s) (s .args .at) (fields k) (whole k) (s .args .words) _ _ _
-    (t .tally-of .ensures) (c .before .before .room-fault .ensures) (c .before .lesser-fault .ensures))
+returns-3 c format s w p e =
+    let g = c .before in
+    let j = g .before .before in
+    let c = j .before .before in
+    let k = c .before in
+    refused-by
+    (word-stepped format (tables (entry j)) s (line (entry j)) _ _ (sym (k .before .count-fields .ensures)) e _ _ w p)
+    (first k) (shape k format ∙ not-false _ (c .if2 .left)) (parent j format) (highest j format) _ (judged j format ∙ g .judged .given .1)
+
+returns-4 : tie.Need-returns-4
+returns-4 c format s w p e =
+    let v = c .before in
+    let g = v .before .before in
+    let j = g .before .before in
+    let d = j .before .before in
+    let k = d .before in
+    let l = lined d in
+    let t = fine-tells (fault j format (limits j)) (parent j format) (highest j format) _ _ (judged j format ∙ g .judged2 .given .1) in
+    ap Word
+    (c .node-said .ensures _ format (text (fields (entry j)) 0) l (v .column-span .ensures _ (l .listed) ∙ ap spanOf (at-field (first-of l 0 (omega arith))))
+    (sym (t .itself)) (sym (t .top)))
+    ∙ taken-as
+    (word-stepped format (tables (entry j)) s (line (entry j)) _ _ (sym (k .before .count-fields .ensures)) e _ _ w p)
+    (first k) (shape k format ∙ not-false _ (d .if2 .left)) (t .none)
 
 pub word-line-spec : {M : Type 1} → statement M
-word-line-spec = tie.close (tie.spec returns five-fields-requires enum-known-five enum-told returns-2 tally-of-requires room-fault-requires lesser-fault-requires answer-requires returns-3)
+word-line-spec = tie.close (tie.spec (λ c κs. search needs) returns (λ c κs. c .before .before .before .pre .1) (λ c κs. tt) (λ c κs. search needs) returns-2 (λ c κs. let l = lined c in (search needs, start (c .before) .pre .3, l .five, l .few)) (λ c κs. let k = c .before in let s = start (k .before) in (s .pre .0, lined k, s .pre .2, search needs)) (λ c. search needs) (λ c. search needs) column-span-requires (λ c κs. (_, lined (c .before .before .before .before .before .before))) returns-3 returns-4)

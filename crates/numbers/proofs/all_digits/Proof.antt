@@ -1,5 +1,5 @@
 -- `numbers::all_digits` meets its contract. The loop's invariant: every byte from `i` on is a digit if and only if the
--- column is digits alone. The measure is what is left of the column. Assumes nothing.
+-- column is digits alone. The measure is what is left of the column.
 use borrow.Author.Needs.{needs}
 use native.Mathlib.Omega.{arith}
 use Prim.Native.Nat.{ℕ, _-_, _≤_, _<_}

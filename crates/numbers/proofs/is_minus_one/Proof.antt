@@ -1,5 +1,4 @@
 -- `numbers::is_minus_one` meets its contract: by the length, the sign and the digit, one law each.
--- Assumes nothing.
 use borrow.Author.Needs.{needs}
 use mathlib.Core.Path.{sym}
 use Rattle.numbers.proofs.Plain.{minus-length, minus-sign, minus-digit}

@@ -1,5 +1,4 @@
 -- `numbers::is_plain` meets its contract: no byte, one byte, or the first of several, by the laws of each length.
--- Assumes nothing.
 use borrow.Author.Needs.{needs}
 use mathlib.Core.Path.{sym}
 use Rattle.numbers.proofs.Plain.{plain-none, plain-one, plain-more}

@@ -1,5 +1,4 @@
 -- `numbers::larger_of` meets its contract: by the order of the two.
--- Assumes nothing.
 use borrow.Author.Tests.{lt-ltb, le-ltb}
 use Rattle.numbers.proofs.larger_of.Statement.{statement}
 use Rattle.numbers.proofs.larger_of.Tie as tie

@@ -1,5 +1,4 @@
 -- `numbers::node_range` meets its contract: each arm's range decides the tests of the definition, by one law each.
--- Assumes nothing.
 use mathlib.Core.Path.{sym}
 use native.Mathlib.Omega.{arith}
 use Rattle.numbers.proofs.Ranges.{range-root, range-word, range-phrase, range-above}

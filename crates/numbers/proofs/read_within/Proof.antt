@@ -1,5 +1,5 @@
 -- `numbers::read_within` meets its contract. The loop's invariant: the value so far, which is not past the highest, and
--- the bytes from `i` on make the answer of the whole column. The measure is what is left of it. Assumes nothing.
+-- the bytes from `i` on make the answer of the whole column. The measure is what is left of it.
 use borrow.Author.Needs.{needs}
 use borrow.Author.Tests.{not-true, not-false}
 use native.Mathlib.Omega.{arith}

@@ -1,5 +1,5 @@
 -- `seen::add` meets its contract: a byte whose bit is clear has room for the bit's weight.
--- No loop. Assumes nothing.
+-- No loop.
 use borrow.Author.Needs.{needs}
 use native.Mathlib.Omega.{arith}
 use Prim.Native.Nat.{ℕ, _/_, _%_, _<_}

@@ -1,5 +1,5 @@
 -- `seen::clear` meets its contract: the bytes passed are zeros, and the others are still what they were.
--- The measure is what is left of the length. Assumes nothing.
+-- The measure is what is left of the length.
 use borrow.Author.Needs.{needs}
 use borrow.Author.Fill.{fill-more}
 use native.Mathlib.Omega.{arith}

@@ -1,5 +1,5 @@
 -- `seen::has` meets its contract: the weight that the table holds at a bit is the power that the definition divides by.
--- No loop. Assumes nothing.
+-- No loop.
 use borrow.Author.Needs.{needs}
 use native.Mathlib.Omega.{arith}
 use Prim.Native.Nat.{_%_}

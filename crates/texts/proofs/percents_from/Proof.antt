@@ -1,5 +1,5 @@
 -- `texts::percents_from` meets its contract. The invariant: from the loop's place on, the signs stand where they stand
--- from `at` on. The measure is what is left of the head. Assumes nothing.
+-- from `at` on. The measure is what is left of the head.
 use borrow.Author.Needs.{needs}
 use native.Mathlib.Omega.{arith}
 use Prim.Native.Nat.{ℕ, _+_, _-_, _≤_}

@@ -1,5 +1,5 @@
 -- `texts::same_text` meets its contract. The invariant: the two texts are the same exactly where their rests from the
--- loop's place on are. The measure is what is left of the first. Assumes nothing.
+-- loop's place on are. The measure is what is left of the first.
 use borrow.Author.Needs.{needs}
 use native.Mathlib.Omega.{arith}
 use Prim.Native.Nat.{ℕ, _-_, _≤_}

@@ -1,5 +1,5 @@
 -- `texts::trimmed_end` meets its contract. The invariant: up to the loop's place the trimmed text is the one up to the
--- head's end. The measure is that place. Assumes nothing.
+-- head's end. The measure is that place.
 use borrow.Author.Needs.{needs}
 use borrow.Author.Tests.{not-true, not-false}
 use native.Mathlib.Omega.{arith}

@@ -1,5 +1,4 @@
 -- `columns::Cursor::new` meets its contract. Written out so that a wrong place is refused here and not where the walk of `reader/next_column` cites it.
--- Assumes nothing.
 use borrow.Author.Needs.{needs}
 use Rattle.columns.proofs.Cursor.new.Statement.{statement}
 use Rattle.columns.proofs.Cursor.new.Tie as tie

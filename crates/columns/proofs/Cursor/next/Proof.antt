@@ -1,5 +1,4 @@
 -- `columns::Cursor::next` meets its contract: the two skips come to the places where the first column starts and ends.
--- Assumes nothing.
 use borrow.Author.Needs.{needs}
 use mathlib.Core.Path.{sym}
 use Rattle.columns.proofs.Steps.{comes-to-none, comes-to-one}

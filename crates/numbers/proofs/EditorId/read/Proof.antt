@@ -1,9 +1,8 @@
 -- `numbers::EditorId::read` meets its contract: -1 is 0, a number is one more than it is, and what is no number stays bad.
--- Assumes nothing.
 use borrow.Author.Needs.{needs}
 use native.Mathlib.Omega.{arith}
 use Prim.Native.Nat.{ℕ}
-use mathlib.Core.Path.{_≡_, sym, _∙_}
+use mathlib.Core.Path.{_≡_, refl, sym, _∙_}
 use mathlib.Core.Bool.{false}
 use mathlib.Core.List.{List}
 use Rattle.rules.specs.Lists.{bytes, same}
@@ -45,7 +44,7 @@ enum-known-read : tie.Need-enum-known-read
 enum-known-read c = search needs
 
 add-t10 : tie.Need-add-t10
-add-t10 c = omega (arith, signed-fits (column (c .before .before .before)) (c .before .read .given .0 .0) (read-good c))
+add-t10 c = omega (arith, signed-fits (column (c .before .before .before)) 65535 refl (c .before .read .given .0 .0) (read-good c))
 
 enum-told : tie.Need-enum-told
 enum-told c = search needs
@@ -53,12 +52,12 @@ enum-told c = search needs
 returns-2 : tie.Need-returns-2
 returns-2 c =
     let r = c .before .before .before in
-    sym (signed-good (column r) (other r) (c .before .read .given .0 .0) (read-good c))
+    sym (signed-good (column r) 65535 refl (other r) (c .before .read .given .0 .0) (read-good c))
 
 returns-3 : tie.Need-returns-3
 returns-3 c =
     let r = c .before .before in
-    sym (signed-bad (column r) (other r) (sym (r .read-within .ensures) ∙ c .enum-told .given .1))
+    sym (signed-bad (column r) 65535 refl (other r) (sym (r .read-within .ensures) ∙ c .enum-told .given .1))
 
 pub read-spec : {M : Type 1} → statement M
 read-spec =

@@ -1,0 +1,2 @@
+pub mod TablesThere
+pub mod TabledSheets

@@ -1,0 +1,75 @@
+-- `citations::has_row` meets its contract: an absent table has no rows, and the rows of another are looked through.
+use mathlib.Core.Option.{Option}
+use Rattle.rules.specs.Tables.{Row, hasId, rowsOf}
+use Rattle.table_sheet.specs.SheetRows.{rowsFrom}
+use Rattle.table_sheet.specs.LookUps.{isFound}
+use Rattle.table_sheet.proofs.LookUps.{id-found}
+use Rattle.citations.proofs.TablesThere.{table-absent, table-there, rows-in-sheet}
+use borrow.Author.Needs.{needs}
+use native.Mathlib.Omega.{arith}
+use Prim.Native.Nat.{ℕ, _-_}
+use mathlib.Core.Path.{sym, ap, _∙_}
+use mathlib.Core.Bool.{Bool}
+use mathlib.Core.List.{List, []}
+use lib.ListN.{getD}
+use Rattle.citations.proofs.has_row.Statement.{statement}
+use Rattle.citations.proofs.has_row.Tie as tie
+
+abbrev among : ℕ → Option (List Row) → Bool
+among id1 rows = hasId id1 (rowsOf rows)
+
+mul-count : tie.Need-mul-count
+mul-count c = search needs
+
+shared-slice-read-count : tie.Need-shared-slice-read-count
+shared-slice-read-count c = search needs
+
+cast-count : tie.Need-cast-count
+cast-count c = omega (arith, c .shared-slice-known2 .given (c .before .before .args .table))
+
+returns : tie.Need-returns
+unfolding hasId
+returns c file =
+    let s = c .before .before .before in
+    sym (ap (among (s .args .id1)) (table-absent file (s .args .sheet .now) (s .args .table) (s .pre .1) (c .if1 .taken)))
+
+row-place-requires : tie.Need-row-place-requires
+row-place-requires c κs = search needs
+
+sub-find-id : tie.Need-sub-find-id
+sub-find-id c = search needs
+
+find-id-requires : tie.Need-find-id-requires
+find-id-requires c κs =
+    let s = c .before .before .before .before in
+    let room = rows-in-sheet [] (s .args .sheet .now) (s .args .table) (s .pre .1) (s .pre .0) in
+    rw (c .row-place .ensures) room
+
+is-row-requires : tie.Need-is-row-requires
+is-row-requires c κs = search needs
+
+returns-2 : tie.Need-returns-2
+returns-2 c file =
+    let asked = c .before .before in
+    let s = asked .before .before .before .before in
+    let a = s .args in
+    let rows = getD (a .sheet .now) (a .table) 0 - 1 in
+    c .is-row .ensures
+    ∙ ap isFound (c .before .find-id .ensures file)
+    ∙ id-found (a .id1) (rowsFrom file (a .sheet .now) (asked .row-place .result) rows)
+    ∙ ap (λ (p : ℕ). hasId (a .id1) (rowsFrom file (a .sheet .now) p rows)) (asked .row-place .ensures)
+    ∙ sym (ap (among (a .id1)) (table-there file (a .sheet .now) (a .table) (s .pre .1) (asked .before .if1 .left)))
+
+pub has-row-spec : {M : Type 1} → statement M
+has-row-spec =
+    tie.close
+    (tie.spec
+    mul-count
+    shared-slice-read-count
+    cast-count
+    returns
+    row-place-requires
+    sub-find-id
+    find-id-requires
+    is-row-requires
+    returns-2)

@@ -1,0 +1,96 @@
+// What a line cites, looked up in the table sheet: the tags of a node line, the editor and the origin of a sentence.
+ghost use mathlib.Core.Path.{_≡_};
+ghost use mathlib.Core.List.{List};
+ghost use Prim.Native.Nat.{ℕ, _≤_, _<_};
+ghost use Rattle.rules.specs.Lists.{same};
+ghost use Rattle.rules.specs.Numbers.{originId};
+ghost use Rattle.rules.specs.Tables.{unknown, tagLimit, present, hasId, known};
+ghost use Rattle.rules.specs.Sentences.{knownEditor, knownOrigin};
+ghost use Rattle.rules.specs.Sheets.{tableCount};
+ghost use Rattle.table_sheet.specs.SheetRows.{tablesIn};
+ghost use Rattle.citations.specs.Tabled.{Counted, Tabled, rowsIn};
+
+// Tags have at most 10 bytes, those of MORPHTAG 32.
+pub fn tag_limit(table: usize) -> usize
+    ensures { λ r. ⌜ r ≡ tagLimit table ⌝ }
+{
+    if table == table_sheet::MORPH_TAGS {
+        32
+    } else {
+        10
+    }
+}
+
+fn is_unknown(tag: &[u8]) -> bool
+    ensures { λ r. ⌜ r ≡ same (now (tag .entry)) unknown ⌝ }
+{
+    if tag.len() != 7 {
+        return false;
+    }
+    let word = [85u8, 78, 75, 78, 79, 87, 78];
+    texts::same_text(tag, &word)
+}
+
+// -- and UNKNOWN always are, and any tag of a table that the file doesn't have. The answer is the same whatever the hints.
+pub fn is_known(
+    file: &[u8],
+    sheet: &[u32],
+    hints: &[u8; table_sheet::HINTS],
+    table: usize,
+    tag: &[u8],
+) -> bool
+    requires { ⌜ Tabled (now file) (now sheet) × (table < tableCount) ⌝ }
+    ensures { λ r. ⌜ ((start : ℕ) → r ≡ known (tablesIn (now (file .entry)) (now (sheet .entry))) table (record { start = start; bytes = now (tag .entry) })) ⌝ }
+{
+    if columns::is_twice(tag, b'-') {
+        return true;
+    }
+    if is_unknown(tag) {
+        return true;
+    }
+    let count = sheet[table] as usize;
+    if count == 0 {
+        return true;
+    }
+    let place = table_sheet::row_place(table, 0);
+    let found = table_sheet::find_tag(file, sheet, hints, table, place, count - 1, tag);
+    table_sheet::is_row(found)
+}
+
+pub fn is_present(sheet: &[u32], table: usize) -> bool
+    requires { ⌜ Counted (now sheet) × (table < tableCount) ⌝ }
+    ensures { λ r. ⌜ ((file : List ℕ) → r ≡ present table (tablesIn file (now (sheet .entry)))) ⌝ }
+{
+    sheet[table] != 0
+}
+
+fn has_row(sheet: &[u32], table: usize, id1: u32) -> bool
+    requires { ⌜ Counted (now sheet) × (table < tableCount) ⌝ }
+    ensures { λ r. ⌜ ((file : List ℕ) → r ≡ hasId id1 (rowsIn file (now (sheet .entry)) table)) ⌝ }
+{
+    let count = sheet[table] as usize;
+    if count == 0 {
+        return false;
+    }
+    let place = table_sheet::row_place(table, 0);
+    let row = table_sheet::find_id(sheet, place, count - 1, id1);
+    table_sheet::is_row(row)
+}
+
+// The editor's id + 1: -1 and 0 may be cited without a row.
+pub fn knows_editor(sheet: &[u32], id1: u32) -> bool
+    requires { ⌜ Counted (now sheet) ⌝ }
+    ensures { λ r. ⌜ ((file : List ℕ) → r ≡ knownEditor (tablesIn file (now (sheet .entry))) id1) ⌝ }
+{
+    if id1 < 2 {
+        return true;
+    }
+    has_row(sheet, table_sheet::EDITORS, id1)
+}
+
+pub fn knows_origin(sheet: &[u32], n: u32) -> bool
+    requires { ⌜ Counted (now sheet) × (n ≤ originId .highest) ⌝ }
+    ensures { λ r. ⌜ ((file : List ℕ) → r ≡ knownOrigin (tablesIn file (now (sheet .entry))) n) ⌝ }
+{
+    has_row(sheet, table_sheet::ORIGINS, n + 1)
+}

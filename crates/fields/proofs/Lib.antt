@@ -1,2 +1,0 @@
-pub mod FieldSteps
-pub mod FiveFields

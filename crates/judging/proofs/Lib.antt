@@ -1,4 +1,0 @@
-pub mod OtherKinds
-pub mod Dispatch
-pub mod Tells
-pub mod JudgedBy

@@ -1,3 +1,0 @@
-pub mod Takings
-pub mod States
-pub mod Judging

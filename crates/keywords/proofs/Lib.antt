@@ -1,5 +1,0 @@
-pub mod Hashes
-pub mod FirstColumns
-pub mod SecondColumns
-pub mod KeywordLines
-pub mod KindTests

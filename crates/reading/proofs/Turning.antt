@@ -1,0 +1,179 @@
+-- One turn of the loop over the lines: the line is judged as the rules take it, its step can be taken, and then the reading
+-- goes on or stops.
+use Prim.Native.Nat.{ℕ, suc, _+_, _-_, _≤_, _<_}
+use native.Mathlib.Omega.{arith}
+use mathlib.Core.Path.{_≡_, refl, sym, ap, _∙_, subst}
+use mathlib.Core.List.{List, [], _∷_, _++_}
+use lib.ListN.{length, drop}
+use types.Run.{OneOf}
+use denote.Enum.Declared.{tagOf}
+use Rattle.rules.specs.Bytes.{ignored}
+use Rattle.rules.specs.Texts.{Text}
+use Rattle.rules.specs.Numbers.{fileLimit}
+use Rattle.rules.specs.Rules.{Verdict, refused, granted}
+use Rattle.rules.specs.Keywords.{firstColumn}
+use Rattle.rules.specs.Lines.{Taking, ignoredLine, formatLine, tableBegins, rowLine, tableEnds, sentenceBegins, wordLine, phraseLine, sentenceEnds}
+use Rattle.rules.specs.Phases.{Phase, behindSentence, Answer, refuse, go, hand, after, next, taken}
+use Rattle.rules.specs.Reading.{Reading, begin, numbers, ended, read}
+use Rattle.lines.specs.LineEnds.{lineOf, lineEnd}
+use Rattle.lines.specs.declared.LineEnd.the-variants.{At}
+use Rattle.lines.proofs.Lines.{at-behind, at-below, at-place, at-take}
+use Rattle.columns.specs.Listing.{textBetween}
+use Rattle.steps.specs.Steps.{stepFor, stepOf}
+use Rattle.steps.specs.declared.Fault.{Fault}
+use Rattle.steps.specs.declared.Step.{Step}
+use Rattle.steps.specs.declared.Step.the-variants as steps
+use Rattle.steps.proofs.Step.{the-type}
+use Rattle.reading.specs.Effects.{Kept, effect, Applicable}
+use Rattle.reading.specs.Judging.{judgedBy, Judgeable}
+use Rattle.reading.specs.Closing.{reachedAt, faultAt, Walked}
+use Rattle.reading.proofs.Keeping.{keptOf, Tied}
+use Rattle.reading.proofs.Moving.{handing, RowSound, Left, MovesBy, chosen, ignored-moves, line-moves}
+use Rattle.reading.proofs.SameTaking.{same-taking, judgeable}
+use Rattle.reading.proofs.LineSteps.{lineRead, lineHere, taken-step}
+use Rattle.reading.proofs.Going.{not-among, Going, stop-by}
+
+-- ---- which step it is
+
+-- the steps that refuse nothing
+abbrev pub taking : List ℕ
+taking = 0 ∷ 1 ∷ 2 ∷ 3 ∷ 4 ∷ 5 ∷ 6 ∷ 7 ∷ 8 ∷ []
+
+never-refused : (t : Taking) (f : Fault) → steps.Refused f ≡ stepFor t → ⊥
+never-refused ignoredLine f e = let z : _≡_ {A = ℕ} 0 1 = cc in omega arith
+never-refused (formatLine n) f e = let z : _≡_ {A = ℕ} 0 1 = cc in omega arith
+never-refused (tableBegins n) f e = let z : _≡_ {A = ℕ} 0 1 = cc in omega arith
+never-refused (rowLine r) f e = let z : _≡_ {A = ℕ} 0 1 = cc in omega arith
+never-refused tableEnds f e = let z : _≡_ {A = ℕ} 0 1 = cc in omega arith
+never-refused (sentenceBegins h) f e = let z : _≡_ {A = ℕ} 0 1 = cc in omega arith
+never-refused (wordLine n) f e = let z : _≡_ {A = ℕ} 0 1 = cc in omega arith
+never-refused (phraseLine n) f e = let z : _≡_ {A = ℕ} 0 1 = cc in omega arith
+never-refused sentenceEnds f e = let z : _≡_ {A = ℕ} 0 1 = cc in omega arith
+
+-- ---- one turn
+
+module _ (file : List ℕ) (size at : ℕ) (k : Kept) (g : Going file size at k) (short : length file ≤ fileLimit) (e : ℕ) (q : lineEnd file at ≡ At e) where
+  abbrev r : Reading
+  r = g .reading
+
+  abbrev ph : Phase
+  ph = r .phase
+
+  abbrev ns : List ℕ
+  ns = numbers (r .handed)
+
+  abbrev line : Text
+  line = textBetween file at e
+
+  abbrev base : Kept
+  base = keptOf (k .marks) size (r .handed) ph
+
+  tied-base : Tied file size (r .handed) at ph base
+  tied-base =
+      let t = g .tied in
+      record { is = refl; known = t .known; room = t .room; marks-are = t .marks-are; begun = t .begun; phrases = t .phrases; handed = t .handed }
+
+  pub ready : Judgeable file (k .state) (k .sheet) (k .seen) (k .state .phase)
+  ready =
+      subst (λ (x : Kept). Judgeable file (x .state) (x .sheet) (x .seen) (x .state .phase)) (sym (g .tied .is))
+      (judgeable file size (r .handed) at (k .marks) short (g .in-file) ph tied-base)
+
+  -- the line is taken as the rules take it
+  abbrev judged : Verdict Taking
+  judged = judgedBy file line (k .state) (k .sheet) (k .seen) (k .marks)
+
+  judged-is : judged ≡ taken ph ns line
+  judged-is =
+      ap (λ (x : Kept). judgedBy file line (x .state) (x .sheet) (x .seen) (x .marks)) (g .tied .is)
+      ∙ same-taking file size (r .handed) at (k .marks) line ph tied-base
+
+  abbrev bytesHere : List ℕ
+  bytesHere = lineOf (drop at file)
+
+  line-is : lineHere file at r (g .sound) (g .unbegun) ≡ line
+  line-is = rw (g .line-start, at-take file at e q)
+
+  -- the rest of the file is read behind the line's answer
+  answered : read begin file ≡ read (ended (lineRead r bytesHere) (next (after ph at) (taken ph ns line))) (drop (e + 1) file)
+  answered =
+      sym (g .rest) ∙ taken-step file at r (g .sound) (g .unbegun) e q
+      ∙ ap (λ (x : Text). read (ended (lineRead r bytesHere) (next (after ph (x .start)) (taken ph ns x))) (drop (e + 1) file)) line-is
+
+  behind : suc (r .at + length bytesHere) ≡ e + 1
+  behind = omega (arith, g .place, at-place file at e q)
+
+  going-by : (a : Answer) (k′ : Kept) → read begin file ≡ read (ended (lineRead r bytesHere) a) (drop (e + 1) file)
+      → Left file size (r .handed) at (e + 1) (k .marks) a k′ → Going file size (e + 1) k′
+  going-by (refuse b) k′ w left = absurd left
+  going-by (go p) k′ w left =
+      record {
+        reading = ended (lineRead r bytesHere) (go p);
+        in-file = omega (arith, at-below file at e q);
+        place = behind;
+        line-start = behind;
+        unbegun = refl;
+        sound = refl;
+        rest = sym w;
+        tied = left;
+      }
+  going-by (hand p y) k′ w left =
+      record {
+        reading = ended (lineRead r bytesHere) (hand p y);
+        in-file = omega (arith, at-below file at e q);
+        place = behind;
+        line-start = behind;
+        unbegun = refl;
+        sound = refl;
+        rest = sym w;
+        tied = subst (λ (n : ℕ). Tied file size (r .handed ++ (handing n y ∷ [])) (e + 1) (behindSentence p) k′) (sym behind) left;
+      }
+
+  abbrev Turned : Verdict Taking → Type 0
+  Turned (refused b) = Walked file size (reachedAt (k .state) (b .number) at) (k .sheet) (k .seen) (k .begins)
+  Turned (granted t) = Applicable (stepFor t) (length file) k × Going file size (e + 1) (effect (stepFor t) at (e + 1) k)
+
+  module _ (sound : RowSound file line) where
+    moves : MovesBy file size (r .handed) at (e + 1) (k .marks) ph (taken ph ns line)
+    unfolding taken
+    moves =
+        let more : at < e + 1 = omega (arith, at-behind file at e q) in
+        let inside : e + 1 ≤ length file = omega (arith, at-below file at e q) in
+        let few = g .tied .handed in
+        let room = g .tied .room in
+        chosen file size (r .handed) at (e + 1) (k .marks) ph (ignored (line .bytes)) _ _
+        (ignored-moves file size (r .handed) at (e + 1) (k .marks) short room more inside few line ph tied-base)
+        (line-moves file size (r .handed) at (e + 1) (k .marks) short room more inside few line sound (firstColumn line) ph tied-base)
+
+    by-verdict : (v : Verdict Taking) → taken ph ns line ≡ v → MovesBy file size (r .handed) at (e + 1) (k .marks) ph v → Turned v
+    by-verdict (refused b) h m =
+        stop-by file size at k g bytesHere (drop (e + 1) file) b
+        (answered ∙ ap (λ (v : Verdict Taking). read (ended (lineRead r bytesHere) (next (after ph at) v)) (drop (e + 1) file)) h)
+    by-verdict (granted t) h m =
+        subst (λ (x : Kept). Applicable (stepFor t) (length file) x × Going file size (e + 1) (effect (stepFor t) at (e + 1) x)) (sym (g .tied .is)) (
+          m .applies,
+          going-by (after ph at t) (effect (stepFor t) at (e + 1) base)
+              (answered ∙ ap (λ (v : Verdict Taking). read (ended (lineRead r bytesHere) (next (after ph at) v)) (drop (e + 1) file)) h) (m .left),
+        )
+
+    turned : Turned judged
+    turned = subst Turned (sym judged-is) (by-verdict (taken ph ns line) refl moves)
+
+    -- ---- as the code has it: y is the step that the judge answered
+
+    module _ (y : Step) (is : y ≡ stepOf judged) where
+      pub goes-on : OneOf taking (tagOf the-type y)
+          → Applicable y (length file) k × ((k′ : Kept) → k′ ≡ effect y at (e + 1) k → Going file size (e + 1) k′)
+      goes-on o = by judged turned is
+        where
+          by : (v : Verdict Taking) → Turned v → y ≡ stepOf v → Applicable y (length file) k × ((k′ : Kept) → k′ ≡ effect y at (e + 1) k → Going file size (e + 1) k′)
+          by (refused b) t s = absurd (not-among 9 taking refl (subst (λ (x : Step). OneOf taking (tagOf the-type x)) s o))
+          by (granted t) u s = rw s (u .0, λ k′ h. subst (Going file size (e + 1)) (sym h) (u .1))
+
+      pub stops : (f : Fault) → y ≡ steps.Refused f → Walked file size (record { state = k .state; fault = faultAt at f }) (k .sheet) (k .seen) (k .begins)
+      stops f h = by judged turned (sym h ∙ is)
+        where
+          by : (v : Verdict Taking) → Turned v → steps.Refused f ≡ stepOf v → Walked file size (record { state = k .state; fault = faultAt at f }) (k .sheet) (k .seen) (k .begins)
+          by (refused b) t s =
+              let n : f .number ≡ b .number = cc in
+              subst (λ (m : ℕ). Walked file size (reachedAt (k .state) m at) (k .sheet) (k .seen) (k .begins)) (sym n) t
+          by (granted t) u s = absurd (never-refused t f s)

@@ -1,0 +1,279 @@
+-- `reading::take_lines` meets its contract: between two lines what it keeps is what the rules' reading has. The measure is
+-- what is left of the file.
+use borrow.Author.Needs.{needs}
+use native.Mathlib.Omega.{arith}
+use Prim.Native.Nat.{ℕ, _-_, _≤_, _<_}
+use mathlib.Core.Path.{_≡_, refl, sym, ap, _∙_}
+use mathlib.Core.List.{List, []}
+use lib.ListN.{length}
+use Rattle.rules.specs.Numbers.{fileLimit}
+use Rattle.rules.specs.Tables.{noTables}
+use Rattle.seen.proofs.SeenSets.{length-seen-set}
+use Rattle.table_sheet.proofs.OpenSheets.{none-have-room, length-table-sheet}
+use Rattle.lines.specs.LineEnds.{lineEnd}
+use Rattle.lines.specs.declared.LineEnd.the-variants.{At}
+use Rattle.lines.proofs.Lines.{at-behind, at-below, at-place, at-short}
+use Rattle.columns.specs.Listing.{textBetween, lineOf}
+use Rattle.columns.specs.declared.listing.Line as listing
+use Rattle.columns.proofs.ListedColumns.{now-listed}
+use Rattle.steps.specs.Steps.{stepOf}
+use Rattle.steps.specs.declared.Step.{Step}
+use Rattle.reading.specs.Effects.{Kept, kept}
+use Rattle.reading.specs.Judging.{judgedBy}
+use Rattle.reading.proofs.Moving.{RowSound}
+use Rattle.reading.proofs.RowsSound.{rows-sound}
+use Rattle.reading.proofs.Going.{Going, going-start, sheet-size, seen-size, begins-size, stop-unread, stop-end}
+use Rattle.reading.proofs.Turning.{ready, goes-on, stops}
+use Rattle.reading.proofs.take_lines.Statement.{statement}
+use Rattle.reading.proofs.take_lines.Tie as tie
+
+abbrev Inv-loop : tie.InvT-loop
+Inv-loop file sheet₀ seen₀ begins₀ classes marks₀ hints₀ places₀ s₀ at₀ sheet seen begins marks hints places s at =
+    Going file (length begins₀) at (kept s sheet seen marks begins)
+
+abbrev μ-loop : tie.MeasureT-loop
+μ-loop file sheet₀ seen₀ begins₀ classes marks₀ hints₀ places₀ s₀ at₀ sheet seen begins marks hints places s at =
+    length file - at
+
+abbrev Standing : Type 0
+Standing = tie.At-loop Inv-loop μ-loop
+
+abbrev start : Standing → tie.Start Inv-loop μ-loop
+start l = l .before .before .before .before .before .before
+
+abbrev file : Standing → List ℕ
+file l = start l .args .file .now
+
+abbrev size : Standing → ℕ
+size l = length (start l .args .begins .now)
+
+abbrev at : Standing → ℕ
+at l = l .loop .at
+
+abbrev held : Standing → Kept
+held l = kept (l .loop .s) (l .loop .sheet) (l .loop .seen) (l .loop .marks) (l .loop .begins)
+
+abbrev going : (l : Standing) → Going (file l) (size l) (at l) (held l)
+going l = l .loop .inv
+
+abbrev short : (l : Standing) → length (file l) ≤ fileLimit
+short l = start l .pre .1
+
+same-sheet : (l : Standing) → length (held l .sheet) ≡ length (start l .args .sheet .now)
+same-sheet l = sheet-size _ _ _ _ (going l) ∙ sym (ap length (start l .pre .2) ∙ length-table-sheet noTables none-have-room)
+
+same-seen : (l : Standing) → length (held l .seen) ≡ length (start l .args .seen .now)
+same-seen l = seen-size _ _ _ _ (going l) ∙ sym (ap length (start l .pre .3) ∙ length-seen-set [])
+
+-- a whole line from here
+abbrev Line : Type 0
+Line = tie.After-found Inv-loop μ-loop
+
+abbrev here : Line → Standing
+here k = k .before .before .before .before
+
+abbrev end : Line → ℕ
+end k = k .found .given .0 .0
+
+ends : (k : Line) → lineEnd (file (here k)) (at (here k)) ≡ At (end k)
+ends k = sym (k .before .before .line-end .ensures) ∙ k .found .given .1
+
+below : (k : Line) → end k < length (file (here k))
+below k = at-below (file (here k)) (at (here k)) (end k) (ends k)
+
+behind : (k : Line) → at (here k) ≤ end k
+behind k = at-behind (file (here k)) (at (here k)) (end k) (ends k)
+
+rows : (k : Line) → RowSound (file (here k)) (textBetween (file (here k)) (at (here k)) (end k))
+rows k = rows-sound (file (here k)) (at (here k)) (end k) (going (here k) .in-file)
+
+-- the line is listed, and then judged
+abbrev Judged : Type 0
+Judged = tie.After-judge Inv-loop μ-loop
+
+abbrev listed : Judged → tie.After-read-line Inv-loop μ-loop
+listed j = j .before .before .before .before .before .before
+
+abbrev whole : Judged → Line
+whole j = listed j .before .before .before
+
+abbrev told : (j : Judged) → Step
+told j = j .judge .result
+
+told-is : (j : Judged) → told j ≡ stepOf (judgedBy (file (here (whole j))) (textBetween (file (here (whole j))) (at (here (whole j))) (end (whole j))) (held (here (whole j)) .state) (held (here (whole j)) .sheet) (held (here (whole j)) .seen) (held (here (whole j)) .marks))
+told-is j =
+    let l = here (whole j) in
+    let k = held l in
+    j .judge .ensures
+    ∙ ap (λ (x : listing.Line). stepOf (judgedBy (file l) (lineOf (file l) x) (k .state) (k .sheet) (k .seen) (k .marks))) (listed j .read-line .ensures .0)
+
+loop-holds : tie.Need-loop-holds Inv-loop μ-loop
+loop-holds c =
+    let x = c .before .before .before .before .before in
+    going-start (x .args .file .now) (length (x .args .begins .now)) _ _ _ _ _ (c .first-state .ensures) (x .pre .2) (x .pre .3) refl (x .pre .4)
+
+line-end-requires : tie.Need-line-end-requires Inv-loop μ-loop
+line-end-requires c κs = (going (c .before) .in-file, start (c .before) .pre .0)
+
+cast-stop-at : tie.Need-cast-stop-at Inv-loop μ-loop
+cast-stop-at c =
+    let t = c .before .before .before in
+    let h = t .loop-test .taken in
+    let w = short (t .before) in
+    search needs
+
+same-length : tie.Need-same-length Inv-loop μ-loop
+same-length c = same-sheet (c .before .before .before .before .before)
+
+same-length-2 : tie.Need-same-length-2 Inv-loop μ-loop
+same-length-2 c = same-seen (c .before .before .before .before .before)
+
+same-length-3 : tie.Need-same-length-3 Inv-loop μ-loop
+same-length-3 c = begins-size _ _ _ _ (going (c .before .before .before .before .before))
+
+returns : tie.Need-returns Inv-loop μ-loop
+returns c =
+    let e = c .before .before .before in
+    let l = e .before .before in
+    rw (c .stop-at .ensures, c .before .line-refusal .ensures)
+    (stop-unread (file l) (size l) (at l) (held l) (going l) (e .before .loop-test .taken) (e .line-end .result) (sym (e .line-end .ensures)) (c .before .before .match .keys2))
+
+read-line-requires : tie.Need-read-line-requires Inv-loop μ-loop
+read-line-requires c κs =
+    let k = c .before .before in
+    let l = here k in
+    (start l .pre .0, behind k, omega (arith, below k), omega (arith, at-place (file l) (at l) (end k) (ends k), at-short (file l) (at l) (end k) (ends k)), short l)
+
+judge-requires : tie.Need-judge-requires Inv-loop μ-loop
+judge-requires c κs =
+    let d = c .before .before .before .before .before in
+    let k = d .before .before .before in
+    let l = here k in (
+      start l .pre .0,
+      now-listed (file l) (at l) (end k) _ _ _ (behind k) (omega (arith, below k)) (omega (arith, at-place (file l) (at l) (end k) (ends k), at-short (file l) (at l) (end k) (ends k))) (short l) (d .read-line .ensures),
+      ready (file l) (size l) (at l) (held l) (going l) (short l) (end k) (ends k),
+    )
+
+cast-start : tie.Need-cast-start Inv-loop μ-loop
+cast-start c =
+    let k = whole c in
+    let b = below k in
+    let h = behind k in
+    let w = short (here k) in
+    search needs
+
+same-length-4 : tie.Need-same-length-4 Inv-loop μ-loop
+same-length-4 c = same-sheet (here (whole (c .before .before .before .before)))
+
+same-length-5 : tie.Need-same-length-5 Inv-loop μ-loop
+same-length-5 c = same-seen (here (whole (c .before .before .before .before)))
+
+same-length-6 : tie.Need-same-length-6 Inv-loop μ-loop
+same-length-6 c = begins-size _ _ _ _ (going (here (whole (c .before .before .before .before))))
+
+returns-2 : tie.Need-returns-2 Inv-loop μ-loop
+returns-2 c =
+    let j = c .before .before .before .before in
+    let k = whole j in
+    let l = here k in
+    rw (c .fault-at .ensures)
+    (stops (file l) (size l) (at l) (held l) (going l) (short l) (end k) (ends k) (rows k) (told j) (told-is j) _ (c .before .before .step .given .1))
+
+add-at : tie.Need-add-at Inv-loop μ-loop
+add-at c =
+    let b = below (whole (c .before)) in
+    let w = short (here (whole (c .before))) in
+    search needs
+
+cast-apply : tie.Need-cast-apply Inv-loop μ-loop
+cast-apply c =
+    let b = below (whole (c .before)) in
+    let w = short (here (whole (c .before))) in
+    search needs
+
+apply-requires : tie.Need-apply-requires Inv-loop μ-loop
+apply-requires c κs =
+    let m = c .before .before .before .before .before in
+    let j = m .before in
+    let k = whole j in
+    let l = here k in
+    goes-on (file l) (size l) (at l) (held l) (going l) (short l) (end k) (ends k) (rows k) (told j) (told-is j) (m .match2 .keys2) .0
+
+loop-less : tie.Need-loop-less Inv-loop μ-loop
+loop-less c =
+    let a = c .before .before .before .before .before .before in
+    let k = whole (a .before .before .before .before .before .before .before) in
+    omega (arith, below k, behind k)
+
+loop-again : tie.Need-loop-again Inv-loop μ-loop
+loop-again c =
+    let a = c .before .before .before .before .before .before in
+    let m = a .before .before .before .before .before .before in
+    let j = m .before in
+    let k = whole j in
+    let l = here k in
+    goes-on (file l) (size l) (at l) (held l) (going l) (short l) (end k) (ends k) (rows k) (told j) (told-is j) (m .match2 .keys2) .1 _ (a .apply .ensures)
+
+closing-requires : tie.Need-closing-requires Inv-loop μ-loop
+closing-requires c κs = sheet-size _ _ _ _ (going (c .before .before))
+
+cast-stop-at-2 : tie.Need-cast-stop-at-2 Inv-loop μ-loop
+cast-stop-at-2 c =
+    let l = c .before .before .before in
+    let h = going l .in-file in
+    let w = short l in
+    search needs
+
+same-length-7 : tie.Need-same-length-7 Inv-loop μ-loop
+same-length-7 c = same-sheet (c .before .before .before .before)
+
+same-length-8 : tie.Need-same-length-8 Inv-loop μ-loop
+same-length-8 c = same-seen (c .before .before .before .before)
+
+same-length-9 : tie.Need-same-length-9 Inv-loop μ-loop
+same-length-9 c = begins-size _ _ _ _ (going (c .before .before .before .before))
+
+returns-3 : tie.Need-returns-3 Inv-loop μ-loop
+returns-3 c =
+    let l = c .before .before .before .before in
+    rw (c .stop-at2 .ensures, c .before .closing .ensures)
+    (stop-end (file l) (size l) (at l) (held l) (going l) (c .before .before .before .loop-test .left))
+
+pub take-lines-spec : {M : Type 1} → statement M
+take-lines-spec =
+    tie.close
+    (tie.spec
+    Inv-loop
+    μ-loop
+    (λ c κs. search needs)
+    loop-holds
+    line-end-requires
+    (λ c. search needs)
+    (λ c κs. search needs)
+    cast-stop-at
+    (λ c κs. search needs)
+    same-length
+    same-length-2
+    same-length-3
+    returns
+    read-line-requires
+    judge-requires
+    cast-start
+    (λ c. search needs)
+    (λ c κs. search needs)
+    same-length-4
+    same-length-5
+    same-length-6
+    returns-2
+    add-at
+    cast-apply
+    apply-requires
+    loop-less
+    loop-again
+    closing-requires
+    cast-stop-at-2
+    (λ c κs. search needs)
+    same-length-7
+    same-length-8
+    same-length-9
+    returns-3)

@@ -1,0 +1,98 @@
+-- What a step of a line does to all that a reading keeps, and what that needs; at is the place of the line, end the place
+-- behind its newline. Nothing is promised of the hints.
+use Prim.Native.Nat.{ℕ, _+_, _-_, _*_, _≤_, _<_}
+use mathlib.Core.Path.{_≡_}
+use mathlib.Core.Bool.{false}
+use mathlib.Core.List.{List, [], _∷_}
+use lib.ListN.{length, set}
+use Rattle.rules.specs.Numbers.{fileLimit, rowLimit}
+use Rattle.rules.specs.Sheets.{tableCount, rowPlace, tableSheetSize}
+use Rattle.seen.specs.Bits.{bitAt, withBit}
+use Rattle.columns.specs.Splices.{splice}
+use Rattle.steps.specs.declared.RowSaid.{RowSaid}
+use Rattle.steps.specs.declared.Step.{Step}
+use Rattle.steps.specs.declared.Step.the-variants.{Ignored, Format, TableBegins, Row, TableEnds, SentenceBegins, Word, Phrase, SentenceEnds, Refused}
+use Rattle.reading.specs.States.{firstTally, tableIn, rowsIn, tallyIn, withWord, withPhrase, moved}
+use Rattle.reading.specs.declared.state.Tally.{Tally}
+use Rattle.reading.specs.declared.state.Phase.the-variants.{Top, InTable, InSentence, Behind}
+use Rattle.reading.specs.declared.state.State.{State}
+
+-- the state, the table sheet, the seen set, the marks of the phrases, and where the sentences begin
+pub record Kept : Type 0 where
+  pub state : State
+  pub sheet : List ℕ
+  pub seen : List ℕ
+  pub marks : List ℕ
+  pub begins : List ℕ
+
+abbrev pub kept : State → List ℕ → List ℕ → List ℕ → List ℕ → Kept
+kept s sheet seen marks begins = record { state = s; sheet = sheet; seen = seen; marks = marks; begins = begins }
+
+abbrev pub withState : Kept → State → Kept
+withState k s = kept s (k .sheet) (k .seen) (k .marks) (k .begins)
+
+abbrev pub sixOf : RowSaid → List ℕ
+sixOf r = r .id1 ∷ r .first .start ∷ r .first .len ∷ r .second .start ∷ r .second .len ∷ r .flag ∷ []
+
+abbrev pub formatRead : State → ℕ → State
+formatRead s n = record { phase = Top; format = n; handed = s .handed; «sound_end» = s .«sound_end» }
+
+abbrev pub handedOut : State → ℕ → State
+handedOut s end = record { phase = Behind; format = s .format; handed = s .handed + 1; «sound_end» = end }
+
+abbrev pub withRow : RowSaid → Kept → Kept
+withRow r k =
+    let n = tableIn (k .state .phase) in
+    let rows = rowsIn (k .state .phase) in
+    kept (moved (k .state) (InTable n (rows + 1))) (splice (rowPlace n rows) (sixOf r) (k .sheet)) (k .seen) (k .marks) (k .begins)
+
+abbrev pub tableClosed : Kept → Kept
+tableClosed k =
+    let phase = k .state .phase in
+    kept (moved (k .state) Top) (set (k .sheet) (tableIn phase) (rowsIn phase + 1)) (k .seen) (k .marks) (k .begins)
+
+-- the number is in the seen set, and the place of its beginning is noted with one added
+abbrev pub sentenceKept : Tally → ℕ → Kept → Kept
+sentenceKept t end k =
+    kept (handedOut (k .state) end) (k .sheet) (withBit (k .seen) (t .number)) (k .marks) (set (k .begins) (t .number) (t .start + 1))
+
+unfoldable pub effect : Step → ℕ → ℕ → Kept → Kept
+effect Ignored at end k = k
+effect (Format n) at end k = withState k (formatRead (k .state) n)
+effect (TableBegins n) at end k = withState k (moved (k .state) (InTable n 0))
+effect (Row r) at end k = withRow r k
+effect TableEnds at end k = tableClosed k
+effect (SentenceBegins h) at end k = withState k (moved (k .state) (InSentence (firstTally at (h .number))))
+effect (Word n) at end k = withState k (moved (k .state) (InSentence (withWord (tallyIn (k .state .phase)) n)))
+effect (Phrase n) at end k =
+    kept (moved (k .state) (InSentence (withPhrase (tallyIn (k .state .phase)) n))) (k .sheet) (k .seen)
+    (set (k .marks) (n .number - 500) (k .state .handed + 1)) (k .begins)
+effect SentenceEnds at end k = sentenceKept (tallyIn (k .state .phase)) end k
+effect (Refused f) at end k = k
+
+-- ---- what a step needs; size is the file's length
+
+abbrev pub RowApplies : RowSaid → ℕ → Kept → Type 0
+RowApplies r size k =
+    (tableIn (k .state .phase) < tableCount) × (rowsIn (k .state .phase) < rowLimit) × (r .first .start + r .first .len ≤ size)
+    × (length (k .sheet) ≡ tableSheetSize)
+
+abbrev pub EndApplies : Tally → Kept → Type 0
+EndApplies t k =
+    (k .state .handed ≤ fileLimit) × (t .start ≤ fileLimit) × (t .number < 8 * length (k .seen)) × (bitAt (k .seen) (t .number) ≡ false)
+
+abbrev pub Applicable : Step → ℕ → Kept → Type 0
+Applicable Ignored size k = Unit {0}
+Applicable (Format n) size k = Unit {0}
+Applicable (TableBegins n) size k = Unit {0}
+Applicable (Row r) size k = RowApplies r size k
+Applicable TableEnds size k =
+    (tableIn (k .state .phase) < tableCount) × (rowsIn (k .state .phase) ≤ rowLimit) × (length (k .sheet) ≡ tableSheetSize)
+Applicable (SentenceBegins h) size k = Unit {0}
+Applicable (Word n) size k =
+    (tallyIn (k .state .phase) .words ≤ fileLimit) × (tallyIn (k .state .phase) .edges + n .edges ≤ fileLimit)
+Applicable (Phrase n) size k =
+    (tallyIn (k .state .phase) .phrases ≤ fileLimit) × (tallyIn (k .state .phase) .edges + n .edges ≤ fileLimit)
+    × (500 ≤ n .number) × (n .number ≤ 999) × (k .state .handed ≤ fileLimit)
+Applicable SentenceEnds size k = EndApplies (tallyIn (k .state .phase)) k
+Applicable (Refused f) size k = Unit {0}

@@ -1,0 +1,4 @@
+pub mod States
+pub mod Effects
+pub mod Judging
+pub mod Closing

@@ -1,4 +1,0 @@
-pub mod Parts
-pub mod Answers
-pub mod Tags
-pub mod Ready

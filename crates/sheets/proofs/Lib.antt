@@ -1,8 +1,0 @@
-pub mod Each
-pub mod Maps
-pub mod Splices
-pub mod Rooms
-pub mod LookUps
-pub mod OpenSheets
-pub mod Standing
-pub mod ReadBack

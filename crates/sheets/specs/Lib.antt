@@ -1,4 +1,0 @@
-pub mod Splices
-pub mod SheetRows
-pub mod OpenSheets
-pub mod Standing

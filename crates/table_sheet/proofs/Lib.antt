@@ -1,0 +1,7 @@
+pub mod Each
+pub mod Maps
+pub mod Rooms
+pub mod LookUps
+pub mod OpenSheets
+pub mod Standing
+pub mod ReadBack

@@ -1,0 +1,4 @@
+pub mod SheetRows
+pub mod LookUps
+pub mod OpenSheets
+pub mod Standing

@@ -1,0 +1,6 @@
+pub mod Asked
+pub mod SpanTests
+pub mod NamedLines
+pub mod RowsSoFar
+pub mod OwnTags
+pub mod RowTexts

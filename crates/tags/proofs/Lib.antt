@@ -1,3 +1,0 @@
-pub mod Twice
-pub mod TablesThere
-pub mod TabledSheets
