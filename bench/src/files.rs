@@ -65,6 +65,17 @@ pub fn with_rows(rows: usize) -> Vec<u8> {
     file.into_bytes()
 }
 
+/// Sentences of this many words.
+pub fn with_words(words: usize) -> Vec<u8> {
+    with_lines("Wort\tT1\tT1\tT1\t500\n", words)
+}
+
+/// Sentences of eight words and this many secondary edges.
+pub fn with_edges(edges: usize) -> Vec<u8> {
+    let pairs = "\tT1\t500".repeat(edges / 8);
+    with_lines(&format!("Wort\tT1\tT1\tT1\t500{pairs}\n"), 8)
+}
+
 /// Words so long that their lines have this length.
 pub fn with_long_words(length: usize) -> Vec<u8> {
     let columns = "\tT1\tT1\tT1\t500\n";

@@ -1,11 +1,17 @@
 //! How fast the compiled survey is, beside the independent reader and a plain count of
-//! newlines; and whether the time of a byte stays flat while a file grows.
+//! newlines; whether the time of a byte stays flat while a file grows; and what openings
+//! cost beside a survey.
 
+mod clock;
 mod files;
 mod timing;
 
+use std::env;
+
 use plain::generate::corpus;
-use timing::{best_times, count_newlines, survey_compiled, survey_plainly, Work};
+use timing::{
+    best_times, count_newlines, index, open_all, open_one, survey_compiled, survey_plainly, Work,
+};
 
 const CORPUS: usize = 50_000;
 
@@ -26,13 +32,37 @@ const GROWTHS: [(&str, [usize; 4], Make); 7] = [
     ("lines, ignored", LENGTHS, files::with_ignored_lines),
 ];
 
+/// What grows in the files whose sentences are opened.
+const OPENED: [(&str, [usize; 4], Make); 3] = [
+    ("sentences", SENTENCES, corpus),
+    ("words of a sentence", [8, 32, 128, 500], files::with_words),
+    ("edges of a sentence", [8, 32, 128, 512], files::with_edges),
+];
+
+const OPENINGS: [Work; 4] = [survey_compiled, open_one, index, open_all];
+
+/// With the argument `openings` the surveys alone are left out.
 fn main() {
+    if env::args().nth(1).as_deref() != Some("openings") {
+        print_surveys();
+    }
+    println!(
+        "| What grows | size | bytes | survey, ns/byte | one opening | index | all by index |"
+    );
+    println!("|---|--:|--:|--:|--:|--:|--:|");
+    for (what, sizes, make) in OPENED {
+        print_openings(what, sizes, make);
+    }
+}
+
+fn print_surveys() {
     print_corpus(&corpus(CORPUS));
     println!("\n| What grows | size | bytes | ns/byte | to the first |");
     println!("|---|--:|--:|--:|--:|");
     for (what, sizes, make) in GROWTHS {
         print_growth(what, sizes, make);
     }
+    println!();
 }
 
 fn print_corpus(file: &[u8]) {
@@ -66,5 +96,16 @@ fn print_growth(what: &str, sizes: [usize; 4], make: Make) {
     for ((size, file), time) in sizes.iter().zip(&files).zip(times) {
         let (bytes, ratio) = (file.len(), time / times[0]);
         println!("| {what} | {size} | {bytes} | {time:.2} | {ratio:.2} |");
+    }
+}
+
+/// A line for each size: the survey's time, and how often that time the openings take.
+fn print_openings(what: &str, sizes: [usize; 4], make: Make) {
+    for (size, file) in sizes.map(|size| (size, make(size))) {
+        let times = best_times(OPENINGS.map(|work| (work, &file[..])));
+        let [survey, one, index, all] = times;
+        let [one, index, all] = [one, index, all].map(|time| time / survey);
+        let bytes = file.len();
+        println!("| {what} | {size} | {bytes} | {survey:.2} | {one:.2} | {index:.2} | {all:.2} |");
     }
 }

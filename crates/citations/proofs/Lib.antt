@@ -1,2 +1,3 @@
+pub mod NoTables
 pub mod TablesThere
 pub mod TabledSheets

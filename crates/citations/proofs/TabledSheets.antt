@@ -7,9 +7,9 @@ use mathlib.Core.List.{List}
 use lib.ListN.{length, getD}
 use Rattle.rules.specs.Numbers.{rowLimit}
 use Rattle.rules.specs.Tables.{Row, Tables, table, rowsOf}
-use Rattle.rules.specs.Sheets.{tableCount, rowPlace, count, tableSheet}
+use Rattle.rules.specs.Sheets.{tableCount, rowPlace, tableSheetSize, count, tableSheet}
+use Rattle.rules.proofs.Rooms.{each-at}
 use Rattle.table_sheet.specs.Standing.{RowsHaveRoom, TablesHaveRoom, TablesStand, Inside}
-use Rattle.table_sheet.proofs.Each.{each-at}
 use Rattle.table_sheet.proofs.OpenSheets.{length-table-sheet, count-of-table}
 use Rattle.table_sheet.proofs.ReadBack.{table-rows-inside}
 use Rattle.citations.specs.Tabled.{Counted, Tabled}
@@ -22,19 +22,23 @@ count-rows : (t : Option (List Row)) → count t - 1 ≡ length (rowsOf t)
 count-rows none = refl
 count-rows (some rs) = omega arith
 
+pub full-counted : (sheet : List ℕ) → length sheet ≡ tableSheetSize → ((n : ℕ) → n < tableCount → getD sheet n 0 ≤ suc rowLimit) → Counted sheet
+full-counted sheet size counts =
+    record {
+      seven = omega (arith, size);
+      room = λ n rows h e. omega (arith, size, counts n h, e);
+    }
+
 module _ (ts : Tables) (fits : TablesHaveRoom ts) where
   count-is : (n : ℕ) → n < tableCount → getD (tableSheet ts) n 0 ≡ count (table n ts)
   count-is n h = count-of-table ts n (omega (arith, fits .seven))
 
   pub counted : Counted (tableSheet ts)
   counted =
-      record {
-        size = length-table-sheet ts fits;
-        counts =
-            λ n h.
-            rw (count-is n h)
-            (count-bound (table n ts) (each-at (λ (t : Option (List Row)). RowsHaveRoom (rowsOf t)) ts n none (fits .room) (omega (arith, fits .seven))));
-      }
+      full-counted (tableSheet ts) (length-table-sheet ts fits)
+      (λ n h.
+      rw (count-is n h)
+      (count-bound (table n ts) (each-at (λ (t : Option (List Row)). RowsHaveRoom (rowsOf t)) ts n none (fits .room) (omega (arith, fits .seven)))))
 
   pub tabled : (file : List ℕ) → TablesStand file ts → Tabled file (tableSheet ts)
   tabled file stand =

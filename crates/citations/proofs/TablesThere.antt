@@ -43,8 +43,8 @@ module _ (file sheet : List ℕ) (n : ℕ) (h : n < tableCount) where
       go (suc rows) = rw (ne-eqb (suc rows) 0 (λ z. omega (arith, z)))
 
   -- they lie in the sheet
-  pub rows-in-sheet : Counted sheet → rowPlace n 0 + rowWidth * (getD sheet n 0 - 1) ≤ length sheet
-  rows-in-sheet t = omega (arith, t .size, t .counts n h)
+  pub rows-in-sheet : Counted sheet → (getD sheet n 0 ≡ 0 → ⊥) → rowPlace n 0 + rowWidth * (getD sheet n 0 - 1) ≤ length sheet
+  rows-in-sheet t d = omega (arith, t .room n (getD sheet n 0 - 1) h (omega (arith, d)))
 
 -- ---- known tags
 

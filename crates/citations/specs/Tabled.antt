@@ -1,18 +1,18 @@
 -- What a look-up asks of the table sheet. Document 01, "The sheets": seven counts (0 absent, else rows + 1), then for each
--- table 256 rows of 6.
+-- table 256 rows of 6. A sheet that counts no rows may end behind the counts.
 use Prim.Native.Nat.{ℕ, suc, _-_, _≤_, _<_}
 use mathlib.Core.Path.{_≡_}
 use mathlib.Core.List.{List}
 use lib.ListN.{length, getD}
-use Rattle.rules.specs.Numbers.{rowLimit}
 use Rattle.rules.specs.Tables.{Row, table, rowsOf}
-use Rattle.rules.specs.Sheets.{tableCount, rowPlace, tableSheetSize}
+use Rattle.rules.specs.Sheets.{tableCount, rowPlace}
 use Rattle.table_sheet.specs.SheetRows.{tablesIn}
 use Rattle.table_sheet.specs.Standing.{Inside}
 
+-- the rows that are counted lie in the sheet
 pub record Counted (sheet : List ℕ) : Type 0 where
-  pub size : length sheet ≡ tableSheetSize
-  pub counts : (n : ℕ) → n < tableCount → getD sheet n 0 ≤ suc rowLimit
+  pub seven : tableCount ≤ length sheet
+  pub room : (n rows : ℕ) → n < tableCount → getD sheet n 0 ≡ suc rows → rowPlace n rows ≤ length sheet
 
 -- the texts of the rows lie in the file
 pub record Tabled (file sheet : List ℕ) : Type 0 where

@@ -4,15 +4,15 @@ use Prim.Native.Nat.{ℕ, suc, _+_, _≤_, _<_, suc-le-suc}
 use native.Mathlib.Nat.{add-zero, add-suc, suc-add}
 use native.Mathlib.Numerals.{add-one}
 use native.Mathlib.Omega.{arith}
-use mathlib.Core.Path.{_≡_, refl}
-use mathlib.Core.Bool.{Bool, true, false, not, _&&_, _||_}
+use mathlib.Core.Path.{_≡_, refl, sym, ap, _∙_}
+use mathlib.Core.Bool.{Bool, true, false, not, _&&_, _||_, Bool·beq}
 use mathlib.Core.List.{List, [], _∷_}
 use lib.ListN.{length, take, drop, getD, drop-of-length-le}
 use lib.Seq.{drop-cons}
 use Rattle.rules.specs.Lists.{pick, every, any}
 use Rattle.rules.specs.Bytes.{white}
 use Rattle.rules.specs.Columns.{goesOn}
-use Rattle.columns.specs.Leading.{leading, solid}
+use Rattle.columns.specs.Leading.{leading, solid, inRun}
 
 module _ (f : ℕ → Bool) (s : List ℕ) (i : ℕ) where
   pub leading-stop : i < length s → f (getD s i 0) ≡ false → i + leading f (drop i s) ≡ i
@@ -73,3 +73,13 @@ leading-column s = go (drop (leading solid s) s) refl
     go : (rest : List ℕ) → drop (leading solid s) s ≡ rest → goesOn rest ≡ false
     go [] q = refl
     go (b ∷ rest) q = leading-behind solid s b rest q
+
+-- the run goes on unless the byte's test is the one that ends it
+pub in-run : (in-column : Bool) (b : ℕ) {w : Bool} → w ≡ white b → inRun in-column b ≡ not (Bool·beq w in-column)
+in-run in-column b {w} e = ap (λ (t : Bool). pick in-column (not t) t) (sym e) ∙ by in-column w
+  where
+    by : (c t : Bool) → pick c (not t) t ≡ not (Bool·beq t c)
+    by true true = refl
+    by true false = refl
+    by false true = refl
+    by false false = refl

@@ -7,7 +7,7 @@ use mathlib.Core.Path.{_≡_, refl, ap}
 use mathlib.Core.List.{List, [], _∷_, _++_}
 use lib.ListN.{length, drop, getD}
 use Rattle.rules.specs.Columns as lines
-use Rattle.columns.specs.Cursors.{firstOf, columnAt}
+use Rattle.columns.specs.Cursors.{firstOf, nextColumn}
 use Rattle.columns.specs.Listing.{behindText, bounds, placesOf}
 use Rattle.columns.proofs.Steps.{columnBetween, Step, found}
 
@@ -28,7 +28,7 @@ pub record Stands (s : List ℕ) (at : ℕ) (cs : List lines.Column) (k : ℕ) :
 -- the first of the columns from a place on
 step-of : (s : List ℕ) (at : ℕ) (c : lines.Column) (cs : List lines.Column) → lines.columnsFrom at (drop at s) ≡ c ∷ cs
     → Step s at (c .text .start) (behindText (c .text)) (record { at = behindText (c .text) })
-unfolding columnAt
+unfolding nextColumn
 step-of s at c cs q = found s at (c .text .start) (behindText (c .text)) (record { at = behindText (c .text) }) (ap firstOf q)
 
 pub stands : (s : List ℕ) (at : ℕ) (cs : List lines.Column) → lines.columnsFrom at (drop at s) ≡ cs → (k : ℕ) → k < length cs → Stands s at cs k

@@ -14,7 +14,7 @@ use Rattle.rules.specs.Bytes.{white}
 use Rattle.rules.specs.Columns as lines
 use Rattle.rules.proofs.ColumnLaws.{columns-skip, columns-run}
 use Rattle.columns.specs.Leading.{leading, solid}
-use Rattle.columns.specs.Cursors.{firstOf, columnAt}
+use Rattle.columns.specs.Cursors.{firstOf, nextColumn}
 use Rattle.columns.specs.declared.Cursor.{Cursor}
 use Rattle.columns.specs.declared.Column.the-variants.{Found, Missing}
 use Rattle.columns.proofs.Leading.{leading-more, leading-within, leading-every, leading-behind, leading-column, none-white}
@@ -83,12 +83,12 @@ module _ (s : List ℕ) (at : ℕ) where
       ∙ front (startFrom s at) (drop (startFrom s at) s) (omega (arith, end-is h))
       ∙ rw (add-sub-cancel-left (startFrom s at) n, drop-drop n (startFrom s at) s)
 
-  at-missing : length s ≤ startFrom s at → columnAt s at ≡ Missing
-  unfolding columnAt
+  at-missing : length s ≤ startFrom s at → nextColumn s at ≡ Missing
+  unfolding nextColumn
   at-missing h = ap firstOf (none-left h)
 
-  at-found : startFrom s at < length s → columnAt s at ≡ Found (startFrom s at) (endFrom s at) (record { at = endFrom s at })
-  unfolding columnAt
+  at-found : startFrom s at < length s → nextColumn s at ≡ Found (startFrom s at) (endFrom s at) (record { at = endFrom s at })
+  unfolding nextColumn
   at-found h =
       let n : ℕ = endFrom s at - startFrom s at in
       let m : length (take n (drop (startFrom s at) s)) ≡ n = length-take-le n (drop (startFrom s at) s) (omega (arith, within h, length-drop (startFrom s at) s)) in
@@ -97,10 +97,10 @@ module _ (s : List ℕ) (at : ℕ) where
 
 -- the same, of the places that the code comes to
 module _ (s : List ℕ) (at a : ℕ) (start : a ≡ startFrom s at) where
-  pub comes-to-none : length s ≤ a → columnAt s at ≡ Missing
+  pub comes-to-none : length s ≤ a → nextColumn s at ≡ Missing
   comes-to-none h = at-missing s at (omega arith)
 
-  pub comes-to-one : (e : ℕ) → e ≡ a + 1 + leading solid (drop (a + 1) s) → a < length s → columnAt s at ≡ Found a e (record { at = e })
+  pub comes-to-one : (e : ℕ) → e ≡ a + 1 + leading solid (drop (a + 1) s) → a < length s → nextColumn s at ≡ Found a e (record { at = e })
   comes-to-one e end h =
       let k : startFrom s at < length s = omega arith in
       let l : endFrom s at ≡ e = end-is s at k ∙ ap (λ (n : ℕ). n + 1 + leading solid (drop (n + 1) s)) (sym start) ∙ sym end in
@@ -116,20 +116,20 @@ pub record Step (s : List ℕ) (at a e : ℕ) (n : Cursor) : Type 0 where
   pub inside : e ≤ length s
   pub columns : lines.columnsFrom at (drop at s) ≡ columnBetween s a e ∷ lines.columnsFrom e (drop e s)
 
-pub missing : (s : List ℕ) (at : ℕ) → columnAt s at ≡ Missing → lines.columnsFrom at (drop at s) ≡ []
+pub missing : (s : List ℕ) (at : ℕ) → nextColumn s at ≡ Missing → lines.columnsFrom at (drop at s) ≡ []
 missing s at q = go (ltb (startFrom s at) (length s)) refl
   where
     go : (t : Bool) → ltb (startFrom s at) (length s) ≡ t → lines.columnsFrom at (drop at s) ≡ []
     go true h = cc (at-found s at (ltb-true _ _ h))
     go false h = none-left s at (ltb-false _ _ h)
 
-pub found : (s : List ℕ) (at a e : ℕ) (n : Cursor) → columnAt s at ≡ Found a e n → Step s at a e n
+pub found : (s : List ℕ) (at a e : ℕ) (n : Cursor) → nextColumn s at ≡ Found a e n → Step s at a e n
 found s at a e n q = go (ltb (startFrom s at) (length s)) refl
   where
     go : (t : Bool) → ltb (startFrom s at) (length s) ≡ t → Step s at a e n
     go true h =
         let l : startFrom s at < length s = ltb-true _ _ h in
-        let f : columnAt s at ≡ Found (startFrom s at) (endFrom s at) (record { at = endFrom s at }) = at-found s at l in
+        let f : nextColumn s at ≡ Found (startFrom s at) (endFrom s at) (record { at = endFrom s at }) = at-found s at l in
         let p : startFrom s at ≡ a = cc in
         let r : endFrom s at ≡ e = cc in
         record {

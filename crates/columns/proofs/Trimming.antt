@@ -11,6 +11,7 @@ use Rattle.rules.specs.Bytes.{white}
 use Rattle.rules.specs.Texts.{unlessWhite, rightTrim, trimFrom}
 use Rattle.rules.specs.Columns.{Column, goesOn, withFirst, lastByte, columnsFrom}
 use Rattle.rules.proofs.ColumnLaws.{columns-white, columns-on, columns-last}
+use Rattle.rules.proofs.TrimLaws.{trim-white}
 use Rattle.columns.specs.Listing.{behindText, spanOf}
 use Rattle.columns.specs.declared.listing.Span.{Span}
 
@@ -118,10 +119,6 @@ some-columns at xs g = go (columnsFrom at xs) (reached at xs)
     go (c ∷ cs) h = omega arith
 
 -- ---- the whole
-
-trim-white : (at b : ℕ) (bs : List ℕ) → white b ≡ true → trimFrom at (b ∷ bs) ≡ trimFrom (suc at) bs
-unfolding trimFrom
-trim-white at b bs e = rw e
 
 trim-dark : (at b : ℕ) (bs : List ℕ) → white b ≡ false → trimFrom at (b ∷ bs) ≡ record { start = at; bytes = rightTrim (b ∷ bs) }
 unfolding trimFrom

@@ -10,7 +10,7 @@ use lib.Seq.{length-take-le, take-suc, take-all, drop-cons}
 use Rattle.rules.specs.Numbers.{lineLimit}
 use Rattle.rules.specs.Columns as lines
 use Rattle.columns.specs.Splices.{splice}
-use Rattle.columns.specs.Cursors.{columnAt}
+use Rattle.columns.specs.Cursors.{nextColumn}
 use Rattle.columns.specs.Listing.{placesOf}
 use Rattle.columns.specs.declared.Cursor.{Cursor}
 use Rattle.columns.specs.declared.Column.the-variants.{Found, Missing}
@@ -80,7 +80,7 @@ module _ (line : List ℕ) (from start : ℕ) (lent places : List ℕ) (at count
   abbrev all : List lines.Column
   all = walked line from start
 
-  pub walking-end : columnAt line at ≡ Missing → (count ≡ length all) × (places ≡ splice 0 (placesOf all) lent)
+  pub walking-end : nextColumn line at ≡ Missing → (count ≡ length all) × (places ≡ splice 0 (placesOf all) lent)
   walking-end q =
       let none : drop count all ≡ [] = w .rest ∙ columns-moved start at (drop at line) ∙ ap (map (moved start)) (missing line at q) in
       let gone : length all ≤ count = omega (arith, length-drop count all, ap length none) in (
@@ -88,7 +88,7 @@ module _ (line : List ℕ) (from start : ℕ) (lent places : List ℕ) (at count
         w .stored ∙ ap (λ (cs : List lines.Column). splice 0 (placesOf cs) lent) (take-all count all gone),
       )
 
-  module _ (a e : ℕ) (n : Cursor) (q : columnAt line at ≡ Found a e n) where
+  module _ (a e : ℕ) (n : Cursor) (q : nextColumn line at ≡ Found a e n) where
     pub walking-bounds : (at ≤ a) × (a < e) × (e ≤ length line)
     walking-bounds = let t = found line at a e n q in (t .from, t .some, t .inside)
 

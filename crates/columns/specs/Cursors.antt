@@ -15,5 +15,5 @@ firstOf (c ∷ cs) =
     Found (c .text .start) end (record { at = end })
 
 -- the next column from a place on, in the file up to the line's end
-unfoldable pub columnAt : List ℕ → ℕ → Column
-columnAt head at = firstOf (lines.columnsFrom at (drop at head))
+unfoldable pub nextColumn : List ℕ → ℕ → Column
+nextColumn head at = firstOf (lines.columnsFrom at (drop at head))

@@ -9,6 +9,10 @@ use Rattle.rules.specs.Bytes.{white}
 abbrev pub solid : ℕ → Bool
 solid b = not (white b)
 
+-- a byte of the run that is skipped: of a column, or of white bytes
+abbrev pub inRun : Bool → ℕ → Bool
+inRun in-column b = pick in-column (solid b) (white b)
+
 -- how many of the first bytes pass the test, up to the first that doesn't
 unfoldable pub leading : (ℕ → Bool) → List ℕ → ℕ
 leading f [] = 0

@@ -9,8 +9,8 @@ ghost use Prim.Native.Nat.{_+_};
 ghost use lib.ListN.{drop};
 ghost use Rattle.rules.specs.Lists.{same};
 ghost use Rattle.rules.specs.Bytes.{classTable, white};
-ghost use Rattle.columns.specs.Leading.{leading, solid};
-ghost use Rattle.columns.specs.Cursors.{columnAt};
+ghost use Rattle.columns.specs.Leading.{leading, inRun};
+ghost use Rattle.columns.specs.Cursors.{nextColumn};
 
 // the class of white bytes
 const WHITE: u8 = 1;
@@ -22,29 +22,14 @@ pub fn is_white(b: u8, classes: &[u8; 256]) -> bool
     classes[b as usize] == WHITE
 }
 
-// The first place from `at` on that has no white byte.
-pub fn skip_white(head: &[u8], at: usize, classes: &[u8; 256]) -> usize
+// The first place from `at` on where a run ends: of white bytes or, in a column, of bytes that aren't white.
+pub fn skip_run(head: &[u8], at: usize, in_column: bool, classes: &[u8; 256]) -> usize
     requires { ⌜ now classes ≡ classTable ⌝ }
-    ensures { λ r. ⌜ r ≡ at + leading white (drop at (now (head .entry))) ⌝ }
-{
-    let mut start = at;
-    while start < head.len() {
-        if !is_white(head[start], classes) {
-            return start;
-        }
-        start += 1;
-    }
-    start
-}
-
-// The first place from `at` on that has no byte of a column.
-pub fn skip_column(head: &[u8], at: usize, classes: &[u8; 256]) -> usize
-    requires { ⌜ now classes ≡ classTable ⌝ }
-    ensures { λ r. ⌜ r ≡ at + leading solid (drop at (now (head .entry))) ⌝ }
+    ensures { λ r. ⌜ r ≡ at + leading (inRun «in_column») (drop at (now (head .entry))) ⌝ }
 {
     let mut end = at;
     while end < head.len() {
-        if is_white(head[end], classes) {
+        if is_white(head[end], classes) == in_column {
             return end;
         }
         end += 1;
@@ -89,14 +74,14 @@ impl Cursor {
     // `head` is the line.
     pub fn next(self, head: &[u8], classes: &[u8; 256]) -> Column
         requires { ⌜ now classes ≡ classTable ⌝ }
-        ensures { λ r. ⌜ r ≡ columnAt (now (head .entry)) (self .at) ⌝ }
+        ensures { λ r. ⌜ r ≡ nextColumn (now (head .entry)) (self .at) ⌝ }
     {
         let at = self.at;
-        let start = skip_white(head, at, classes);
+        let start = skip_run(head, at, false, classes);
         if head.len() <= start {
             return Column::Missing;
         }
-        let end = skip_column(head, start + 1, classes);
+        let end = skip_run(head, start + 1, true, classes);
         Column::Found {
             start,
             end,

@@ -20,9 +20,9 @@ use Rattle.rules.proofs.ParentsClimb.{climbs}
 use Rattle.rules.proofs.ParentsOnSheet.{climbs-on-sheet}
 use Rattle.seen.specs.Bits.{bitAt}
 use Rattle.survey.specs.declared.Surveyed.{Surveyed}
-use Rattle.demands.specs.Surveying.{numberOf, Surveying, Readable, Seen, Filled, Answered}
+use Rattle.demands.specs.Surveying.{numberOf, Surveying, Readable, Seen, Filled, Answered, Promised}
 use Rattle.demands.specs.Accepting.{ReadAsWritten}
-use Rattle.demands.proofs.Outcomes.{Met, after-read, wrong-size, too-long}
+use Rattle.demands.proofs.Outcomes.{after-read, wrong-size, too-long}
 use Rattle.demands.proofs.SentenceNumbers.{in-range, each-seen}
 
 -- ---- what is answered and filled
@@ -43,7 +43,7 @@ seen-first c seen hs others e =
     subst (λ (s : List ℕ). Each (λ (g : Handed). bitAt s (numberOf g) ≡ true) hs)
     (sym (seen ∙ ap (λ (gs : List Handed). seenSet (numbers gs)) e)) (each-seen hs others low)
 
-pub handed-by-survey : (c : Surveying) → Met c → Readable (c .file) (c .tables) (c .seen) → Filled c
+pub handed-by-survey : (c : Surveying) → Promised c → Readable (c .file) (c .tables) (c .seen) → Filled c
 handed-by-survey c p k =
     let e = p ∙ after-read (c .file) (c .tables) (c .seen) (k .sized) (k .short) in
     let seen = ap (λ (o : SurveyOutcome). o .seen) e in
@@ -60,26 +60,26 @@ handed-by-survey c p k =
       onSheet = climbs-on-sheet (c .file);
     }
 
-pub answered-by-survey : (c : Surveying) → Met c → Answered c
+pub answered-by-survey : (c : Surveying) → Promised c → Answered c
 answered-by-survey c p = record { wrongSize = wrong-size c p; tooLong = too-long c p; filled = handed-by-survey c p }
 
 -- ---- what is accepted
 
-pub accepted-by-survey : (c : Surveying) → Met c → sheetsFit (c .tables) (c .seen) ≡ true → (c .answer .refusal ≡ 0) ↔ Fits (c .file)
+pub accepted-by-survey : (c : Surveying) → Promised c → sheetsFit (c .tables) (c .seen) ≡ true → (c .answer .refusal ≡ 0) ↔ Fits (c .file)
 accepted-by-survey c p k =
     let same : c .answer .refusal ≡ _ = ap (λ (o : SurveyOutcome). o .answer .refusal) p in
     let exactly = accepted-with-buffers (c .file) (c .tables) (c .seen) k in
     (λ e. exactly .0 (sym same ∙ e), λ h. same ∙ exactly .1 h)
 
 -- buffers of a wrong size are refused
-accepted-sized : (c : Surveying) → Met c → c .answer .refusal ≡ 0 → sheetsFit (c .tables) (c .seen) ≡ true
+accepted-sized : (c : Surveying) → Promised c → c .answer .refusal ≡ 0 → sheetsFit (c .tables) (c .seen) ≡ true
 accepted-sized c p e = by (sheetsFit (c .tables) (c .seen)) refl
   where
     by : (t : Bool) → sheetsFit (c .tables) (c .seen) ≡ t → t ≡ true
     by true s = refl
     by false s = absurd (let z : _≡_ {A = ℕ} 1 0 = sym (ap (λ (a : Surveyed). a .refusal) (wrong-size c p s .answer)) ∙ e in omega (arith, z))
 
-pub accepted-as-written : (c : Surveying) → Met c → c .answer .refusal ≡ 0 → ReadAsWritten (c .file) (c .tablesLeft) (c .seenLeft)
+pub accepted-as-written : (c : Surveying) → Promised c → c .answer .refusal ≡ 0 → ReadAsWritten (c .file) (c .tablesLeft) (c .seenLeft)
 accepted-as-written c p e =
     let sized = accepted-sized c p e in
     let fits = accepted-by-survey c p sized .0 e in

@@ -7,15 +7,16 @@ use mathlib.Core.Logic.{_⊎_, inl, inr}
 use mathlib.Core.Bool.{true}
 use mathlib.Core.List.{List, _++_}
 use lib.ListN.{length, take, drop, length-append, take-append-drop}
+use lib.Seq.{take-all}
 use Rattle.rules.specs.Numbers.{fileLimit}
 use Rattle.rules.specs.Reading.{Handed, numbers}
 use Rattle.rules.specs.Sheets.{tableSheet, seenSet}
 use Rattle.rules.specs.Survey.{lastEnd, surveyOf, sheetsFit}
 use Rattle.rules.specs.Cutting.{endedWithin, soundPart, SoundPart}
 use Rattle.rules.proofs.CutRule.{cut-rule, sound-part}
-use Rattle.demands.specs.Surveying.{Surveying, Readable, Filled}
+use Rattle.survey.specs.declared.Surveyed.{Surveyed}
+use Rattle.demands.specs.Surveying.{Surveying, surveying, Readable, Filled, Promised}
 use Rattle.demands.specs.Cutting.{Restored, SoundAlone}
-use Rattle.demands.proofs.Outcomes.{Met}
 use Rattle.demands.proofs.Accepted.{sound-end-is, seen-first, handed-by-survey}
 
 -- ---- the cut rule
@@ -32,7 +33,7 @@ front f n h k =
     record { others = c .others; first = ap (λ (l : List ℕ). surveyOf l .handed) (sym whole) ∙ c .first }
 
 pub cut-by-survey : (f : List ℕ) (n : ℕ) (x : List ℕ) → n ≤ length f → length f ≤ fileLimit
-    → (cut : Surveying) → Met cut → cut .file ≡ take n f ++ x → Readable (cut .file) (cut .tables) (cut .seen) → Restored f n x cut
+    → (cut : Surveying) → Promised cut → cut .file ≡ take n f ++ x → Readable (cut .file) (cut .tables) (cut .seen) → Restored f n x cut
 cut-by-survey f n x h k cut p same j =
     let c = cut-rule f n x h k (subst (λ (l : List ℕ). length l ≤ fileLimit) same (j .short)) in
     let a = handed-by-survey cut p j in
@@ -59,7 +60,7 @@ pub still-sized : (tables seen tablesLeft seenLeft : List ℕ) → length tables
     → sheetsFit tables seen ≡ true → sheetsFit tablesLeft seenLeft ≡ true
 still-sized tables seen tablesLeft seenLeft t s e = rw (t, s) e
 
-pub sound-by-survey : (c part : Surveying) → Met c → Met part → part .file ≡ take (c .answer .«sound_end») (c .file)
+pub sound-by-survey : (c part : Surveying) → Promised c → Promised part → part .file ≡ take (c .answer .«sound_end») (c .file)
     → Readable (c .file) (c .tables) (c .seen) → Readable (part .file) (part .tables) (part .seen)
     → SoundAlone (c .file) (c .answer) (part .answer) (part .tablesLeft) (part .seenLeft)
 sound-by-survey c part p q of-part k l = by (sound-part (c .file) (k .short))
@@ -89,3 +90,8 @@ sound-by-survey c part p q of-part k l = by (sound-part (c .file) (k .short))
           tables = b .tables ∙ ap tableSheet tables;
           seen = b .seen ∙ ap (λ (gs : List Handed). seenSet (numbers gs)) handed;
         })
+
+-- past its end the first n bytes are the whole file
+pub promised-part : (f : List ℕ) (n : ℕ) (tables seen : List ℕ) (answer : Surveyed) (tablesLeft seenLeft : List ℕ) → length f ≤ n
+    → Promised (surveying f tables seen answer tablesLeft seenLeft) → Promised (surveying (take n f) tables seen answer tablesLeft seenLeft)
+promised-part f n tables seen answer tablesLeft seenLeft h p = subst (λ (l : List ℕ). Promised (surveying l tables seen answer tablesLeft seenLeft)) (sym (take-all n f h)) p

@@ -1,5 +1,5 @@
 -- What the contract of survey says leaves no second outcome; refusals 1 and 2 change nothing; what buffers held before never
--- shows. By the three cases of afterSurvey. The functions of src/ have Met from the contract of the survey they call.
+-- shows. By the three cases of afterSurvey. The functions of src/ have Promised from the contract of the survey they call.
 use Prim.Native.Nat.{ℕ, _≤_, _<_}
 use mathlib.Core.Path.{_≡_, sym, ap, ap₂, _∙_}
 use mathlib.Core.Bool.{true, false}
@@ -11,11 +11,7 @@ use Rattle.rules.specs.Reading.{numbers}
 use Rattle.rules.specs.Sheets.{tableSheet, seenSet}
 use Rattle.rules.specs.Survey.{SurveyOutcome, surveyOf, told, nothingRead, sheetsFit, afterSurvey}
 use Rattle.survey.specs.Promise.{outcome, numbersOf}
-use Rattle.demands.specs.Surveying.{Surveying, Readable, SameOutcome, Untouched}
-
--- the outcome of a call is what the rules say
-abbrev pub Met : Surveying → Type 0
-Met c = outcome (c .answer) (c .tablesLeft) (c .seenLeft) ≡ afterSurvey (c .file) (c .tables) (c .seen)
+use Rattle.demands.specs.Surveying.{Surveying, Readable, SameOutcome, Untouched, Promised}
 
 -- ---- afterSurvey, case by case
 
@@ -47,13 +43,13 @@ same-outcome c d e =
     }
 
 -- for the same file and the same buffers lent there is one outcome
-pub only-outcome : (c d : Surveying) → Met c → Met d → c .file ≡ d .file → c .tables ≡ d .tables → c .seen ≡ d .seen → SameOutcome c d
+pub only-outcome : (c d : Surveying) → Promised c → Promised d → c .file ≡ d .file → c .tables ≡ d .tables → c .seen ≡ d .seen → SameOutcome c d
 only-outcome c d p q f t s =
     same-outcome c d
     (p ∙ ap (λ (l : List ℕ). afterSurvey l (c .tables) (c .seen)) f ∙ ap₂ (λ (t s : List ℕ). afterSurvey (d .file) t s) t s ∙ sym q)
 
 -- whatever buffers of the right size held before
-pub old-never-shows : (c d : Surveying) → Met c → Met d → c .file ≡ d .file → Readable (c .file) (c .tables) (c .seen) → Readable (d .file) (d .tables) (d .seen) → SameOutcome c d
+pub old-never-shows : (c d : Surveying) → Promised c → Promised d → c .file ≡ d .file → Readable (c .file) (c .tables) (c .seen) → Readable (d .file) (d .tables) (d .seen) → SameOutcome c d
 old-never-shows c d p q f k l =
     same-outcome c d
     (p ∙ after-read (c .file) (c .tables) (c .seen) (k .sized) (k .short)
@@ -62,7 +58,7 @@ old-never-shows c d p q f k l =
 
 -- ---- 1 and 2
 
-untouched : (c : Surveying) (n : ℕ) → Met c
+untouched : (c : Surveying) (n : ℕ) → Promised c
     → afterSurvey (c .file) (c .tables) (c .seen) ≡ record { answer = told (nothingRead n); tables = c .tables; seen = c .seen } → Untouched c n
 untouched c n p e =
     record {
@@ -71,8 +67,8 @@ untouched c n p e =
       seen = ap (λ (o : SurveyOutcome). o .seen) (p ∙ e);
     }
 
-pub wrong-size : (c : Surveying) → Met c → sheetsFit (c .tables) (c .seen) ≡ false → Untouched c 1
+pub wrong-size : (c : Surveying) → Promised c → sheetsFit (c .tables) (c .seen) ≡ false → Untouched c 1
 wrong-size c p e = untouched c 1 p (after-wrong-size (c .file) (c .tables) (c .seen) e)
 
-pub too-long : (c : Surveying) → Met c → sheetsFit (c .tables) (c .seen) ≡ true → fileLimit < length (c .file) → Untouched c 2
+pub too-long : (c : Surveying) → Promised c → sheetsFit (c .tables) (c .seen) ≡ true → fileLimit < length (c .file) → Untouched c 2
 too-long c p k h = untouched c 2 p (after-too-long (c .file) (c .tables) (c .seen) k h)

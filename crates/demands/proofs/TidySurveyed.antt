@@ -20,9 +20,8 @@ use Rattle.rules.proofs.SaidOfLists.{length-map}
 use Rattle.rules.proofs.Sorting.{any-sorted, length-sorted}
 use Rattle.rules.proofs.SameMeaning.{same-sentences}
 use Rattle.rules.proofs.RoundTrip.{round-trip}
-use Rattle.demands.specs.Surveying.{Surveying, Readable}
+use Rattle.demands.specs.Surveying.{Surveying, Readable, Promised}
 use Rattle.demands.specs.Tidying.{TidyAlike}
-use Rattle.demands.proofs.Outcomes.{Met}
 use Rattle.demands.proofs.Accepted.{handed-by-survey}
 
 -- ---- a seen set is made of what is a member
@@ -66,7 +65,7 @@ same-handed : (f g : List ℕ) → SameSentences f g → meantSentences (surveyO
 unfolding meaningOf
 same-handed f g s = same-sentences f g .1 s
 
-pub tidy-by-survey : (f : List ℕ) (tidy : Surveying) → Met tidy → surveyOf f .refusal ≡ 0 → tidy .file ≡ tidyOf f
+pub tidy-by-survey : (f : List ℕ) (tidy : Surveying) → Promised tidy → surveyOf f .refusal ≡ 0 → tidy .file ≡ tidyOf f
     → Readable (tidy .file) (tidy .tables) (tidy .seen) → TidyAlike f tidy
 tidy-by-survey f tidy p e of-f k =
     let fits : length (tidyOf f) ≤ fileLimit = subst (λ (l : List ℕ). length l ≤ fileLimit) of-f (k .short) in

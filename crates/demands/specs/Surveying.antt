@@ -8,10 +8,10 @@ use Rattle.rules.specs.Lists.{Each}
 use Rattle.rules.specs.Numbers.{fileLimit}
 use Rattle.rules.specs.Reading.{Handed, numbers}
 use Rattle.rules.specs.Sheets.{tableSheet, seenSet, sentenceSheet}
-use Rattle.rules.specs.Survey.{lastEnd, surveyOf, told, nothingRead, sheetsFit}
+use Rattle.rules.specs.Survey.{lastEnd, surveyOf, told, nothingRead, sheetsFit, afterSurvey}
 use Rattle.rules.specs.Climbing.{Resolves, parentIn, parentOn, EveryChainClimbs}
 use Rattle.seen.specs.Bits.{bitAt}
-use Rattle.survey.specs.Promise.{numbersOf}
+use Rattle.survey.specs.Promise.{outcome, numbersOf}
 use Rattle.survey.specs.declared.Surveyed.{Surveyed}
 
 -- the number of a sentence handed out
@@ -30,6 +30,10 @@ pub record Surveying : Type 0 where
 abbrev pub surveying : List ℕ → List ℕ → List ℕ → Surveyed → List ℕ → List ℕ → Surveying
 surveying file tables seen answer tablesLeft seenLeft =
     record { file = file; tables = tables; seen = seen; answer = answer; tablesLeft = tablesLeft; seenLeft = seenLeft }
+
+-- the outcome is the one that the rules define; there is no other
+abbrev pub Promised : Surveying → Type 0
+Promised c = outcome (c .answer) (c .tablesLeft) (c .seenLeft) ≡ afterSurvey (c .file) (c .tables) (c .seen)
 
 -- both buffers lent have their fixed sizes, and the file is no longer than the limit
 pub record Readable (file tables seen : List ℕ) : Type 0 where

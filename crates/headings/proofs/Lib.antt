@@ -1,3 +1,4 @@
 pub mod BosLines
 pub mod ColumnNumbers
 pub mod EosLines
+pub mod HeadingSteps

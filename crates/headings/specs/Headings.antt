@@ -15,6 +15,7 @@ use Rattle.rules.specs.Tables.{Tables, origins, editors, present}
 use Rattle.rules.specs.Sentences.{knownEditor, knownOrigin}
 use Rattle.columns.specs.Listing.{spanOf}
 use Rattle.steps.specs.Faults.{faultIn, unlessFault}
+use Rattle.steps.specs.declared.HeadingSaid.{HeadingSaid}
 use Rattle.steps.specs.declared.Step.{Step}
 use Rattle.steps.specs.declared.Step.the-variants.{SentenceBegins}
 use Rattle.headings.specs.declared.bos.HeadingNumbers.{HeadingNumbers}
@@ -37,25 +38,28 @@ numbersOn cs =
     numbersOf (number sentenceNumber (written cs 1 .bytes)) (signedId (written cs 2 .bytes)) (number date (written cs 3 .bytes))
     (number originId (written cs 4 .bytes))
 
--- what the numbers of a line cite
-abbrev pub citingRules : Tables → (ℕ → Bool) → Text → HeadingNumbers → List Rule
-citingRules ts used line x =
-    rule 13 line (present origins ts && present editors ts)
-    ∷ rule 14 line (not (used (x .number)))
-    ∷ rule 15 (written (columns line) 2) (knownEditor ts (x .editor1))
-    ∷ rule 15 (written (columns line) 4) (knownOrigin ts (x .origin))
-    ∷ []
-
 -- the step of a line whose columns and numbers are good
-unfoldable pub judgedHeading : Tables → (ℕ → Bool) → Text → HeadingNumbers → Step
-unfolding faultIn
-judgedHeading ts used line x =
-    unlessFault (faultIn (citingRules ts used line x))
-    (SentenceBegins
+abbrev pub saidHeading : List Column → HeadingNumbers → Step
+saidHeading cs x =
+    SentenceBegins
     (record {
       number = x .number;
       editor1 = x .editor1;
       date = x .date;
       origin = x .origin;
-      comment = spanOf (trim (column (columns line) 5 .after));
-    }))
+      comment = spanOf (trim (column cs 5 .after));
+    })
+
+-- what a heading cites
+abbrev pub citingRules : Tables → (ℕ → Bool) → Text → HeadingSaid → List Rule
+citingRules ts used line h =
+    rule 13 line (present origins ts && present editors ts)
+    ∷ rule 14 line (not (used (h .number)))
+    ∷ rule 15 (written (columns line) 2) (knownEditor ts (h .editor1))
+    ∷ rule 15 (written (columns line) 4) (knownOrigin ts (h .origin))
+    ∷ []
+
+-- the step of a line that says this heading
+unfoldable pub judgedHeading : Tables → (ℕ → Bool) → Text → HeadingSaid → Step
+unfolding faultIn
+judgedHeading ts used line h = unlessFault (faultIn (citingRules ts used line h)) (SentenceBegins h)

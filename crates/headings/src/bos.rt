@@ -4,17 +4,14 @@ ghost use mathlib.Core.List.{List};
 ghost use Prim.Native.Nat.{ℕ, _≤_, _<_};
 ghost use lib.ListN.{length};
 ghost use Rattle.rules.specs.Bytes.{classTable};
-ghost use Rattle.rules.specs.Columns.{written};
 ghost use Rattle.rules.specs.Numbers.{sentenceNumber, originId};
 ghost use Rattle.rules.specs.Sheets.{seenSetSize};
 ghost use Rattle.columns.specs.Listing.{lineOf, columnsOf, Listed};
 ghost use Rattle.seen.specs.Bits.{bitAt};
 ghost use Rattle.table_sheet.specs.SheetRows.{tablesIn};
 ghost use Rattle.citations.specs.Tabled.{Counted};
-ghost use Rattle.steps.specs.Faults.{refusal};
-ghost use Rattle.headings.specs.Headings.{whole, numbersOn, judgedHeading};
+ghost use Rattle.headings.specs.Headings.{whole, numbersOn, saidHeading, judgedHeading};
 use columns::listing::Line;
-use columns::listing::column_span;
 use columns::listing::column_text;
 use columns::listing::text_from;
 use numbers::Date;
@@ -22,11 +19,11 @@ use numbers::EditorId;
 use numbers::Number;
 use numbers::OriginId;
 use numbers::SentenceNumber;
-use steps::Fault;
 use steps::HeadingSaid;
 use steps::Step;
 use steps::refusals;
 use steps::refused;
+use steps::refused_at;
 
 // The columns behind the keyword; the number stands behind #EOS too.
 pub const NUMBER: usize = 1;
@@ -102,44 +99,11 @@ pub fn read_numbers(
     })
 }
 
-// A rule is broken that is about column k.
-pub fn refused_at(number: u32, line: Line, places: &[u32; 4096], k: usize) -> Step
-    requires { ⌜ (k < line .columns) × ((file : List ℕ) × Listed file line (now places)) ⌝ }
-    ensures { λ r. ⌜ ((file : List ℕ) → Listed file line (now (places .entry)) → r ≡ refusal number (written (columnsOf file line) k .start)) ⌝ }
+// What a heading says whose columns and numbers are good.
+pub fn say_heading(line: Line, places: &[u32; 4096], four: HeadingNumbers) -> Step
+    requires { ⌜ ((file : List ℕ) × Listed file line (now places)) ⌝ }
+    ensures { λ r. ⌜ ((file : List ℕ) → Listed file line (now (places .entry)) → r ≡ saidHeading (columnsOf file line) four) ⌝ }
 {
-    let at = column_span(line, places, k);
-    Step::Refused(Fault {
-        number,
-        place: at.start,
-    })
-}
-
-// A heading whose columns and numbers are good.
-pub fn judge_heading(
-    line: Line,
-    places: &[u32; 4096],
-    sheet: &[u32],
-    seen: &[u8],
-    four: HeadingNumbers,
-) -> Step
-    requires { ⌜ Counted (now sheet) × (length (now seen) ≡ seenSetSize) × (four .number ≤ sentenceNumber .highest) × (four .origin ≤ originId .highest) × (4 < line .columns) × ((file : List ℕ) × Listed file line (now places)) ⌝ }
-    ensures { λ r. ⌜ ((file : List ℕ) → Listed file line (now (places .entry)) → r ≡ judgedHeading (tablesIn file (now (sheet .entry))) (bitAt (now (seen .entry))) (lineOf file line) four) ⌝ }
-{
-    if !citations::is_present(sheet, table_sheet::ORIGINS) {
-        return refused(refusals::TABLE_MISSING, line.start);
-    }
-    if !citations::is_present(sheet, table_sheet::EDITORS) {
-        return refused(refusals::TABLE_MISSING, line.start);
-    }
-    if seen::has(seen, four.number) {
-        return refused(refusals::NUMBER_USED, line.start);
-    }
-    if !citations::knows_editor(sheet, four.editor1) {
-        return refused_at(refusals::UNKNOWN_CITED, line, places, EDITOR);
-    }
-    if !citations::knows_origin(sheet, four.origin) {
-        return refused_at(refusals::UNKNOWN_CITED, line, places, ORIGIN);
-    }
     let comment = text_from(line, places, COMMENT);
     Step::SentenceBegins(HeadingSaid {
         number: four.number,
@@ -148,4 +112,33 @@ pub fn judge_heading(
         origin: four.origin,
         comment,
     })
+}
+
+// The heading, unless what it cites isn't there.
+pub fn judge_cited(
+    line: Line,
+    places: &[u32; 4096],
+    sheet: &[u32],
+    seen: &[u8],
+    said: HeadingSaid,
+) -> Step
+    requires { ⌜ Counted (now sheet) × (length (now seen) ≡ seenSetSize) × (said .number ≤ sentenceNumber .highest) × (said .origin ≤ originId .highest) × (4 < line .columns) × ((file : List ℕ) × Listed file line (now places)) ⌝ }
+    ensures { λ r. ⌜ ((file : List ℕ) → Listed file line (now (places .entry)) → r ≡ judgedHeading (tablesIn file (now (sheet .entry))) (bitAt (now (seen .entry))) (lineOf file line) said) ⌝ }
+{
+    if !citations::is_present(sheet, table_sheet::ORIGINS) {
+        return refused(refusals::TABLE_MISSING, line.start);
+    }
+    if !citations::is_present(sheet, table_sheet::EDITORS) {
+        return refused(refusals::TABLE_MISSING, line.start);
+    }
+    if seen::has(seen, said.number) {
+        return refused(refusals::NUMBER_USED, line.start);
+    }
+    if !citations::knows_editor(sheet, said.editor1) {
+        return refused_at(refusals::UNKNOWN_CITED, line, places, EDITOR);
+    }
+    if !citations::knows_origin(sheet, said.origin) {
+        return refused_at(refusals::UNKNOWN_CITED, line, places, ORIGIN);
+    }
+    Step::SentenceBegins(said)
 }

@@ -5,7 +5,8 @@ ghost use mathlib.Core.Path.{_≡_};
 ghost use lib.ListN.{length};
 ghost use Rattle.rules.specs.Bytes.{classTable};
 ghost use Rattle.rules.specs.Lines.{takenAs, sentenceBegins, sentenceEnds};
-ghost use Rattle.rules.specs.Sentences.{SoFar, headingOf, endOf};
+ghost use Rattle.rules.specs.Rules.{checked};
+ghost use Rattle.rules.specs.Sentences.{SoFar, headingWritten, headingIn, headingOf, endOf};
 ghost use Rattle.rules.specs.Sheets.{seenSetSize};
 ghost use Rattle.columns.specs.Listing.{lineOf, Listed};
 ghost use Rattle.seen.specs.Bits.{bitAt};
@@ -21,7 +22,22 @@ use steps::Step;
 use steps::refusals;
 use steps::refused;
 
-// #BOS number editor date origin, and a comment
+// #BOS number editor date origin, and a comment. What it cites isn't asked.
+pub fn heading_alone(file: &[u8], line: Line, places: &[u32; 4096], classes: &[u8; 256]) -> Step
+    requires { ⌜ (now classes ≡ classTable) × Listed (now file) line (now places) ⌝ }
+    ensures { λ r. ⌜ r ≡ stepOf (takenAs sentenceBegins (checked (headingWritten (lineOf (now (file .entry)) line)) (headingIn (lineOf (now (file .entry)) line)))) ⌝ }
+{
+    if !bos::has_columns(file, line, places) {
+        return refused(refusals::WRONG_COLUMNS, line.start);
+    }
+    let read = bos::read_numbers(file, line, places, classes);
+    match read {
+        FourNumbers::Bad(k) => steps::refused_at(refusals::BAD_NUMBER, line, places, k),
+        FourNumbers::Good(four) => bos::say_heading(line, places, four),
+    }
+}
+
+// The same, and what it cites.
 pub fn heading_line(
     file: &[u8],
     line: Line,
@@ -33,14 +49,11 @@ pub fn heading_line(
     requires { ⌜ (now classes ≡ classTable) × Listed (now file) line (now places) × Counted (now sheet) × (length (now seen) ≡ seenSetSize) ⌝ }
     ensures { λ r. ⌜ r ≡ stepOf (takenAs sentenceBegins (headingOf (tablesIn (now (file .entry)) (now (sheet .entry))) (bitAt (now (seen .entry))) (lineOf (now (file .entry)) line))) ⌝ }
 {
-    if !bos::has_columns(file, line, places) {
-        return refused(refusals::WRONG_COLUMNS, line.start);
-    }
-    let read = bos::read_numbers(file, line, places, classes);
-    match read {
-        FourNumbers::Bad(k) => bos::refused_at(refusals::BAD_NUMBER, line, places, k),
-        FourNumbers::Good(four) => bos::judge_heading(line, places, sheet, seen, four),
-    }
+    let alone = heading_alone(file, line, places, classes);
+    let Step::SentenceBegins(said) = alone else {
+        return alone;
+    };
+    bos::judge_cited(line, places, sheet, seen, said)
 }
 
 const END_COLUMNS: usize = 2;
@@ -63,7 +76,7 @@ pub fn end_line(
     }
     let read = SentenceNumber::read(column_text(file, line, places, bos::NUMBER), classes);
     let Number::Good(n) = read else {
-        return bos::refused_at(refusals::BAD_NUMBER, line, places, bos::NUMBER);
+        return steps::refused_at(refusals::BAD_NUMBER, line, places, bos::NUMBER);
     };
     if n != number {
         return refused(refusals::OTHER_NUMBER, line.start);

@@ -2,6 +2,7 @@
 -- one outcome of rules/Survey.
 use Prim.Native.Nat.{ℕ}
 use mathlib.Core.List.{List}
+use Rattle.rules.specs.Index.{Indexed}
 use Rattle.rules.specs.Survey.{SurveyOutcome}
 
 abbrev pub outcome : ℕ → ℕ → ℕ → ℕ → List ℕ → List ℕ → SurveyOutcome
@@ -11,3 +12,8 @@ outcome refusal place sentences soundEnd tables seen =
       tables = tables;
       seen = seen;
     }
+
+-- and after an index, the list of beginnings too
+abbrev pub indexed : ℕ → ℕ → ℕ → ℕ → List ℕ → List ℕ → List ℕ → Indexed
+indexed refusal place sentences soundEnd tables seen places =
+    record { answer = outcome refusal place sentences soundEnd tables seen .answer; tables = tables; seen = seen; places = places }

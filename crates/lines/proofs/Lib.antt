@@ -1,2 +1,4 @@
 pub mod Scan
 pub mod Lines
+pub mod LineSteps
+pub mod Variants

@@ -11,47 +11,47 @@ use lib.Seq.{take-add, take-at, drop-at, drop-drop, length-take-le}
 use Rattle.rules.specs.Lists.{pick, every}
 use Rattle.rules.specs.Bytes.{newline, legal}
 use Rattle.rules.specs.Numbers.{lineLimit}
-use Rattle.lines.specs.LineEnds.{ends, hasEnd, lineOf, judged, lineEnd}
+use Rattle.lines.specs.LineEnds.{ends, hasEnd, firstLine, endFound, lineEnd}
 use Rattle.lines.specs.declared.LineEnd.{LineEnd}
 use Rattle.lines.specs.declared.LineEnd.the-variants.{At, Unended, Illegal, TooLong}
 
 -- ---- a line and what follows it
 
 -- no byte of a line is the newline
-pub line-unbroken : (bs : List ℕ) → hasEnd (lineOf bs) ≡ false
-unfolding lineOf
+pub line-unbroken : (bs : List ℕ) → hasEnd (firstLine bs) ≡ false
+unfolding firstLine
 line-unbroken [] = refl
 line-unbroken (b ∷ bs) = go (ends b) refl (line-unbroken bs)
   where
-    go : (t : Bool) → ends b ≡ t → hasEnd (lineOf bs) ≡ false → hasEnd (pick t [] (b ∷ lineOf bs)) ≡ false
+    go : (t : Bool) → ends b ≡ t → hasEnd (firstLine bs) ≡ false → hasEnd (pick t [] (b ∷ firstLine bs)) ≡ false
     go true e ih = refl
     go false e ih = rw (e, ih)
 
 -- a line that is ended is followed by its newline
-pub line-split : (bs : List ℕ) → hasEnd bs ≡ true → bs ≡ lineOf bs ++ (newline ∷ drop (suc (length (lineOf bs))) bs)
-unfolding lineOf
+pub line-split : (bs : List ℕ) → hasEnd bs ≡ true → bs ≡ firstLine bs ++ (newline ∷ drop (suc (length (firstLine bs))) bs)
+unfolding firstLine
 line-split [] h = (cc)
 line-split (b ∷ bs) h = go (ends b) refl h (line-split bs)
   where
     go : (t : Bool)
         → ends b ≡ t
         → (t || hasEnd bs) ≡ true
-        → (hasEnd bs ≡ true → bs ≡ lineOf bs ++ (newline ∷ drop (suc (length (lineOf bs))) bs))
-        → b ∷ bs ≡ pick t [] (b ∷ lineOf bs) ++ (newline ∷ drop (length (pick t [] (b ∷ lineOf bs))) bs)
+        → (hasEnd bs ≡ true → bs ≡ firstLine bs ++ (newline ∷ drop (suc (length (firstLine bs))) bs))
+        → b ∷ bs ≡ pick t [] (b ∷ firstLine bs) ++ (newline ∷ drop (length (pick t [] (b ∷ firstLine bs))) bs)
     go true e h ih = ap (λ (n : ℕ). n ∷ bs) (eqb-true b newline e)
     go false e h ih = ap (λ (l : List ℕ). b ∷ l) (ih h)
 
 module _ (file : List ℕ) (at : ℕ) (ended : hasEnd (drop at file) ≡ true) where
-  pub ended-split : drop at file ≡ lineOf (drop at file) ++ (newline ∷ drop (at + length (lineOf (drop at file)) + 1) file)
+  pub ended-split : drop at file ≡ firstLine (drop at file) ++ (newline ∷ drop (at + length (firstLine (drop at file)) + 1) file)
   ended-split =
-      let line = lineOf (drop at file) in
+      let line = firstLine (drop at file) in
       let k : at + suc (length line) ≡ at + length line + 1 = omega arith in
       line-split (drop at file) ended
       ∙ ap (λ (l : List ℕ). line ++ (newline ∷ l)) (drop-drop (suc (length line)) at file ∙ ap (λ (n : ℕ). drop n file) k)
 
-  pub ended-below : at + length (lineOf (drop at file)) < length file
+  pub ended-below : at + length (firstLine (drop at file)) < length file
   ended-below =
-      let line = lineOf (drop at file) in
+      let line = firstLine (drop at file) in
       let d : length (drop at file) ≡ length file - at = length-drop at file in
       let l = ap length (line-split (drop at file) ended) ∙ length-append line (newline ∷ drop (suc (length line)) (drop at file)) in
       omega arith
@@ -61,23 +61,23 @@ module _ (file : List ℕ) (at : ℕ) (ended : hasEnd (drop at file) ≡ true) w
 -- what a finding tells of the line at a place, with the rest of the file behind that place
 abbrev Told : ℕ → List ℕ → LineEnd → Type 0
 Told at rest (At e) =
-    (hasEnd rest ≡ true) × (every legal (lineOf rest) ≡ true) × (length (lineOf rest) ≤ lineLimit) × (e ≡ at + length (lineOf rest))
+    (hasEnd rest ≡ true) × (every legal (firstLine rest) ≡ true) × (length (firstLine rest) ≤ lineLimit) × (e ≡ at + length (firstLine rest))
 Told at rest Unended = hasEnd rest ≡ false
-Told at rest Illegal = (hasEnd rest ≡ true) × (every legal (lineOf rest) ≡ false)
-Told at rest TooLong = (hasEnd rest ≡ true) × (every legal (lineOf rest) ≡ true) × (lineLimit < length (lineOf rest))
+Told at rest Illegal = (hasEnd rest ≡ true) × (every legal (firstLine rest) ≡ false)
+Told at rest TooLong = (hasEnd rest ≡ true) × (every legal (firstLine rest) ≡ true) × (lineLimit < length (firstLine rest))
 
 told : (file : List ℕ) (at : ℕ) → Told at (drop at file) (lineEnd file at)
-unfolding lineEnd judged
-told file at = go (hasEnd rest) (every legal (lineOf rest)) (leb (length (lineOf rest)) lineLimit) refl refl refl
+unfolding lineEnd endFound
+told file at = go (hasEnd rest) (every legal (firstLine rest)) (leb (length (firstLine rest)) lineLimit) refl refl refl
   where
     rest : List ℕ
     rest = drop at file
 
     go : (t u v : Bool)
         → hasEnd rest ≡ t
-        → every legal (lineOf rest) ≡ u
-        → leb (length (lineOf rest)) lineLimit ≡ v
-        → Told at rest (pick t (pick u (pick v (At (at + length (lineOf rest))) TooLong) Illegal) Unended)
+        → every legal (firstLine rest) ≡ u
+        → leb (length (firstLine rest)) lineLimit ≡ v
+        → Told at rest (pick t (pick u (pick v (At (at + length (firstLine rest))) TooLong) Illegal) Unended)
     go true true true ended sound short = (ended, sound, leb-true _ _ short, refl)
     go true true false ended sound long = (ended, sound, leb-false _ _ long)
     go true false v ended marred short = (ended, marred)
@@ -92,13 +92,13 @@ module _ (file : List ℕ) (at e : ℕ) (q : lineEnd file at ≡ At e) where
   pub at-ended : hasEnd (drop at file) ≡ true
   at-ended = told-at .0
 
-  pub at-legal : every legal (lineOf (drop at file)) ≡ true
+  pub at-legal : every legal (firstLine (drop at file)) ≡ true
   at-legal = told-at .1
 
-  pub at-short : length (lineOf (drop at file)) ≤ lineLimit
+  pub at-short : length (firstLine (drop at file)) ≤ lineLimit
   at-short = told-at .2
 
-  pub at-place : e ≡ at + length (lineOf (drop at file))
+  pub at-place : e ≡ at + length (firstLine (drop at file))
   at-place = told-at .3
 
   pub at-behind : at ≤ e
@@ -107,17 +107,17 @@ module _ (file : List ℕ) (at e : ℕ) (q : lineEnd file at ≡ At e) where
   pub at-below : e < length file
   at-below = let p = at-place in let b = ended-below file at at-ended in omega arith
 
-  pub at-split : drop at file ≡ lineOf (drop at file) ++ (newline ∷ drop (e + 1) file)
-  at-split = ended-split file at at-ended ∙ ap (λ (n : ℕ). lineOf (drop at file) ++ (newline ∷ drop (n + 1) file)) (sym at-place)
+  pub at-split : drop at file ≡ firstLine (drop at file) ++ (newline ∷ drop (e + 1) file)
+  at-split = ended-split file at at-ended ∙ ap (λ (n : ℕ). firstLine (drop at file) ++ (newline ∷ drop (n + 1) file)) (sym at-place)
 
-  pub at-take : take (e - at) (drop at file) ≡ lineOf (drop at file)
+  pub at-take : take (e - at) (drop at file) ≡ firstLine (drop at file)
   at-take =
       let p = at-place in
-      let n : length (lineOf (drop at file)) ≡ e - at = omega arith in
-      ap (take (e - at)) at-split ∙ take-at (lineOf (drop at file)) (newline ∷ drop (e + 1) file) (e - at) n
+      let n : length (firstLine (drop at file)) ≡ e - at = omega arith in
+      ap (take (e - at)) at-split ∙ take-at (firstLine (drop at file)) (newline ∷ drop (e + 1) file) (e - at) n
 
   -- the line is what stands behind `at` in the file up to the line's end
-  pub at-head : drop at (take e file) ≡ lineOf (drop at file)
+  pub at-head : drop at (take e file) ≡ firstLine (drop at file)
   at-head =
       let b = at-below in
       let p = at-behind in
@@ -141,10 +141,10 @@ module _ (file : List ℕ) (at : ℕ) (q : lineEnd file at ≡ Illegal) where
   pub illegal-ended : hasEnd (drop at file) ≡ true
   illegal-ended = told-illegal .0
 
-  pub illegal-marred : every legal (lineOf (drop at file)) ≡ false
+  pub illegal-marred : every legal (firstLine (drop at file)) ≡ false
   illegal-marred = told-illegal .1
 
-  pub illegal-split : drop at file ≡ lineOf (drop at file) ++ (newline ∷ drop (at + length (lineOf (drop at file)) + 1) file)
+  pub illegal-split : drop at file ≡ firstLine (drop at file) ++ (newline ∷ drop (at + length (firstLine (drop at file)) + 1) file)
   illegal-split = ended-split file at illegal-ended
 
 module _ (file : List ℕ) (at : ℕ) (q : lineEnd file at ≡ TooLong) where
@@ -154,11 +154,11 @@ module _ (file : List ℕ) (at : ℕ) (q : lineEnd file at ≡ TooLong) where
   pub long-ended : hasEnd (drop at file) ≡ true
   long-ended = told-long .0
 
-  pub long-legal : every legal (lineOf (drop at file)) ≡ true
+  pub long-legal : every legal (firstLine (drop at file)) ≡ true
   long-legal = told-long .1
 
-  pub long-over : lineLimit < length (lineOf (drop at file))
+  pub long-over : lineLimit < length (firstLine (drop at file))
   long-over = told-long .2
 
-  pub long-split : drop at file ≡ lineOf (drop at file) ++ (newline ∷ drop (at + length (lineOf (drop at file)) + 1) file)
+  pub long-split : drop at file ≡ firstLine (drop at file) ++ (newline ∷ drop (at + length (firstLine (drop at file)) + 1) file)
   long-split = ended-split file at long-ended

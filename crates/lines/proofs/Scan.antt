@@ -15,32 +15,32 @@ use Rattle.rules.specs.Lists.{every}
 use Rattle.rules.specs.Bytes.{newline, legal, illegalClass, classOf}
 use Rattle.rules.specs.Numbers.{lineLimit}
 use Rattle.rules.proofs.Classes.{class-illegal}
-use Rattle.lines.specs.LineEnds.{hasEnd, lineOf, judged, lineEnd}
+use Rattle.lines.specs.LineEnds.{hasEnd, firstLine, endFound, lineEnd}
 use Rattle.lines.specs.declared.LineEnd.{LineEnd}
 use Rattle.lines.specs.declared.LineEnd.the-variants.{At, Unended, Illegal, TooLong}
 
 -- n bytes of the line have passed, all of them legal or not, and the rest of the file is left
 abbrev left : ℕ → ℕ → Bool → List ℕ → LineEnd
-left from n sound rest = judged from (hasEnd rest) (sound && every legal (lineOf rest)) (n + length (lineOf rest))
+left from n sound rest = endFound from (hasEnd rest) (sound && every legal (firstLine rest)) (n + length (firstLine rest))
 
 unfoldable pub scan : List ℕ → ℕ → ℕ → Bool → LineEnd
 scan file from at sound = left from (at - from) sound (drop at file)
 
 pub scan-start : (file : List ℕ) (from : ℕ) → scan file from from true ≡ lineEnd file from
 unfolding scan lineEnd
-scan-start file from = ap (judged from (hasEnd (drop from file)) (every legal (lineOf (drop from file)))) (omega arith)
+scan-start file from = ap (endFound from (hasEnd (drop from file)) (every legal (firstLine (drop from file)))) (omega arith)
 
 pub scan-unended : (file : List ℕ) (from at : ℕ) (sound : Bool) → length file ≤ at → scan file from at sound ≡ Unended
-unfolding scan judged
+unfolding scan endFound
 scan-unended file from at sound h = rw (drop-of-length-le file h)
 
-left-newline : (from n b : ℕ) (sound : Bool) (rest : List ℕ) → eqb b newline ≡ true → left from n sound (b ∷ rest) ≡ judged from true sound n
-unfolding lineOf
+left-newline : (from n b : ℕ) (sound : Bool) (rest : List ℕ) → eqb b newline ≡ true → left from n sound (b ∷ rest) ≡ endFound from true sound n
+unfolding firstLine
 left-newline from n b sound rest e = rw (e, and-true, add-zero)
 
 left-other : (from n b : ℕ) (sound : Bool) (rest : List ℕ) → eqb b newline ≡ false
     → left from n sound (b ∷ rest) ≡ left from (suc n) (sound && legal b) rest
-unfolding lineOf
+unfolding firstLine
 left-other from n b true rest e = rw (e, add-suc, suc-add)
 left-other from n b false rest e = rw (e, add-suc, suc-add)
 
@@ -51,20 +51,20 @@ module _ (file : List ℕ) (from at : ℕ) (sound : Bool) (below : at < length f
   abbrev here : ℕ
   here = getD file at 0
 
-  scan-newline : here ≡ newline → scan file from at sound ≡ judged from true sound (at - from)
+  scan-newline : here ≡ newline → scan file from at sound ≡ endFound from true sound (at - from)
   unfolding scan
   scan-newline e = rw (drop-cons file at 0) (left-newline from (at - from) here sound (drop (suc at) file) (eq-eqb here newline e))
 
   pub scan-illegal : here ≡ newline → sound ≡ false → scan file from at sound ≡ Illegal
-  unfolding judged
+  unfolding endFound
   scan-illegal e s = rw (scan-newline e, s)
 
   pub scan-at : here ≡ newline → sound ≡ true → from ≤ at → at - from ≤ lineLimit → scan file from at sound ≡ At at
-  unfolding judged
+  unfolding endFound
   scan-at e s f l = rw (scan-newline e, s, le-leb (at - from) lineLimit l) (ap At (omega arith))
 
   pub scan-long : here ≡ newline → sound ≡ true → lineLimit < at - from → scan file from at sound ≡ TooLong
-  unfolding judged
+  unfolding endFound
   scan-long e s l = rw (scan-newline e, s, lt-leb (at - from) lineLimit l)
 
   scan-other : from ≤ at → eqb here newline ≡ false → scan file from at sound ≡ scan file from (at + 1) (sound && legal here)

@@ -19,22 +19,22 @@ abbrev pub hasEnd : List ℕ → Bool
 hasEnd bs = any ends bs
 
 -- the bytes in front of the first newline
-unfoldable pub lineOf : List ℕ → List ℕ
-lineOf [] = []
-lineOf (b ∷ bs) = let more = b ∷ lineOf bs in pick (ends b) [] more
+unfoldable pub firstLine : List ℕ → List ℕ
+firstLine [] = []
+firstLine (b ∷ bs) = let more = b ∷ firstLine bs in pick (ends b) [] more
 
 -- of a line that starts at a place: whether it is ended, whether its bytes are legal, and how many they are
-unfoldable pub judged : ℕ → Bool → Bool → ℕ → LineEnd
-judged from ended sound n = pick ended (pick sound (pick (leb n lineLimit) (At (from + n)) TooLong) Illegal) Unended
+unfoldable pub endFound : ℕ → Bool → Bool → ℕ → LineEnd
+endFound from ended sound n = pick ended (pick sound (pick (leb n lineLimit) (At (from + n)) TooLong) Illegal) Unended
 
 unfoldable pub lineEnd : List ℕ → ℕ → LineEnd
 lineEnd file from =
     let rest = drop from file in
-    judged from (hasEnd rest) (every legal (lineOf rest)) (length (lineOf rest))
+    endFound from (hasEnd rest) (every legal (firstLine rest)) (length (firstLine rest))
 
 -- document 01's number, 0 for a line that may be read
-abbrev pub refusalOf : LineEnd → ℕ
-refusalOf (At e) = 0
-refusalOf Unended = 3
-refusalOf Illegal = 4
-refusalOf TooLong = 5
+abbrev pub lineRefusal : LineEnd → ℕ
+lineRefusal (At e) = 0
+lineRefusal Unended = 3
+lineRefusal Illegal = 4
+lineRefusal TooLong = 5

@@ -3,20 +3,19 @@ use Prim.Native.Nat.{ℕ, _+_, _-_, _/_}
 use native.Mathlib.Omega.{arith}
 use mathlib.Core.Path.{_≡_, refl, sym, ap, _∙_}
 use mathlib.Core.Bool.{Bool, true, false, not, _&&_}
-use mathlib.Core.Option.{some}
 use mathlib.Core.List.{List, [], _∷_}
 use borrow.Author.Tests.{ne-eqb, eq-eqb}
 use lib.Dec.{leb, ltb}
 use lib.ListN.{length}
 use Rattle.rules.specs.Lists.{pick}
-use Rattle.rules.specs.Texts.{Text, noText}
+use Rattle.rules.specs.Texts.{Text, noText, behindHash}
 use Rattle.rules.specs.Columns.{columns, text, fields, comment}
 use Rattle.rules.specs.Numbers.{wordLimit, edgeLimit, good, value}
 use Rattle.rules.specs.Rules.{Rule, rule, checked}
 use Rattle.rules.specs.Tables.{Tables, wordTags, nodeTags}
 use Rattle.rules.specs.Sentences.{Node, SoFar}
 use Rattle.rules.specs.Lines.{Taking, takenAs, wordLine, phraseLine}
-use Rattle.rules.specs.Nodes.{nodeOf, shaped, roomy, behindHash, wordOf, phraseOf}
+use Rattle.rules.specs.Nodes.{nodeOf, shaped, roomy, wordOf, phraseOf}
 use Rattle.steps.specs.Faults.{noFault, faultIn, brokenBy, unlessFault}
 use Rattle.steps.specs.Steps.{nodeSaid, stepFor, stepOf}
 use Rattle.steps.specs.declared.Fault.{Fault}

@@ -1,6 +1,6 @@
 -- The walk along the pairs of a line, whatever a rule asks of a pair: from the fifth field on up to a place every pair has
 -- kept the rule, so the rest decides. One law for the start, a pair more, and each way out.
-use Prim.Native.Nat.{ℕ, suc, _+_, _-_, _≤_, _<_}
+use Prim.Native.Nat.{ℕ, suc, _+_, _≤_, _<_}
 use native.Mathlib.Numerals.{add-one}
 use native.Mathlib.Omega.{arith}
 use mathlib.Core.Path.{_≡_, refl, sym, ap, _∙_}

@@ -85,6 +85,10 @@ firstFault format fs ts tags its-number limits =
     (orElse limits
     (orElse (faultIn (nodes.tagsKnown format fs ts tags)) (faultIn (nodes.parentsRise format fs its-number)))))
 
+-- how many numbers there are for phrases
+abbrev pub phraseCount : ℕ
+phraseCount = 500
+
 -- the phrases of a sentence: at each number from 500 on, the stamp of the sentence that last had a phrase of it
 abbrev pub marked : List ℕ → ℕ → ℕ → Bool
-marked marks stamp n = leb 500 n && eqb (getD marks (n - 500) 0) stamp
+marked marks stamp n = leb (phraseNumber .lowest) n && eqb (getD marks (n - phraseNumber .lowest) 0) stamp

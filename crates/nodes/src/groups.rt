@@ -12,6 +12,7 @@ use crate::fields;
 use crate::pairs;
 use crate::pairs::Judged;
 use columns::listing::Line;
+use columns::listing::Places;
 use numbers::Number;
 use steps::Fault;
 use steps::refusals;
@@ -28,7 +29,7 @@ pub struct Own {
 fn parents_written(
     file: &[u8],
     line: Line,
-    places: &[u32; 4096],
+    places: &Places,
     count: usize,
     classes: &[u8; 256],
 ) -> Judged
@@ -43,7 +44,7 @@ fn parents_written(
 }
 
 // 10
-fn tags_short(file: &[u8], line: Line, places: &[u32; 4096], count: usize, table: usize) -> Fault
+fn tags_short(file: &[u8], line: Line, places: &Places, count: usize, table: usize) -> Fault
     requires { ⌜ Whole (now file) line (now places) count ⌝ }
     ensures { λ r. ⌜ ((format : ℕ) → r ≡ faultIn (tagsShort format (fieldsOf (now (file .entry)) line) table)) ⌝ }
 {
@@ -63,11 +64,11 @@ fn tags_short(file: &[u8], line: Line, places: &[u32; 4096], count: usize, table
 fn tags_known(
     file: &[u8],
     line: Line,
-    places: &[u32; 4096],
+    places: &Places,
     count: usize,
     table: usize,
     sheet: &[u32],
-    hints: &[u8; 3584],
+    hints: &[u8; table_sheet::HINTS],
 ) -> Fault
     requires { ⌜ Whole (now file) line (now places) count × Tabled (now file) (now sheet) × (table < 7) ⌝ }
     ensures { λ r. ⌜ ((format : ℕ) → r ≡ faultIn (tagsKnown format (fieldsOf (now (file .entry)) line) (tablesIn (now (file .entry)) (now (sheet .entry))) table)) ⌝ }
@@ -88,7 +89,7 @@ fn tags_known(
 fn parents_rise(
     file: &[u8],
     line: Line,
-    places: &[u32; 4096],
+    places: &Places,
     count: usize,
     number: u32,
     parent: u32,
@@ -107,10 +108,10 @@ fn parents_rise(
 pub fn judge(
     file: &[u8],
     line: Line,
-    places: &[u32; 4096],
+    places: &Places,
     own: Own,
     sheet: &[u32],
-    hints: &[u8; 3584],
+    hints: &[u8; table_sheet::HINTS],
     classes: &[u8; 256],
 ) -> Judged
     requires { ⌜ (now classes ≡ classTable) × Whole (now file) line (now places) (own .count) × Tabled (now file) (now sheet) × (own .tags < 7) ⌝ }

@@ -12,7 +12,7 @@ ghost use lib.Dec.{leb, ltb};
 ghost use Rattle.rules.specs.Bytes.{classTable};
 ghost use Rattle.rules.specs.Texts.{Text};
 ghost use Rattle.rules.specs.Columns.{comment};
-ghost use Rattle.rules.specs.Numbers.{fileLimit, wordLimit, edgeLimit, value};
+ghost use Rattle.rules.specs.Numbers.{fileLimit, wordLimit, edgeLimit, phraseNumber, value};
 ghost use Rattle.rules.specs.Lists.{pick};
 ghost use Rattle.rules.specs.Sentences.{SoFar};
 ghost use Rattle.rules.specs.Lines.{takenAs, wordLine, phraseLine};
@@ -23,9 +23,10 @@ ghost use Rattle.table_sheet.specs.SheetRows.{tablesIn};
 ghost use Rattle.citations.specs.Tabled.{Tabled};
 ghost use Rattle.steps.specs.Faults.{noFault};
 ghost use Rattle.steps.specs.Steps.{nodeSaid, stepOf};
-ghost use Rattle.nodes.specs.NodeLines.{columnLimit, fieldsOf, marked, Whole};
+ghost use Rattle.nodes.specs.NodeLines.{columnLimit, fieldsOf, phraseCount, marked, Whole};
 use columns::listing;
 use columns::listing::Line;
+use columns::listing::Places;
 use columns::listing::Span;
 use groups::Own;
 use numbers::Number;
@@ -53,15 +54,19 @@ fn count_pairs(count: usize) -> u32
     ((count - 5) / 2) as u32
 }
 
-// At most 500 words and 512 secondary edges in a sentence.
+// How many words a sentence may have, and how many secondary edges.
+const WORD_LIMIT: u32 = 500;
+
+const EDGE_LIMIT: u32 = 512;
+
 fn has_room(words: u32, edges: u32, count: usize) -> bool
     requires { ⌜ (edges ≤ edgeLimit) × (5 ≤ count) × (count ≤ columnLimit) ⌝ }
     ensures { λ r. ⌜ r ≡ (ltb words wordLimit && leb (edges + (count - 5) / 2) edgeLimit) ⌝ }
 {
-    if 500 <= words {
+    if WORD_LIMIT <= words {
         return false;
     }
-    edges + count_pairs(count) <= 512
+    edges + count_pairs(count) <= EDGE_LIMIT
 }
 
 fn fault_of(line: Line, number: u32) -> Fault
@@ -94,7 +99,7 @@ fn phrase_limits(
     edges: u32,
     count: usize,
 ) -> Fault
-    requires { ⌜ (line .start ≤ fileLimit) × (edges ≤ edgeLimit) × (5 ≤ count) × (count ≤ columnLimit) × (500 ≤ number) × (number ≤ 999) × (length (now marks) ≡ 500) ⌝ }
+    requires { ⌜ (line .start ≤ fileLimit) × (edges ≤ edgeLimit) × (5 ≤ count) × (count ≤ columnLimit) × (phraseNumber .lowest ≤ number) × (number ≤ phraseNumber .highest) × (length (now marks) ≡ phraseCount) ⌝ }
     ensures { λ r. ⌜ r ≡ pick (leb (edges + (count - 5) / 2) edgeLimit) (pick (not (marked (now (marks .entry)) stamp number)) noFault (record { number = 17; place = line .start })) (record { number = 16; place = line .start }) ⌝ }
 {
     if !has_room(0, edges, count) {
@@ -112,7 +117,7 @@ fn phrase_limits(
 // What a line says of its node, with the node's parent and the highest of its parents.
 fn node_said(
     line: Line,
-    places: &[u32; 4096],
+    places: &Places,
     count: usize,
     number: u32,
     word: Span,
@@ -144,12 +149,12 @@ fn node_said(
 pub fn word_line(
     file: &[u8],
     line: Line,
-    places: &[u32; 4096],
+    places: &Places,
     words: u32,
     no_phrase: bool,
     edges: u32,
     sheet: &[u32],
-    hints: &[u8; 3584],
+    hints: &[u8; table_sheet::HINTS],
     classes: &[u8; 256],
 ) -> Step
     requires { ⌜ (now classes ≡ classTable) × Listed (now file) line (now places) × Tabled (now file) (now sheet) × (edges ≤ edgeLimit) ⌝ }
@@ -184,15 +189,15 @@ pub fn word_line(
 pub fn phrase_line(
     file: &[u8],
     line: Line,
-    places: &[u32; 4096],
+    places: &Places,
     marks: &[u32],
     stamp: u32,
     edges: u32,
     sheet: &[u32],
-    hints: &[u8; 3584],
+    hints: &[u8; table_sheet::HINTS],
     classes: &[u8; 256],
 ) -> Step
-    requires { ⌜ (now classes ≡ classTable) × Listed (now file) line (now places) × Tabled (now file) (now sheet) × (edges ≤ edgeLimit) × (length (now marks) ≡ 500) ⌝ }
+    requires { ⌜ (now classes ≡ classTable) × Listed (now file) line (now places) × Tabled (now file) (now sheet) × (edges ≤ edgeLimit) × (length (now marks) ≡ phraseCount) ⌝ }
     ensures { λ r. ⌜ ((format : ℕ) (s : SoFar) → s .edges ≡ edges → ((n : ℕ) → s .given-before n ≡ marked (now (marks .entry)) stamp n) → r ≡ stepOf (takenAs phraseLine (phraseOf format (tablesIn (now (file .entry)) (now (sheet .entry))) s (lineOf (now (file .entry)) line)))) ⌝ }
 {
     let start = line.start;

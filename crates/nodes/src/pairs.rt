@@ -9,6 +9,7 @@ ghost use Rattle.steps.specs.Faults.{faultIn};
 ghost use Rattle.nodes.specs.NodeLines.{fieldsOf, pairsFrom, Whole, parentWritten, labelShort, labelKnown, parentRises, highestOf, unlessFaulty};
 use crate::fields;
 use columns::listing::Line;
+use columns::listing::Places;
 use numbers::Number;
 use numbers::PhraseNumber;
 use steps::Fault;
@@ -24,7 +25,7 @@ pub enum Judged {
 pub fn parents_written(
     file: &[u8],
     line: Line,
-    places: &[u32; 4096],
+    places: &Places,
     count: usize,
     parent: u32,
     classes: &[u8; 256],
@@ -46,7 +47,7 @@ pub fn parents_written(
 }
 
 // 10
-pub fn labels_short(file: &[u8], line: Line, places: &[u32; 4096], count: usize) -> Fault
+pub fn labels_short(file: &[u8], line: Line, places: &Places, count: usize) -> Fault
     requires { ⌜ Whole (now file) line (now places) count ⌝ }
     ensures { λ r. ⌜ r ≡ faultIn (map labelShort (pairsFrom (fieldsOf (now (file .entry)) line) 5)) ⌝ }
 {
@@ -67,10 +68,10 @@ pub fn labels_short(file: &[u8], line: Line, places: &[u32; 4096], count: usize)
 pub fn labels_known(
     file: &[u8],
     line: Line,
-    places: &[u32; 4096],
+    places: &Places,
     count: usize,
     sheet: &[u32],
-    hints: &[u8; 3584],
+    hints: &[u8; table_sheet::HINTS],
 ) -> Fault
     requires { ⌜ Whole (now file) line (now places) count × Tabled (now file) (now sheet) ⌝ }
     ensures { λ r. ⌜ r ≡ faultIn (map (labelKnown (tablesIn (now (file .entry)) (now (sheet .entry)))) (pairsFrom (fieldsOf (now (file .entry)) line) 5)) ⌝ }
@@ -100,7 +101,7 @@ pub fn labels_known(
 pub fn parents_rise(
     file: &[u8],
     line: Line,
-    places: &[u32; 4096],
+    places: &Places,
     count: usize,
     number: u32,
     classes: &[u8; 256],

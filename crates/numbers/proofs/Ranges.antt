@@ -10,7 +10,7 @@ use borrow.Author.Tests.{eq-eqb, ne-eqb, eqb-true, lt-ltb, le-ltb, ltb-true, ltb
 use Rattle.rules.specs.Lists.{pick}
 use Rattle.rules.specs.Numbers.{phraseNumber, decimal, within, number, zeroOr}
 use Rattle.numbers.specs.Answers.{asNumber, kind}
-use Rattle.numbers.specs.Ranges.{rangeOf, nodeNumber}
+use Rattle.numbers.specs.Ranges.{rangeOf, phraseOrRoot}
 use Rattle.numbers.specs.declared.Number.{Number}
 use Rattle.numbers.specs.declared.Number.the-variants.{Good, Bad}
 use Rattle.numbers.specs.declared.NodeRange.{NodeRange}
@@ -66,20 +66,20 @@ by-range or-root n = zero-or (eqb n 0) refl or-root
     zero-or false e true = word-or (ltb n (phraseNumber .lowest)) refl true
     zero-or false e false = word-or (ltb n (phraseNumber .lowest)) refl false
 
-chosen : (or-root : Bool) (xs : List ℕ) → nodeNumber or-root xs ≡ ranged or-root (decimal xs)
+chosen : (or-root : Bool) (xs : List ℕ) → phraseOrRoot or-root xs ≡ ranged or-root (decimal xs)
 chosen true xs = refl
 chosen false xs = refl
 
 module _ (most : ℕ) (reach : phraseNumber .highest ≤ most) (or-root : Bool) (xs : List ℕ) where
   pub node-good : (n : ℕ) (r : NodeRange) → asNumber (number (kind 0 most) xs) ≡ Good n → rangeOf n ≡ r
-      → asNumber (nodeNumber or-root xs) ≡ answerIn or-root r n
+      → asNumber (phraseOrRoot or-root xs) ≡ answerIn or-root r n
   node-good n r g e =
       ap asNumber (chosen or-root xs)
       ∙ read-good most (ranged or-root) xs n g
       ∙ by-range or-root n
       ∙ ap (λ (s : NodeRange). answerIn or-root s n) e
 
-  pub node-bad : asNumber (number (kind 0 most) xs) ≡ Bad → asNumber (nodeNumber or-root xs) ≡ Bad
+  pub node-bad : asNumber (number (kind 0 most) xs) ≡ Bad → asNumber (phraseOrRoot or-root xs) ≡ Bad
   node-bad b = ap asNumber (chosen or-root xs) ∙ read-bad most (ranged or-root) xs (absent or-root) (λ m h. above or-root m (omega arith)) b
     where
       absent : (t : Bool) → ranged t none ≡ none

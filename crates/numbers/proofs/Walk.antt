@@ -20,41 +20,41 @@ use Rattle.numbers.specs.declared.Number.{Number}
 use Rattle.numbers.specs.declared.Number.the-variants.{Good, Bad}
 
 -- the answer where the digits so far have the value v and these bytes are left
-unfoldable pub judged : Kind → ℕ → List ℕ → Number
-judged k v s = asNumber (within k (pick (every digit s) (some (valueFrom v s)) none))
+unfoldable pub numberFrom : Kind → ℕ → List ℕ → Number
+numberFrom k v s = asNumber (within k (pick (every digit s) (some (valueFrom v s)) none))
 
 module _ (k : Kind) (s : List ℕ) where
-  pub judged-not-plain : plain s ≡ false → asNumber (number k s) ≡ Bad
+  pub number-not-plain : plain s ≡ false → asNumber (number k s) ≡ Bad
   unfolding decimal
-  judged-not-plain e = rw e
+  number-not-plain e = rw e
 
-  pub judged-starts : plain s ≡ true → judged k 0 s ≡ asNumber (number k s)
-  unfolding judged decimal
-  judged-starts e = rw e
+  pub number-starts : plain s ≡ true → numberFrom k 0 s ≡ asNumber (number k s)
+  unfolding numberFrom decimal
+  number-starts e = rw e
 
 above : (k : Kind) (n : ℕ) (t : Bool) → k .highest < n → asNumber (within k (pick t (some n) none)) ≡ Bad
 above k n true h = rw (lt-leb n (k .highest) h, and-false (leb (k .lowest) n))
 above k n false h = refl
 
-pub judged-over : (k : Kind) (v : ℕ) (s : List ℕ) → k .highest < v → judged k v s ≡ Bad
-unfolding judged
-judged-over k v s h =
+pub number-over : (k : Kind) (v : ℕ) (s : List ℕ) → k .highest < v → numberFrom k v s ≡ Bad
+unfolding numberFrom
+number-over k v s h =
     let g : v ≤ valueFrom v s = value-grows v s in
     above k (valueFrom v s) (every digit s) (omega arith)
 
 module _ (k : Kind) (v : ℕ) (s : List ℕ) (i : ℕ) where
-  pub judged-stops : i < length s → digit (getD s i 0) ≡ false → judged k v (drop i s) ≡ Bad
-  unfolding judged
-  judged-stops h e = rw (drop-cons s i 0, e)
+  pub number-stops : i < length s → digit (getD s i 0) ≡ false → numberFrom k v (drop i s) ≡ Bad
+  unfolding numberFrom
+  number-stops h e = rw (drop-cons s i 0, e)
 
-  pub judged-goes-on : i < length s → digit (getD s i 0) ≡ true → judged k v (drop i s) ≡ judged k (v * 10 + (getD s i 0 - 48)) (drop (i + 1) s)
-  unfolding judged valueFrom
-  judged-goes-on h e = rw (drop-cons s i 0, e, add-one)
+  pub number-goes-on : i < length s → digit (getD s i 0) ≡ true → numberFrom k v (drop i s) ≡ numberFrom k (v * 10 + (getD s i 0 - 48)) (drop (i + 1) s)
+  unfolding numberFrom valueFrom
+  number-goes-on h e = rw (drop-cons s i 0, e, add-one)
 
-  pub judged-low : length s ≤ i → v < k .lowest → judged k v (drop i s) ≡ Bad
-  unfolding judged valueFrom
-  judged-low h l = rw (drop-of-length-le s h, lt-leb (k .lowest) v l)
+  pub number-low : length s ≤ i → v < k .lowest → numberFrom k v (drop i s) ≡ Bad
+  unfolding numberFrom valueFrom
+  number-low h l = rw (drop-of-length-le s h, lt-leb (k .lowest) v l)
 
-  pub judged-good : length s ≤ i → k .lowest ≤ v → v ≤ k .highest → judged k v (drop i s) ≡ Good v
-  unfolding judged valueFrom
-  judged-good h l m = rw (drop-of-length-le s h, le-leb (k .lowest) v l, le-leb v (k .highest) m)
+  pub number-good : length s ≤ i → k .lowest ≤ v → v ≤ k .highest → numberFrom k v (drop i s) ≡ Good v
+  unfolding numberFrom valueFrom
+  number-good h l m = rw (drop-of-length-le s h, le-leb (k .lowest) v l, le-leb v (k .highest) m)

@@ -14,5 +14,5 @@ abbrev pub rangeOf : ℕ → NodeRange
 rangeOf n = pick (eqb n 0) Root (pick (ltb n (phraseNumber .lowest)) Word (pick (leb n (phraseNumber .highest)) Phrase Above))
 
 -- a phrase's number, or 0 where the root may stand
-abbrev pub nodeNumber : Bool → List ℕ → Option ℕ
-nodeNumber or-root xs = pick or-root (parentNumber xs) (number phraseNumber xs)
+abbrev pub phraseOrRoot : Bool → List ℕ → Option ℕ
+phraseOrRoot or-root xs = pick or-root (parentNumber xs) (number phraseNumber xs)

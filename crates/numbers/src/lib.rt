@@ -7,7 +7,7 @@ ghost use Rattle.rules.specs.Numbers.{plain, number, sentenceNumber, originId, 
 ghost use Rattle.rules.specs.Keywords.{digits};
 ghost use Rattle.rules.specs.Highest.{larger};
 ghost use Rattle.numbers.specs.Answers.{asNumber, kind};
-ghost use Rattle.numbers.specs.Ranges.{rangeOf, nodeNumber};
+ghost use Rattle.numbers.specs.Ranges.{rangeOf, phraseOrRoot};
 
 const DIGIT_CLASS: u8 = 2;
 
@@ -161,7 +161,7 @@ const HIGHEST_READ: u32 = 4294967295;
 // A phrase's number, or 0 where the root may stand: the digits are read first, and their range decides.
 fn read_node(s: &[u8], classes: &[u8; 256], or_root: bool) -> Number
     requires { ⌜ now classes ≡ classTable ⌝ }
-    ensures { λ r. ⌜ r ≡ asNumber (nodeNumber «or_root» (now (s .entry))) ⌝ }
+    ensures { λ r. ⌜ r ≡ asNumber (phraseOrRoot «or_root» (now (s .entry))) ⌝ }
 {
     let read = read_within(s, classes, 0, HIGHEST_READ);
     let Number::Good(n) = read else {

@@ -1,27 +1,26 @@
 -- Between two lines a reading stands where the rules' reading stands, and the rest of the file is still to be read: the
 -- invariant of the loop over the lines, and what is told where the loop stops.
-use Prim.Native.Nat.{ℕ, zero, suc, _+_, _≤_, _<_}
+use Prim.Native.Nat.{ℕ, _+_, _≤_, _<_}
 use native.Mathlib.Omega.{arith}
 use mathlib.Core.Path.{_≡_, refl, sym, ap, _∙_, subst}
 use mathlib.Core.Bool.{false, _&&_, _||_}
-use mathlib.Core.Logic.{inl, inr}
 use mathlib.Core.Option.{Option, none, some}
 use mathlib.Core.List.{List, [], _∷_, _++_, append-nil, reverse}
 use lib.Dec.{eqb}
-use lib.ListN.{length, drop, getD, replicate, length-replicate, length-drop, length-reverse, drop-of-length-le}
-use borrow.Author.Tests.{ne-eqb, eqb-false}
+use lib.ListN.{length, drop, replicate, length-replicate, length-drop, length-reverse, drop-of-length-le}
+use borrow.Author.Tests.{ne-eqb}
 use types.Run.{OneOf}
 use denote.Enum.Declared.{tagOf}
-use Rattle.rules.specs.Lists.{pick, member}
+use Rattle.rules.specs.Lists.{pick}
+use Rattle.rules.specs.Numbers.{fileLimit}
 use Rattle.rules.specs.Rules.{Rule, rule}
 use Rattle.rules.specs.Tables.{Row, noTables, there, table}
 use Rattle.rules.specs.Sheets.{tableCount, tableSheetSize, tableSheet, seenSetSize, seenSet, count}
-use Rattle.rules.specs.Phases.{Phase, start, top, inTable, inSentence, behindSentence, refuse, atEnd, tablesAt}
+use Rattle.rules.specs.Phases.{Phase, start, top, inTable, inSentence, behindSentence, refuse, atEnd, tablesAt, sentenceAt}
 use Rattle.rules.specs.Reading.{Reading, begin, numbers, ended, read, verdict}
 use Rattle.rules.specs.Index.{beginnings}
-use Rattle.rules.proofs.Conjunctions.{or-left, or-right}
 use Rattle.rules.proofs.ReadLines.{read-part, read-fault}
-use Rattle.lines.specs.LineEnds.{lineOf, lineEnd, refusalOf}
+use Rattle.lines.specs.LineEnds.{firstLine, lineEnd, lineRefusal}
 use Rattle.lines.specs.declared.LineEnd.{LineEnd}
 use Rattle.lines.specs.declared.LineEnd.the-variants.{At, Unended, Illegal, TooLong}
 use Rattle.lines.proofs.LineEnd.{the-type}
@@ -29,26 +28,21 @@ use Rattle.lines.proofs.Lines.{unended-none}
 use Rattle.seen.proofs.SeenSets.{length-seen-set}
 use Rattle.table_sheet.proofs.OpenSheets.{sheet-given-up, count-of-table}
 use Rattle.steps.specs.declared.Fault.{Fault}
-use Rattle.reading.specs.States.{phaseOf, stateOf, tableIn}
+use Rattle.judging.specs.States.{phaseOf, stateOf, tableIn, tallyIn}
 use Rattle.reading.specs.Effects.{Kept, kept}
 use Rattle.reading.specs.Closing.{reachedAt, stateAfter, faultSaid, reachedBy, closingNumber, givenUp, Walked}
-use Rattle.reading.specs.declared.state.State.{State}
+use Rattle.judging.specs.declared.state.State.{State}
 use Rattle.reading.specs.declared.Reached.{Reached}
-use Rattle.reading.proofs.Keeping.{sheetOf, Known, Tied}
+use Rattle.judging.proofs.Knowing.{sheetOf, Known}
+use Rattle.reading.proofs.Keeping.{Tied}
 use Rattle.reading.proofs.Begins.{length-begins}
-use Rattle.reading.proofs.SameTaking.{sheet-length}
-use Rattle.reading.proofs.LineSteps.{lineRead, lineHere, illegal-step, long-step}
+use Rattle.judging.proofs.Counts.{none-marked}
+use Rattle.judging.proofs.SameTaking.{sheet-length}
+use Rattle.lines.proofs.Variants.{not-among}
+use Rattle.lines.proofs.LineSteps.{lineRead, lineHere, illegal-step, long-step}
 
--- ---- a variant that is none of some
-
-pub not-among : (c : ℕ) (ks : List ℕ) → member c ks ≡ false → OneOf ks c → ⊥
-not-among c [] h o = o
-not-among c (k ∷ []) h e = eqb-false c k (or-left (eqb c k) false h) e
-not-among c (k ∷ j ∷ ks) h (inl e) = eqb-false c k (or-left (eqb c k) (member c (j ∷ ks)) h) e
-not-among c (k ∷ j ∷ ks) h (inr o) = not-among c (j ∷ ks) (or-right (eqb c k) (member c (j ∷ ks)) h) o
-
--- size is the length of the list of beginnings
-pub record Going (file : List ℕ) (size : ℕ) (at : ℕ) (k : Kept) : Type 0 where
+-- the list of beginnings has this size, and tells of the numbers from one on
+pub record Going (file : List ℕ) (from size : ℕ) (at : ℕ) (k : Kept) : Type 0 where
   pub reading : Reading
   pub in-file : at ≤ length file
   pub place : reading .at ≡ at
@@ -56,19 +50,14 @@ pub record Going (file : List ℕ) (size : ℕ) (at : ℕ) (k : Kept) : Type 0 w
   pub unbegun : reading .part ≡ []
   pub sound : reading .fault ≡ none
   pub rest : read reading (drop at file) ≡ read begin file
-  pub tied : Tied file size (reading .handed) at (reading .phase) k
+  pub tied : Tied file from size (reading .handed) at (reading .phase) k
 
 -- ---- the beginning
 
-none-marked : (n k : ℕ) → getD (replicate n 0) k 0 ≤ 0
-none-marked zero k = omega arith
-none-marked (suc n) zero = omega arith
-none-marked (suc n) (suc k) = none-marked n k
-
-pub going-start : (file : List ℕ) (size : ℕ) (s : State) (sheet seen marks begins : List ℕ)
-    → s ≡ stateOf 0 0 start → sheet ≡ tableSheet noTables → seen ≡ seenSet [] → marks ≡ replicate 500 0 → begins ≡ beginnings size []
-    → Going file size 0 (kept s sheet seen marks begins)
-going-start file size s sheet seen marks begins a b c d e =
+pub going-start : (file : List ℕ) (from size : ℕ) (s : State) (sheet seen marks begins : List ℕ)
+    → s ≡ stateOf 0 0 start → sheet ≡ tableSheet noTables → seen ≡ seenSet [] → marks ≡ replicate 500 0 → begins ≡ beginnings from size []
+    → Going file from size 0 (kept s sheet seen marks begins)
+going-start file from size s sheet seen marks begins a b c d e =
     rw (a, b, c, d, e)
     (record {
       reading = begin;
@@ -112,17 +101,24 @@ module _ (file ns : List ℕ) where
   seat (inSentence p s) k = omega arith
   seat (behindSentence p) k = omega arith
 
+begun-at : (ph : Phase) → tallyIn (phaseOf ph) .start ≤ sentenceAt ph .start
+begun-at start = omega arith
+begun-at (top p) = omega arith
+begun-at (inTable p n rs) = omega arith
+begun-at (inSentence p s) = omega arith
+begun-at (behindSentence p) = omega arith
+
 -- ---- where the loop stops
 
 abbrev withFault : State → Fault → Reached
 withFault s f = record { state = s; fault = f }
 
-module _ (file : List ℕ) (size at : ℕ) (k : Kept) (g : Going file size at k) where
+module _ (file : List ℕ) (from size at : ℕ) (k : Kept) (g : Going file from size at k) where
   abbrev r : Reading
   r = g .reading
 
   abbrev Stops : Reached → Type 0
-  Stops w = Walked file size w (k .sheet) (k .seen) (k .begins)
+  Stops w = Walked file from size w (k .sheet) (k .seen) (k .begins)
 
   pub sheet-size : length (k .sheet) ≡ tableSheetSize
   sheet-size = ap (λ (x : Kept). length (x .sheet)) (g .tied .is) ∙ sheet-length file (numbers (r .handed)) (r .phase) (g .tied .known)
@@ -131,14 +127,19 @@ module _ (file : List ℕ) (size at : ℕ) (k : Kept) (g : Going file size at k)
   seen-size = ap (λ (x : Kept). length (x .seen)) (g .tied .is) ∙ length-seen-set (numbers (r .handed))
 
   pub begins-size : length (k .begins) ≡ size
-  begins-size = ap (λ (x : Kept). length (x .begins)) (g .tied .is) ∙ length-begins size (r .handed)
+  begins-size = ap (λ (x : Kept). length (x .begins)) (g .tied .is) ∙ length-begins from size (r .handed)
+
+  pub begun-limit : length file ≤ fileLimit → tallyIn (k .state .phase) .start ≤ fileLimit
+  begun-limit short =
+      let e : tallyIn (k .state .phase) .start ≡ tallyIn (phaseOf (r .phase)) .start = ap (λ (x : Kept). tallyIn (x .state .phase) .start) (g .tied .is) in
+      omega (arith, e, begun-at (r .phase), g .tied .begun, g .in-file, short)
 
   -- the reading has stopped as x, with the phase and the sentences that it had here
   stopped : (x : Reading) (n place : ℕ) → read begin file ≡ x → x .phase ≡ r .phase → x .handed ≡ r .handed
       → record { number = n; place = place } ≡ faultSaid (verdict x) → Stops (reachedAt (k .state) n place)
   stopped x n place e p h q =
       let known = g .tied .known in
-      subst (λ (y : Kept). Walked file size (reachedAt (y .state) n place) (y .sheet) (y .seen) (y .begins)) (sym (g .tied .is))
+      subst (λ (y : Kept). Walked file from size (reachedAt (y .state) n place) (y .sheet) (y .seen) (y .begins)) (sym (g .tied .is))
       (record {
         reached-is = ap (withFault (stateAfter r)) q ∙ ap (λ (s : State). withFault s (faultSaid (verdict x))) (sym state-is) ∙ ap reachedBy (sym e);
         place = seat file (numbers (r .handed)) (r .phase) known;
@@ -165,7 +166,7 @@ module _ (file : List ℕ) (size at : ℕ) (k : Kept) (g : Going file size at k)
   abbrev unread : List ℕ
   unread = 1 ∷ 2 ∷ 3 ∷ []
 
-  pub stop-unread : at < length file → (found : LineEnd) → lineEnd file at ≡ found → OneOf unread (tagOf the-type found) → Stops (reachedAt (k .state) (refusalOf found) at)
+  pub stop-unread : at < length file → (found : LineEnd) → lineEnd file at ≡ found → OneOf unread (tagOf the-type found) → Stops (reachedAt (k .state) (lineRefusal found) at)
   stop-unread h (At e) q n = absurd (not-among 0 unread refl n)
   stop-unread h Unended q n =
       let l = drop at file in
@@ -173,10 +174,10 @@ module _ (file : List ℕ) (size at : ℕ) (k : Kept) (g : Going file size at k)
       stopped _ 3 at (sym (g .rest) ∙ read-part r l (g .sound) (unended-none file at q)) refl refl
       (part-left _ (reverse l ++ r .part) some refl refl (g .line-start))
   stop-unread h Illegal q n =
-      stop-by (lineOf (drop at file)) (drop (at + length (lineOf (drop at file)) + 1) file) (rule 4 (lineHere file at r (g .sound) (g .unbegun)) false)
+      stop-by (firstLine (drop at file)) (drop (at + length (firstLine (drop at file)) + 1) file) (rule 4 (lineHere file at r (g .sound) (g .unbegun)) false)
       (sym (g .rest) ∙ illegal-step file at r (g .sound) (g .unbegun) q)
   stop-unread h TooLong q n =
-      stop-by (lineOf (drop at file)) (drop (at + length (lineOf (drop at file)) + 1) file) (rule 5 (lineHere file at r (g .sound) (g .unbegun)) false)
+      stop-by (firstLine (drop at file)) (drop (at + length (firstLine (drop at file)) + 1) file) (rule 5 (lineHere file at r (g .sound) (g .unbegun)) false)
       (sym (g .rest) ∙ long-step file at r (g .sound) (g .unbegun) q)
 
   pub stop-end : length file ≤ at → Stops (reachedAt (k .state) (closingNumber (k .state .phase) (k .sheet)) at)

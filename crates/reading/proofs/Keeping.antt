@@ -1,90 +1,25 @@
 -- What holds of a reading between two lines: what it keeps is what the rules' reading has, and what is known of that.
-use Prim.Native.Nat.{ℕ, suc, _≤_, _<_}
+use Prim.Native.Nat.{ℕ, _≤_}
 use mathlib.Core.Path.{_≡_}
-use mathlib.Core.Bool.{true, false}
-use mathlib.Core.Option.{none}
-use mathlib.Core.List.{List, _++_}
-use lib.ListN.{length, getD}
-use Rattle.rules.specs.Lists.{every, member}
-use Rattle.rules.specs.Numbers.{wordLimit, edgeLimit, sentenceNumber}
-use Rattle.rules.specs.Tables.{Tables, Row, table}
-use Rattle.rules.specs.Sentences.{Sentence, listed, edgesOf}
-use Rattle.rules.specs.Sheets.{tableCount, tableSheet, seenSet}
-use Rattle.rules.specs.Phases.{Phase, start, top, inTable, inSentence, behindSentence, sentenceAt, tablesAt}
+use mathlib.Core.List.{List}
+use lib.ListN.{length}
+use Rattle.rules.specs.Sheets.{seenSet}
+use Rattle.rules.specs.Phases.{Phase, sentenceAt}
 use Rattle.rules.specs.Reading.{Handed, numbers}
 use Rattle.rules.specs.Survey.{lastEnd}
 use Rattle.rules.specs.Index.{beginnings}
-use Rattle.rules.proofs.NoGap.{Numbered}
-use Rattle.rules.proofs.NoAbsent.{climbing}
-use Rattle.table_sheet.specs.OpenSheets.{openSheet}
-use Rattle.table_sheet.specs.Standing.{RowsHaveRoom, TablesHaveRoom, RowsStand, TablesStand}
-use Rattle.reading.specs.States.{stateOf}
+use Rattle.judging.specs.States.{stateOf}
+use Rattle.judging.proofs.Knowing.{sheetOf, Known, Marks}
 use Rattle.reading.specs.Effects.{Kept, kept}
-use Rattle.nodes.specs.NodeLines.{marked}
 
--- rows of a table that is being read stand in the sheet already, its count is still 0
-abbrev pub sheetOf : Phase → List ℕ
-sheetOf start = tableSheet (tablesAt start)
-sheetOf (top p) = tableSheet (p .tables)
-sheetOf (inTable p n rs) = openSheet (p .tables) n rs
-sheetOf (inSentence p s) = tableSheet (p .tables)
-sheetOf (behindSentence p) = tableSheet (p .tables)
-
--- with these marks, and a list of this size for where the sentences begin
-abbrev pub keptOf : List ℕ → ℕ → List Handed → Phase → Kept
-keptOf marks size hs ph =
-    kept (stateOf (length hs) (lastEnd hs) ph) (sheetOf ph) (seenSet (numbers hs)) marks (beginnings size hs)
-
--- ---- what is known
-
-pub record TablesKept (file : List ℕ) (ts : Tables) : Type 0 where
-  pub fit : TablesHaveRoom ts
-  pub stand : TablesStand file ts
-
-pub record RowsKept (file : List ℕ) (ts : Tables) (n : ℕ) (rs : List Row) : Type 0 where
-  pub tables : TablesKept file ts
-  pub place : n < tableCount
-  pub absent : table n ts ≡ none
-  pub few : RowsHaveRoom rs
-  pub stand : RowsStand file rs
-
--- ns are the numbers of the sentences handed out
-pub record SentenceKept (file ns : List ℕ) (ts : Tables) (s : Sentence) : Type 0 where
-  pub tables : TablesKept file ts
-  pub number : s .heading .number ≤ sentenceNumber .highest
-  pub unused : member (s .heading .number) ns ≡ false
-  pub words : length (s .words) ≤ wordLimit
-  pub edges : edgesOf s ≤ edgeLimit
-  pub numbered : Numbered (s .phrases)
-  pub climb : every climbing (s .words ++ s .phrases) ≡ true
-
-abbrev pub Known : List ℕ → List ℕ → Phase → Type 0
-Known file ns start = Unit {0}
-Known file ns (top p) = TablesKept file (p .tables)
-Known file ns (inTable p n rs) = RowsKept file (p .tables) n rs
-Known file ns (inSentence p s) = SentenceKept file ns (p .tables) s
-Known file ns (behindSentence p) = TablesKept file (p .tables)
-
--- no mark is larger than this
-abbrev pub Stamped : List ℕ → ℕ → Type 0
-Stamped marks stamp = (k : ℕ) → getD marks k 0 ≤ stamp
-
--- in a sentence the marks with its stamp tell its phrases
-pub record Telling (marks : List ℕ) (count : ℕ) (s : Sentence) : Type 0 where
-  pub stamped : Stamped marks (suc count)
-  pub tell : (n : ℕ) → marked marks (suc count) n ≡ listed (s .phrases) n
-
--- count is the number of sentences handed out
-abbrev pub Marks : List ℕ → ℕ → Phase → Type 0
-Marks marks count start = Stamped marks count
-Marks marks count (top p) = Stamped marks count
-Marks marks count (inTable p n rs) = Stamped marks count
-Marks marks count (inSentence p s) = Telling marks count s
-Marks marks count (behindSentence p) = Stamped marks count
+-- with these marks, and a list of this size for where the sentences begin, by their numbers from one on
+abbrev pub keptOf : List ℕ → ℕ → ℕ → List Handed → Phase → Kept
+keptOf marks from size hs ph =
+    kept (stateOf (length hs) (lastEnd hs) ph) (sheetOf ph) (seenSet (numbers hs)) marks (beginnings from size hs)
 
 -- at is the place that the reading has come to
-pub record Tied (file : List ℕ) (size : ℕ) (hs : List Handed) (at : ℕ) (ph : Phase) (k : Kept) : Type 0 where
-  pub is : k ≡ keptOf (k .marks) size hs ph
+pub record Tied (file : List ℕ) (from size : ℕ) (hs : List Handed) (at : ℕ) (ph : Phase) (k : Kept) : Type 0 where
+  pub is : k ≡ keptOf (k .marks) from size hs ph
   pub known : Known file (numbers hs) ph
   pub room : length (k .marks) ≡ 500
   pub marks-are : Marks (k .marks) (length hs) ph

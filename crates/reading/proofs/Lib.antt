@@ -1,11 +1,6 @@
 pub mod Keeping
-pub mod Granted
 pub mod Begins
-pub mod Counts
 pub mod Moving
-pub mod FirstColumns
-pub mod SameTaking
-pub mod LineSteps
 pub mod Going
 pub mod Turning
 pub mod RowsSound

@@ -3,11 +3,11 @@
 use Prim.Native.Nat.{ℕ, _+_, _-_, _≤_, _<_}
 use native.Mathlib.Numerals.{add-one}
 use native.Mathlib.Omega.{arith}
-use mathlib.Core.Path.{_≡_, refl, sym, ap, _∙_}
+use mathlib.Core.Path.{_≡_, refl, ap, _∙_}
 use mathlib.Core.Bool.{Bool, true, false}
-use mathlib.Core.List.{List, [], _∷_, _++_, append-assoc}
+use mathlib.Core.List.{List, [], _∷_, _++_}
 use lib.ListN.{length, length-set}
-use Rattle.rules.specs.Lists.{pick, bytes, every, member}
+use Rattle.rules.specs.Lists.{pick, bytes, member}
 use Rattle.rules.specs.Texts.{Text, reads}
 use Rattle.rules.specs.Rules.{Verdict, refused, granted}
 use Rattle.rules.specs.Numbers.{fileLimit, rowLimit}
@@ -20,31 +20,25 @@ use Rattle.rules.specs.Keywords.{formatOf, tableOpened, tableEnded, startsRow, 
 use Rattle.rules.specs.Lines.{Taking, ignoredLine, formatLine, tableBegins, rowLine, tableEnds, sentenceBegins, wordLine, phraseLine, sentenceEnds, takenAs, atStart, behindOne, atTop, amongRows, amongNodes}
 use Rattle.rules.specs.Phases.{Preamble, Phase, start, top, inTable, inSentence, behindSentence, Answer, refuse, go, hand, after, lineAt, tablesAt, sentenceAt}
 use Rattle.rules.specs.Reading.{Handed, numbers}
-use Rattle.rules.specs.Survey.{lastEnd}
-use Rattle.rules.proofs.Conjunctions.{every-append, every-front, every-back}
-use Rattle.rules.proofs.NoGap.{none-numbered, numbered-added}
-use Rattle.rules.proofs.NoAbsent.{climbing}
+use Rattle.rules.proofs.Cut.{last-end}
 use Rattle.seen.proofs.SeenSets.{length-seen-set, seen-set-holds, seen-set-more}
 use Rattle.table_sheet.specs.Standing.{RowStands}
 use Rattle.table_sheet.proofs.OpenSheets.{none-have-room, closed-has-room, length-open-sheet, sheet-opened, sheet-row, sheet-closed}
 use Rattle.table_sheet.proofs.Standing.{none-stand, rows-stand-more, tables-stand-closed}
 use Rattle.steps.specs.Steps.{stepFor}
 use Rattle.reading.specs.Effects.{Kept, effect, Applicable}
-use Rattle.reading.proofs.Keeping.{sheetOf, keptOf, TablesKept, RowsKept, SentenceKept, Known, Stamped, Telling, Marks, Tied}
-use Rattle.reading.proofs.Granted.{word-granted, phrase-granted, heading-granted, table-granted}
+use Rattle.judging.proofs.Knowing.{sheetOf, TablesKept, RowsKept, SentenceKept, Known, Stamped, Telling, Marks}
+use Rattle.reading.proofs.Keeping.{keptOf, Tied}
+use Rattle.judging.proofs.Granted.{word-granted, phrase-granted, heading-granted, table-granted}
 use Rattle.reading.proofs.Begins.{begins-more}
-use Rattle.reading.proofs.Counts.{one-more, edges-with-word, tally-with-word, edges-with-phrase, tally-with-phrase, fresh-marks, telling-more}
+use Rattle.judging.proofs.Counts.{one-more, tally-with-word, tally-with-phrase, fresh-marks, telling-more}
+use Rattle.judging.proofs.KeptOn.{kept-begun, kept-with-word, kept-with-phrase}
 
 -- ---- one sentence more is handed out
 
 numbers-added : (hs : List Handed) (h : Handed) → numbers (hs ++ (h ∷ [])) ≡ numbers hs ++ (h .sentence .heading .number ∷ [])
 numbers-added [] h = refl
 numbers-added (g ∷ hs) h = ap (λ (l : List ℕ). g .sentence .heading .number ∷ l) (numbers-added hs h)
-
-last-end : (hs : List Handed) (h : Handed) → lastEnd (hs ++ (h ∷ [])) ≡ h .end
-last-end [] h = refl
-last-end (g ∷ []) h = refl
-last-end (g ∷ f ∷ hs) h = last-end (f ∷ hs) h
 
 -- ---- what a taking leaves
 
@@ -55,7 +49,7 @@ handing end s = record { end = end; sentence = s }
 abbrev pub RowSound : List ℕ → Text → Type 0
 RowSound file line = (n : ℕ) (rs : List Row) (r : Row) → rowOf n rs line ≡ granted r → RowStands file r × (length rs < rowLimit)
 
-module _ (file : List ℕ) (size : ℕ) (hs : List Handed) (at end : ℕ) (marks : List ℕ) where
+module _ (file : List ℕ) (from size : ℕ) (hs : List Handed) (at end : ℕ) (marks : List ℕ) where
   abbrev ns : List ℕ
   ns = numbers hs
 
@@ -64,12 +58,12 @@ module _ (file : List ℕ) (size : ℕ) (hs : List Handed) (at end : ℕ) (marks
 
   abbrev pub Left : Answer → Kept → Type 0
   Left (refuse r) k = ⊥
-  Left (go ph) k = Tied file size hs end ph k
-  Left (hand p s) k = Tied file size (hs ++ (handing end s ∷ [])) end (behindSentence p) k
+  Left (go ph) k = Tied file from size hs end ph k
+  Left (hand p s) k = Tied file from size (hs ++ (handing end s ∷ [])) end (behindSentence p) k
 
   pub record Moves (ph : Phase) (t : Taking) : Type 0 where
-    pub applies : Applicable (stepFor t) (length file) (keptOf marks size hs ph)
-    pub left : Left (after ph at t) (effect (stepFor t) at end (keptOf marks size hs ph))
+    pub applies : Applicable (stepFor t) (length file) (keptOf marks from size hs ph)
+    pub left : Left (after ph at t) (effect from (stepFor t) at end (keptOf marks from size hs ph))
 
   abbrev pub MovesBy : Phase → Verdict Taking → Type 0
   MovesBy ph (refused r) = Unit {0}
@@ -84,11 +78,11 @@ module _ (file : List ℕ) (size : ℕ) (hs : List Handed) (at end : ℕ) (marks
   as-taken ph f (granted a) h = h a refl
 
   module _ (short : length file ≤ fileLimit) (room : length marks ≡ 500) (more : at < end) (inside : end ≤ length file) (few : count ≤ at) (line : Text) where
-    goes : {ph : Phase} {k : Kept} → k ≡ keptOf (k .marks) size hs ph → Known file ns ph → length (k .marks) ≡ 500 → Marks (k .marks) count ph
-        → sentenceAt ph .start ≤ end → length (sentenceAt ph .phrases) ≤ end → Tied file size hs end ph k
+    goes : {ph : Phase} {k : Kept} → k ≡ keptOf (k .marks) from size hs ph → Known file ns ph → length (k .marks) ≡ 500 → Marks (k .marks) count ph
+        → sentenceAt ph .start ≤ end → length (sentenceAt ph .phrases) ≤ end → Tied file from size hs end ph k
     goes e known room m b p = record { is = e; known = known; room = room; marks-are = m; begun = b; phrases = p; handed = omega arith }
 
-    pub ignored-moves : (ph : Phase) → Tied file size hs at ph (keptOf marks size hs ph) → Moves ph ignoredLine
+    pub ignored-moves : (ph : Phase) → Tied file from size hs at ph (keptOf marks from size hs ph) → Moves ph ignoredLine
     unfolding after effect
     ignored-moves ph t =
         record {
@@ -163,7 +157,7 @@ module _ (file : List ℕ) (size : ℕ) (hs : List Handed) (at end : ℕ) (marks
           applies = tt;
           left =
               goes (rw stays)
-              (record { tables = k; number = g .range; unused = g .new; words = omega arith; edges = omega arith; numbered = none-numbered; climb = refl })
+              (kept-begun file ns (tablesAt ph) at h k (g .range) (g .new))
               room (record { stamped = λ i. omega (arith, m i); tell = fresh-marks marks count m }) (omega arith) (omega arith);
         }
 
@@ -178,18 +172,7 @@ module _ (file : List ℕ) (size : ℕ) (hs : List Handed) (at end : ℕ) (marks
             applies = (omega (arith, k .words), omega (arith, g .few));
             left =
                 goes (rw (tally-with-word s n (g .first)))
-                (record {
-                  tables = k .tables;
-                  number = k .number;
-                  unused = k .unused;
-                  words = omega (arith, one-more (s .words) n, g .room);
-                  edges = omega (arith, edges-with-word s n (g .first), g .few);
-                  numbered = k .numbered;
-                  climb =
-                      every-append climbing (s .words ++ (n ∷ [])) (s .phrases)
-                      (every-append climbing (s .words) (n ∷ []) (every-front climbing (s .words) (s .phrases) (k .climb)) (rw (g .climbs)))
-                      (every-back climbing (s .words) (s .phrases) (k .climb));
-                }) room (record { stamped = m .stamped; tell = m .tell }) (omega arith) (omega arith);
+                (kept-with-word file ns (p .format) (p .tables) s k line n e) room (record { stamped = m .stamped; tell = m .tell }) (omega arith) (omega arith);
           }
 
       phrase-moves : (n : Node) → phraseOf (p .format) (p .tables) (soFar s) line ≡ granted n → Moves (inSentence p s) (phraseLine n)
@@ -200,17 +183,7 @@ module _ (file : List ℕ) (size : ℕ) (hs : List Handed) (at end : ℕ) (marks
             applies = (omega arith, omega (arith, g .few), g .low, g .high, omega arith);
             left =
                 goes (rw (tally-with-phrase s n (g .low)))
-                (record {
-                  tables = k .tables;
-                  number = k .number;
-                  unused = k .unused;
-                  words = k .words;
-                  edges = omega (arith, edges-with-phrase s n (g .low), g .few);
-                  numbered = numbered-added (s .phrases) n (k .numbered) (g .low) (g .new);
-                  climb =
-                      ap (every climbing) (sym (append-assoc (s .words) (s .phrases) (n ∷ [])))
-                      ∙ every-append climbing (s .words ++ s .phrases) (n ∷ []) (k .climb) (rw (g .climbs));
-                }) (length-set marks (n .number - 500) (count + 1) ∙ room)
+                (kept-with-phrase file ns (p .format) (p .tables) s k line n e) (length-set marks (n .number - 500) (count + 1) ∙ room)
                 (rw (add-one count) (telling-more marks count s m n (g .low) (omega (arith, g .high, room)))) (omega arith)
                 (omega (arith, one-more (s .phrases) n));
           }
@@ -235,7 +208,7 @@ module _ (file : List ℕ) (size : ℕ) (hs : List Handed) (at end : ℕ) (marks
                         one-more hs h,
                         last-end hs h,
                         numbers-added hs h,
-                        ← begins-more h size hs (k .unused),
+                        ← begins-more h from size hs (k .unused),
                         ← seen-set-more ns (s .heading .number) (omega (arith, k .number)) (k .unused),
                         add-one (s .start),
                       );
@@ -250,7 +223,7 @@ module _ (file : List ℕ) (size : ℕ) (hs : List Handed) (at end : ℕ) (marks
 
     -- ---- in every phase
 
-    pub line-moves : RowSound file line → (first : Text) (ph : Phase) → Tied file size hs at ph (keptOf marks size hs ph) → MovesBy ph (lineAt ph ns line first)
+    pub line-moves : RowSound file line → (first : Text) (ph : Phase) → Tied file from size hs at ph (keptOf marks from size hs ph) → MovesBy ph (lineAt ph ns line first)
     unfolding lineAt atStart atTop behindOne amongRows amongNodes
     line-moves sound first start t =
         chosen start (reads (bytes "#FORMAT") first) _ _ (as-taken start formatLine (formatOf line) (λ n e. format-moves (t .marks-are) n)) tt

@@ -1,8 +1,10 @@
 -- One turn of the loop over the lines: the line is judged as the rules take it, its step can be taken, and then the reading
 -- goes on or stops.
-use Prim.Native.Nat.{ℕ, suc, _+_, _-_, _≤_, _<_}
+use Prim.Native.Nat.{ℕ, suc, _+_, _≤_, _<_}
 use native.Mathlib.Omega.{arith}
 use mathlib.Core.Path.{_≡_, refl, sym, ap, _∙_, subst}
+use mathlib.Core.Bool.{true}
+use mathlib.Core.Logic.{inl}
 use mathlib.Core.List.{List, [], _∷_, _++_}
 use lib.ListN.{length, drop}
 use types.Run.{OneOf}
@@ -15,7 +17,8 @@ use Rattle.rules.specs.Keywords.{firstColumn}
 use Rattle.rules.specs.Lines.{Taking, ignoredLine, formatLine, tableBegins, rowLine, tableEnds, sentenceBegins, wordLine, phraseLine, sentenceEnds}
 use Rattle.rules.specs.Phases.{Phase, behindSentence, Answer, refuse, go, hand, after, next, taken}
 use Rattle.rules.specs.Reading.{Reading, begin, numbers, ended, read}
-use Rattle.lines.specs.LineEnds.{lineOf, lineEnd}
+use Rattle.rules.specs.Survey.{lastEnd}
+use Rattle.lines.specs.LineEnds.{firstLine, lineEnd}
 use Rattle.lines.specs.declared.LineEnd.the-variants.{At}
 use Rattle.lines.proofs.Lines.{at-behind, at-below, at-place, at-take}
 use Rattle.columns.specs.Listing.{textBetween}
@@ -24,14 +27,17 @@ use Rattle.steps.specs.declared.Fault.{Fault}
 use Rattle.steps.specs.declared.Step.{Step}
 use Rattle.steps.specs.declared.Step.the-variants as steps
 use Rattle.steps.proofs.Step.{the-type}
-use Rattle.reading.specs.Effects.{Kept, effect, Applicable}
-use Rattle.reading.specs.Judging.{judgedBy, Judgeable}
+use Rattle.reading.specs.Effects.{Kept, kept, effect, begunBy, Applicable}
+use Rattle.judging.specs.Judging.{judgedBy, Judgeable}
+use Rattle.judging.specs.declared.state.State.{State}
 use Rattle.reading.specs.Closing.{reachedAt, faultAt, Walked}
 use Rattle.reading.proofs.Keeping.{keptOf, Tied}
 use Rattle.reading.proofs.Moving.{handing, RowSound, Left, MovesBy, chosen, ignored-moves, line-moves}
-use Rattle.reading.proofs.SameTaking.{same-taking, judgeable}
-use Rattle.reading.proofs.LineSteps.{lineRead, lineHere, taken-step}
-use Rattle.reading.proofs.Going.{not-among, Going, stop-by}
+use Rattle.judging.proofs.FirstColumns.{judged-ignored}
+use Rattle.judging.proofs.SameTaking.{same-taking, judgeable}
+use Rattle.lines.proofs.Variants.{not-among}
+use Rattle.lines.proofs.LineSteps.{lineRead, lineHere, taken-step}
+use Rattle.reading.proofs.Going.{Going, stop-by}
 
 -- ---- which step it is
 
@@ -50,9 +56,22 @@ never-refused (wordLine n) f e = let z : _≡_ {A = ℕ} 0 1 = cc in omega arith
 never-refused (phraseLine n) f e = let z : _≡_ {A = ℕ} 0 1 = cc in omega arith
 never-refused sentenceEnds f e = let z : _≡_ {A = ℕ} 0 1 = cc in omega arith
 
+-- whether it can be taken does not depend on the beginnings
+pub applies-alike : (y : Step) (size : ℕ) (k : Kept) (begins : List ℕ) → Applicable y size k → Applicable y size (kept (k .state) (k .sheet) (k .seen) (k .marks) begins)
+applies-alike steps.Ignored size k begins h = h
+applies-alike (steps.Format n) size k begins h = h
+applies-alike (steps.TableBegins n) size k begins h = h
+applies-alike (steps.Row r) size k begins h = h
+applies-alike steps.TableEnds size k begins h = h
+applies-alike (steps.SentenceBegins s) size k begins h = h
+applies-alike (steps.Word n) size k begins h = h
+applies-alike (steps.Phrase n) size k begins h = h
+applies-alike steps.SentenceEnds size k begins h = h
+applies-alike (steps.Refused f) size k begins h = h
+
 -- ---- one turn
 
-module _ (file : List ℕ) (size at : ℕ) (k : Kept) (g : Going file size at k) (short : length file ≤ fileLimit) (e : ℕ) (q : lineEnd file at ≡ At e) where
+module _ (file : List ℕ) (from size at : ℕ) (k : Kept) (g : Going file from size at k) (short : length file ≤ fileLimit) (e : ℕ) (q : lineEnd file at ≡ At e) where
   abbrev r : Reading
   r = g .reading
 
@@ -66,9 +85,9 @@ module _ (file : List ℕ) (size at : ℕ) (k : Kept) (g : Going file size at k)
   line = textBetween file at e
 
   abbrev base : Kept
-  base = keptOf (k .marks) size (r .handed) ph
+  base = keptOf (k .marks) from size (r .handed) ph
 
-  tied-base : Tied file size (r .handed) at ph base
+  tied-base : Tied file from size (r .handed) at ph base
   tied-base =
       let t = g .tied in
       record { is = refl; known = t .known; room = t .room; marks-are = t .marks-are; begun = t .begun; phrases = t .phrases; handed = t .handed }
@@ -76,7 +95,7 @@ module _ (file : List ℕ) (size at : ℕ) (k : Kept) (g : Going file size at k)
   pub ready : Judgeable file (k .state) (k .sheet) (k .seen) (k .state .phase)
   ready =
       subst (λ (x : Kept). Judgeable file (x .state) (x .sheet) (x .seen) (x .state .phase)) (sym (g .tied .is))
-      (judgeable file size (r .handed) at (k .marks) short (g .in-file) ph tied-base)
+      (judgeable file ns (length (r .handed)) (lastEnd (r .handed)) (k .marks) ph (g .tied .known) (omega (arith, g .tied .phrases, g .in-file)) (omega (arith, g .tied .handed, g .in-file)))
 
   -- the line is taken as the rules take it
   abbrev judged : Verdict Taking
@@ -85,10 +104,10 @@ module _ (file : List ℕ) (size at : ℕ) (k : Kept) (g : Going file size at k)
   judged-is : judged ≡ taken ph ns line
   judged-is =
       ap (λ (x : Kept). judgedBy file line (x .state) (x .sheet) (x .seen) (x .marks)) (g .tied .is)
-      ∙ same-taking file size (r .handed) at (k .marks) line ph tied-base
+      ∙ same-taking file ns (length (r .handed)) (lastEnd (r .handed)) (k .marks) line ph (g .tied .known) (g .tied .marks-are)
 
   abbrev bytesHere : List ℕ
-  bytesHere = lineOf (drop at file)
+  bytesHere = firstLine (drop at file)
 
   line-is : lineHere file at r (g .sound) (g .unbegun) ≡ line
   line-is = rw (g .line-start, at-take file at e q)
@@ -103,7 +122,7 @@ module _ (file : List ℕ) (size at : ℕ) (k : Kept) (g : Going file size at k)
   behind = omega (arith, g .place, at-place file at e q)
 
   going-by : (a : Answer) (k′ : Kept) → read begin file ≡ read (ended (lineRead r bytesHere) a) (drop (e + 1) file)
-      → Left file size (r .handed) at (e + 1) (k .marks) a k′ → Going file size (e + 1) k′
+      → Left file from size (r .handed) at (e + 1) (k .marks) a k′ → Going file from size (e + 1) k′
   going-by (refuse b) k′ w left = absurd left
   going-by (go p) k′ w left =
       record {
@@ -125,33 +144,33 @@ module _ (file : List ℕ) (size at : ℕ) (k : Kept) (g : Going file size at k)
         unbegun = refl;
         sound = refl;
         rest = sym w;
-        tied = subst (λ (n : ℕ). Tied file size (r .handed ++ (handing n y ∷ [])) (e + 1) (behindSentence p) k′) (sym behind) left;
+        tied = subst (λ (n : ℕ). Tied file from size (r .handed ++ (handing n y ∷ [])) (e + 1) (behindSentence p) k′) (sym behind) left;
       }
 
   abbrev Turned : Verdict Taking → Type 0
-  Turned (refused b) = Walked file size (reachedAt (k .state) (b .number) at) (k .sheet) (k .seen) (k .begins)
-  Turned (granted t) = Applicable (stepFor t) (length file) k × Going file size (e + 1) (effect (stepFor t) at (e + 1) k)
+  Turned (refused b) = Walked file from size (reachedAt (k .state) (b .number) at) (k .sheet) (k .seen) (k .begins)
+  Turned (granted t) = Applicable (stepFor t) (length file) k × Going file from size (e + 1) (effect from (stepFor t) at (e + 1) k)
 
   module _ (sound : RowSound file line) where
-    moves : MovesBy file size (r .handed) at (e + 1) (k .marks) ph (taken ph ns line)
+    moves : MovesBy file from size (r .handed) at (e + 1) (k .marks) ph (taken ph ns line)
     unfolding taken
     moves =
         let more : at < e + 1 = omega (arith, at-behind file at e q) in
         let inside : e + 1 ≤ length file = omega (arith, at-below file at e q) in
         let few = g .tied .handed in
         let room = g .tied .room in
-        chosen file size (r .handed) at (e + 1) (k .marks) ph (ignored (line .bytes)) _ _
-        (ignored-moves file size (r .handed) at (e + 1) (k .marks) short room more inside few line ph tied-base)
-        (line-moves file size (r .handed) at (e + 1) (k .marks) short room more inside few line sound (firstColumn line) ph tied-base)
+        chosen file from size (r .handed) at (e + 1) (k .marks) ph (ignored (line .bytes)) _ _
+        (ignored-moves file from size (r .handed) at (e + 1) (k .marks) short room more inside few line ph tied-base)
+        (line-moves file from size (r .handed) at (e + 1) (k .marks) short room more inside few line sound (firstColumn line) ph tied-base)
 
-    by-verdict : (v : Verdict Taking) → taken ph ns line ≡ v → MovesBy file size (r .handed) at (e + 1) (k .marks) ph v → Turned v
+    by-verdict : (v : Verdict Taking) → taken ph ns line ≡ v → MovesBy file from size (r .handed) at (e + 1) (k .marks) ph v → Turned v
     by-verdict (refused b) h m =
-        stop-by file size at k g bytesHere (drop (e + 1) file) b
+        stop-by file from size at k g bytesHere (drop (e + 1) file) b
         (answered ∙ ap (λ (v : Verdict Taking). read (ended (lineRead r bytesHere) (next (after ph at) v)) (drop (e + 1) file)) h)
     by-verdict (granted t) h m =
-        subst (λ (x : Kept). Applicable (stepFor t) (length file) x × Going file size (e + 1) (effect (stepFor t) at (e + 1) x)) (sym (g .tied .is)) (
+        subst (λ (x : Kept). Applicable (stepFor t) (length file) x × Going file from size (e + 1) (effect from (stepFor t) at (e + 1) x)) (sym (g .tied .is)) (
           m .applies,
-          going-by (after ph at t) (effect (stepFor t) at (e + 1) base)
+          going-by (after ph at t) (effect from (stepFor t) at (e + 1) base)
               (answered ∙ ap (λ (v : Verdict Taking). read (ended (lineRead r bytesHere) (next (after ph at) v)) (drop (e + 1) file)) h) (m .left),
         )
 
@@ -162,18 +181,30 @@ module _ (file : List ℕ) (size at : ℕ) (k : Kept) (g : Going file size at k)
 
     module _ (y : Step) (is : y ≡ stepOf judged) where
       pub goes-on : OneOf taking (tagOf the-type y)
-          → Applicable y (length file) k × ((k′ : Kept) → k′ ≡ effect y at (e + 1) k → Going file size (e + 1) k′)
+          → Applicable y (length file) k × ((k′ : Kept) → k′ ≡ effect from y at (e + 1) k → Going file from size (e + 1) k′)
       goes-on o = by judged turned is
         where
-          by : (v : Verdict Taking) → Turned v → y ≡ stepOf v → Applicable y (length file) k × ((k′ : Kept) → k′ ≡ effect y at (e + 1) k → Going file size (e + 1) k′)
+          by : (v : Verdict Taking) → Turned v → y ≡ stepOf v → Applicable y (length file) k × ((k′ : Kept) → k′ ≡ effect from y at (e + 1) k → Going file from size (e + 1) k′)
           by (refused b) t s = absurd (not-among 9 taking refl (subst (λ (x : Step). OneOf taking (tagOf the-type x)) s o))
-          by (granted t) u s = rw s (u .0, λ k′ h. subst (Going file size (e + 1)) (sym h) (u .1))
+          by (granted t) u s = rw s (u .0, λ k′ h. subst (Going file from size (e + 1)) (sym h) (u .1))
 
-      pub stops : (f : Fault) → y ≡ steps.Refused f → Walked file size (record { state = k .state; fault = faultAt at f }) (k .sheet) (k .seen) (k .begins)
+      -- the beginnings are noted apart
+      pub goes-on-noted : OneOf taking (tagOf the-type y) → (s′ : State) (sheet′ seen′ marks′ begins′ : List ℕ) → begins′ ≡ begunBy from y (k .state) (k .begins)
+          → kept s′ sheet′ seen′ marks′ (begunBy from y (k .state) (k .begins)) ≡ effect from y at (e + 1) k → Going file from size (e + 1) (kept s′ sheet′ seen′ marks′ begins′)
+      goes-on-noted o s′ sheet′ seen′ marks′ begins′ b p =
+          subst (λ (bs : List ℕ). Going file from size (e + 1) (kept s′ sheet′ seen′ marks′ bs)) (sym b) (goes-on o .1 _ p)
+
+      pub stops : (f : Fault) → y ≡ steps.Refused f → Walked file from size (record { state = k .state; fault = faultAt at f }) (k .sheet) (k .seen) (k .begins)
       stops f h = by judged turned (sym h ∙ is)
         where
-          by : (v : Verdict Taking) → Turned v → steps.Refused f ≡ stepOf v → Walked file size (record { state = k .state; fault = faultAt at f }) (k .sheet) (k .seen) (k .begins)
+          by : (v : Verdict Taking) → Turned v → steps.Refused f ≡ stepOf v → Walked file from size (record { state = k .state; fault = faultAt at f }) (k .sheet) (k .seen) (k .begins)
           by (refused b) t s =
               let n : f .number ≡ b .number = cc in
-              subst (λ (m : ℕ). Walked file size (reachedAt (k .state) m at) (k .sheet) (k .seen) (k .begins)) (sym n) t
+              subst (λ (m : ℕ). Walked file from size (reachedAt (k .state) m at) (k .sheet) (k .seen) (k .begins)) (sym n) t
           by (granted t) u s = absurd (never-refused t f s)
+
+    -- a line that is ignored changes nothing
+    pub passes : ignored (line .bytes) ≡ true → Going file from size (e + 1) k
+    unfolding effect
+    passes h =
+        goes-on steps.Ignored (judged-ignored file line (k .state) (k .sheet) (k .seen) (k .marks) h) (inl refl) .1 k refl

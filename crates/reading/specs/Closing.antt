@@ -14,10 +14,10 @@ use Rattle.rules.specs.Survey.{Told, lastEnd, answered, told}
 use Rattle.rules.specs.Index.{beginnings}
 use Rattle.columns.specs.Splices.{splice}
 use Rattle.steps.specs.declared.Fault.{Fault}
-use Rattle.reading.specs.States.{stateOf, tableIn}
-use Rattle.reading.specs.declared.state.Phase.{Phase}
-use Rattle.reading.specs.declared.state.Phase.the-variants.{Start, Top, InTable, InSentence, Behind}
-use Rattle.reading.specs.declared.state.State.{State}
+use Rattle.judging.specs.States.{stateOf, tableIn}
+use Rattle.judging.specs.declared.state.Phase.{Phase}
+use Rattle.judging.specs.declared.state.Phase.the-variants.{Start, Top, InTable, InSentence, Behind}
+use Rattle.judging.specs.declared.state.State.{State}
 use Rattle.reading.specs.declared.Reached.{Reached}
 use Rattle.reading.specs.declared.Read.{Read}
 
@@ -55,23 +55,25 @@ givenUp (InTable n rows) sheet = splice (rowPlace n 0) (replicate tableRoom 0) s
 givenUp (InSentence t) sheet = sheet
 givenUp Behind sheet = sheet
 
--- all lines of the file are taken, or all in front of the first faulty one; size is the length of the list of beginnings
-pub record Walked (file : List ℕ) (size : ℕ) (r : Reached) (sheet seen begins : List ℕ) : Type 0 where
+-- all lines of the file are taken, or all in front of the first faulty one; the list of beginnings has this size, and tells of the numbers from one
+-- on
+pub record Walked (file : List ℕ) (from size : ℕ) (r : Reached) (sheet seen begins : List ℕ) : Type 0 where
   pub reached-is : r ≡ reachedBy (read begin file)
   pub place : tableIn (r .state .phase) < tableCount
   pub sheet-size : length sheet ≡ tableSheetSize
   pub given-up : givenUp (r .state .phase) sheet ≡ tableSheet (tablesAt (read begin file .phase))
   pub seen-is : seen ≡ seenSet (numbers (read begin file .handed))
-  pub begins-is : begins ≡ beginnings size (read begin file .handed)
+  pub begins-is : begins ≡ beginnings from size (read begin file .handed)
 
 -- ---- the four numbers that are told
 
 abbrev pub readAs : Told → Read
 readAs t = record { refusal = t .refusal; place = t .place; sentences = t .sentences; «sound_end» = t .soundEnd }
 
--- what is told and left of a whole reading, with a list of this size for the beginnings
-pub record FileRead (whole : Reading) (r : Read) (sheet seen : List ℕ) (size : ℕ) (begins : List ℕ) : Type 0 where
+-- what is told and left of a whole reading, with a list of this size for where the sentences begin, by their numbers from
+-- one on
+pub record FileRead (whole : Reading) (r : Read) (sheet seen : List ℕ) (from size : ℕ) (begins : List ℕ) : Type 0 where
   pub answer : r ≡ readAs (told (answered whole))
   pub tables-are : sheet ≡ tableSheet (tablesAt (whole .phase))
   pub seen-is : seen ≡ seenSet (numbers (whole .handed))
-  pub begins-are : begins ≡ beginnings size (whole .handed)
+  pub begins-are : begins ≡ beginnings from size (whole .handed)

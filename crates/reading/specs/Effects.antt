@@ -4,7 +4,9 @@ use Prim.Native.Nat.{ℕ, _+_, _-_, _*_, _≤_, _<_}
 use mathlib.Core.Path.{_≡_}
 use mathlib.Core.Bool.{false}
 use mathlib.Core.List.{List, [], _∷_}
+use lib.Dec.{leb}
 use lib.ListN.{length, set}
+use Rattle.rules.specs.Lists.{pick}
 use Rattle.rules.specs.Numbers.{fileLimit, rowLimit}
 use Rattle.rules.specs.Sheets.{tableCount, rowPlace, tableSheetSize}
 use Rattle.seen.specs.Bits.{bitAt, withBit}
@@ -12,10 +14,10 @@ use Rattle.columns.specs.Splices.{splice}
 use Rattle.steps.specs.declared.RowSaid.{RowSaid}
 use Rattle.steps.specs.declared.Step.{Step}
 use Rattle.steps.specs.declared.Step.the-variants.{Ignored, Format, TableBegins, Row, TableEnds, SentenceBegins, Word, Phrase, SentenceEnds, Refused}
-use Rattle.reading.specs.States.{firstTally, tableIn, rowsIn, tallyIn, withWord, withPhrase, moved}
-use Rattle.reading.specs.declared.state.Tally.{Tally}
-use Rattle.reading.specs.declared.state.Phase.the-variants.{Top, InTable, InSentence, Behind}
-use Rattle.reading.specs.declared.state.State.{State}
+use Rattle.judging.specs.States.{firstTally, tableIn, rowsIn, tallyIn, withWord, withPhrase, moved}
+use Rattle.judging.specs.declared.state.Tally.{Tally}
+use Rattle.judging.specs.declared.state.Phase.the-variants.{Top, InTable, InSentence, Behind}
+use Rattle.judging.specs.declared.state.State.{State}
 
 -- the state, the table sheet, the seen set, the marks of the phrases, and where the sentences begin
 pub record Kept : Type 0 where
@@ -40,35 +42,50 @@ formatRead s n = record { phase = Top; format = n; handed = s .handed; «sound_e
 abbrev pub handedOut : State → ℕ → State
 handedOut s end = record { phase = Behind; format = s .format; handed = s .handed + 1; «sound_end» = end }
 
+-- one row more in the table that is being read
+abbrev pub rowCounted : State → State
+rowCounted s = moved s (InTable (tableIn (s .phase)) (rowsIn (s .phase) + 1))
+
 abbrev pub withRow : RowSaid → Kept → Kept
 withRow r k =
-    let n = tableIn (k .state .phase) in
-    let rows = rowsIn (k .state .phase) in
-    kept (moved (k .state) (InTable n (rows + 1))) (splice (rowPlace n rows) (sixOf r) (k .sheet)) (k .seen) (k .marks) (k .begins)
+    let phase = k .state .phase in
+    kept (rowCounted (k .state)) (splice (rowPlace (tableIn phase) (rowsIn phase)) (sixOf r) (k .sheet)) (k .seen) (k .marks) (k .begins)
+
+abbrev pub tableLeft : State → State
+tableLeft s = moved s Top
 
 abbrev pub tableClosed : Kept → Kept
 tableClosed k =
     let phase = k .state .phase in
-    kept (moved (k .state) Top) (set (k .sheet) (tableIn phase) (rowsIn phase + 1)) (k .seen) (k .marks) (k .begins)
+    kept (tableLeft (k .state)) (set (k .sheet) (tableIn phase) (rowsIn phase + 1)) (k .seen) (k .marks) (k .begins)
+
+-- a list of beginnings tells of the numbers from one on, and others are not noted in it
+abbrev pub noted : ℕ → Tally → List ℕ → List ℕ
+noted from t begins = pick (leb from (t .number)) (set begins (t .number - from) (t .start + 1)) begins
 
 -- the number is in the seen set, and the place of its beginning is noted with one added
-abbrev pub sentenceKept : Tally → ℕ → Kept → Kept
-sentenceKept t end k =
-    kept (handedOut (k .state) end) (k .sheet) (withBit (k .seen) (t .number)) (k .marks) (set (k .begins) (t .number) (t .start + 1))
+abbrev pub sentenceKept : ℕ → Tally → ℕ → Kept → Kept
+sentenceKept from t end k =
+    kept (handedOut (k .state) end) (k .sheet) (withBit (k .seen) (t .number)) (k .marks) (noted from t (k .begins))
 
-unfoldable pub effect : Step → ℕ → ℕ → Kept → Kept
-effect Ignored at end k = k
-effect (Format n) at end k = withState k (formatRead (k .state) n)
-effect (TableBegins n) at end k = withState k (moved (k .state) (InTable n 0))
-effect (Row r) at end k = withRow r k
-effect TableEnds at end k = tableClosed k
-effect (SentenceBegins h) at end k = withState k (moved (k .state) (InSentence (firstTally at (h .number))))
-effect (Word n) at end k = withState k (moved (k .state) (InSentence (withWord (tallyIn (k .state .phase)) n)))
-effect (Phrase n) at end k =
+-- beginnings are noted of the numbers from this one on
+unfoldable pub effect : ℕ → Step → ℕ → ℕ → Kept → Kept
+effect from Ignored at end k = k
+effect from (Format n) at end k = withState k (formatRead (k .state) n)
+effect from (TableBegins n) at end k = withState k (moved (k .state) (InTable n 0))
+effect from (Row r) at end k = withRow r k
+effect from TableEnds at end k = tableClosed k
+effect from (SentenceBegins h) at end k = withState k (moved (k .state) (InSentence (firstTally at (h .number))))
+effect from (Word n) at end k = withState k (moved (k .state) (InSentence (withWord (tallyIn (k .state .phase)) n)))
+effect from (Phrase n) at end k =
     kept (moved (k .state) (InSentence (withPhrase (tallyIn (k .state .phase)) n))) (k .sheet) (k .seen)
     (set (k .marks) (n .number - 500) (k .state .handed + 1)) (k .begins)
-effect SentenceEnds at end k = sentenceKept (tallyIn (k .state .phase)) end k
-effect (Refused f) at end k = k
+effect from SentenceEnds at end k = sentenceKept from (tallyIn (k .state .phase)) end k
+effect from (Refused f) at end k = k
+
+-- the list of beginnings behind a step, whatever else is kept
+abbrev pub begunBy : ℕ → Step → State → List ℕ → List ℕ
+begunBy from step s begins = effect from step 0 0 (kept s [] [] [] begins) .begins
 
 -- ---- what a step needs; size is the file's length
 

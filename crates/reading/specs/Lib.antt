@@ -1,4 +1,2 @@
-pub mod States
 pub mod Effects
-pub mod Judging
 pub mod Closing

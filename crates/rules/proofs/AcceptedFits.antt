@@ -21,6 +21,7 @@ use Rattle.rules.specs.GrammarLines.{Differ, Starts}
 use Rattle.rules.specs.GrammarTables.{TableLines, TablesFit, tableLines, tablesSay}
 use Rattle.rules.specs.GrammarSentences.{SentenceLines, SentenceFits, sentenceLines, sentenceSays}
 use Rattle.rules.specs.Grammar.{FormatFits, Fits, sentenceNumbers}
+use Rattle.rules.proofs.AnyLine.{bytesOf}
 use Rattle.rules.proofs.Takings.{answerAt}
 use Rattle.rules.proofs.EachElement.{each-then, each-more}
 use Rattle.rules.proofs.BytesAsSaid.{Started, started-said, heededOf, heeded-said}
@@ -29,7 +30,7 @@ use Rattle.rules.proofs.TablesAsSaid.{is-there}
 use Rattle.rules.proofs.WhatWasRead.{WasRead, preLines}
 use Rattle.rules.proofs.ReadSoFar.{Onward, from-start, begin-sentence, from-top, from-table}
 use Rattle.rules.proofs.SentencesSoFar.{from-sentence}
-use Rattle.rules.proofs.LineByLine.{numbersIn, Through, Takes, Accepting, bytesOf}
+use Rattle.rules.proofs.LineByLine.{numbersIn, Through, Takes, Accepting}
 use Rattle.rules.proofs.LinesOfFiles.{accepted-takes}
 
 -- the parts that lines are, and what the grammar says of them

@@ -61,8 +61,8 @@ module _ {A B : Type 0} (bare : A → B) (So : A → Type 0) where
         let rest : map bare xs ≡ map bare ys = cc in
         (exactly x y (p .0) (q .0) .0 first, in-order-bare xs ys (p .1) (q .1) rest)
 
-    pub in-order : (xs ys : List A) → Each So xs → Each So ys → (map bare xs ≡ map bare ys) ↔ InOrder Alike xs ys
-    in-order xs ys p q = (in-order-bare xs ys p q, bare-in-order xs ys p q)
+    pub alike-in-order : (xs ys : List A) → Each So xs → Each So ys → (map bare xs ≡ map bare ys) ↔ InOrder Alike xs ys
+    alike-in-order xs ys p q = (in-order-bare xs ys p q, bare-in-order xs ys p q)
 
     module _ (key : A → ℕ) (to : B → ℕ) (keeps : (x : A) → to (bare x) ≡ key x) where
       pub bare-by-number : (xs ys : List A) → Each So xs → Each So ys → Distinct key xs → Distinct key ys → Each (λ (x : A). Some (λ (y : A). Alike x y) ys) xs
@@ -84,5 +84,5 @@ module _ {A B : Type 0} (bare : A → B) (So : A → Type 0) where
                 sym (length-sorted key xs) ∙ sym (length-map (sorted key xs) bare) ∙ ap length e ∙ length-map (sorted key ys) bare ∙ length-sorted key ys;
           }
 
-      pub in-any-order : (xs ys : List A) → Each So xs → Each So ys → Distinct key xs → Distinct key ys → (map bare (sorted key xs) ≡ map bare (sorted key ys)) ↔ InAnyOrder Alike xs ys
-      in-any-order xs ys p q d c = (in-any-order-bare xs ys p q, λ a. bare-by-number xs ys p q d c (a .forth) (a .back))
+      pub alike-in-any-order : (xs ys : List A) → Each So xs → Each So ys → Distinct key xs → Distinct key ys → (map bare (sorted key xs) ≡ map bare (sorted key ys)) ↔ InAnyOrder Alike xs ys
+      alike-in-any-order xs ys p q d c = (in-any-order-bare xs ys p q, λ a. bare-by-number xs ys p q d c (a .forth) (a .back))

@@ -12,10 +12,10 @@ use Rattle.rules.specs.Texts.{Text, reads}
 use Rattle.rules.specs.Rules.{Rule, Verdict, refused, granted}
 use Rattle.rules.specs.Rows.{rowOf}
 use Rattle.rules.specs.Tables.{Row, noTables}
-use Rattle.rules.specs.Sentences.{Sentence, gapless, parented, headingOf, endRules, endOf, soFar}
+use Rattle.rules.specs.Sentences.{Sentence, gapless, parented, headingWritten, headingIn, headingCites, headingOf, endRules, endOf, soFar}
 use Rattle.rules.specs.Keywords.{formatOf, tableOpened, tableEnded, firstColumn, startsRow, startsWord, startsPhrase}
 use Rattle.rules.specs.Nodes.{wordOf, phraseOf}
-use Rattle.rules.specs.Phases.{Preamble, Phase, start, top, inTable, inSentence, behindSentence, Answer, refuse, go, hand, next, step}
+use Rattle.rules.specs.Phases.{Preamble, Phase, start, top, inTable, inSentence, behindSentence, begun, Answer, refuse, go, hand, next, step}
 use Rattle.rules.specs.Reading.{begin, read}
 use Rattle.rules.specs.Survey.{answered, nothingRead, surveyOf, fileFits}
 use Rattle.rules.specs.Refusals.{OneLine}
@@ -26,16 +26,17 @@ use Rattle.rules.proofs.BytesAsSaid.{ignored-said}
 use Rattle.rules.proofs.TestsAsFacts.{reads-are}
 use Rattle.rules.proofs.BareColumns.{columnAt}
 use Rattle.rules.proofs.ReadSoFar.{first-is}
+use Rattle.rules.proofs.Conjunctions.{every-front}
+use Rattle.rules.proofs.RuleLaws.{holdsOf}
 use Rattle.rules.proofs.RulesHeld.{held}
 use Rattle.rules.proofs.LineFit.{LineFit}
 use Rattle.rules.proofs.Takings.{goBegun, goClosed, goRow, goWord, goPhrase, refuseSix, answerStart, answerBehind, answerTop, answerRows, answerNodes, answerAt}
 use Rattle.rules.proofs.Steps.{either, next-checked}
 use Rattle.rules.proofs.NodeLines.{word-cases, phrase-cases}
-use Rattle.rules.proofs.Headings.{headingRules, headingRead}
-use Rattle.rules.proofs.ByLines.{Answered, step-taken, Read, by-lines}
+use Rattle.rules.proofs.ByLines.{LineAnswered, step-taken, ReadByLines, by-lines}
 use Rattle.rules.proofs.LinePlaces.{if-granted}
 use Rattle.rules.proofs.LinesSaid.{word-said, phrase-said, head-said, end-said}
-use Rattle.rules.proofs.SaidSoFar.{SaidSoFar, Stands, one-ignored, one-word, one-phrase, one-end}
+use Rattle.rules.proofs.SaidSoFar.{SaidSoFar, SaidAt, one-ignored, one-word, one-phrase, one-end}
 
 module _ (file done l rest : List ℕ) (whole : file ≡ done ++ (l ++ (newline ∷ rest))) (plain : OneLine l) where
   abbrev line : Text
@@ -45,7 +46,7 @@ module _ (file done l rest : List ℕ) (whole : file ≡ done ++ (l ++ (newline 
   first = firstColumn (record { start = length done; bytes = l })
 
   abbrev Goes : Answer → Type 0
-  Goes a = Answered Stands (SentenceSaid file) done l a
+  Goes a = LineAnswered SaidAt (SentenceSaid file) done l a
 
   bad : (r : Rule) → 1 ≤ r .number → Goes (refuse r)
   bad r h = tt
@@ -53,7 +54,7 @@ module _ (file done l rest : List ℕ) (whole : file ≡ done ++ (l ++ (newline 
   none-bad : (r : Rule) → Goes (refuse r)
   none-bad r = tt
 
-  stays : (phase : Phase) → Stands done phase → ignored l ≡ true → Goes (go phase)
+  stays : (phase : Phase) → SaidAt done phase → ignored l ≡ true → Goes (go phase)
   stays start k e = tt
   stays (top p) k e = tt
   stays (inTable p n rs) k e = tt
@@ -67,11 +68,9 @@ module _ (file done l rest : List ℕ) (whole : file ≡ done ++ (l ++ (newline 
     keyword : (xs : List ℕ) → 1 ≤ length xs → reads xs first ≡ true → columnAt 0 l ≡ xs
     keyword xs h e = first-is line xs h (reads-are xs first .0 e) .1
 
-    begins : (p : Preamble) (used : List ℕ) → reads (bytes "#BOS") first ≡ true → Goes (next (goBegun p (length done)) (headingOf (p .tables) (λ n. member n used) line))
-    unfolding headingOf
-    begins p used e =
-        next-checked Goes bad (goBegun p (length done)) (headingRules (p .tables) (λ n. member n used) line) (headingRead (p .tables) (λ n. member n used) line) refl
-        (λ h.
+    pub begun-said : reads (bytes "#BOS") (firstColumn (record { start = length done; bytes = l })) ≡ true → every holdsOf (headingWritten (record { start = length done; bytes = l })) ≡ true
+        → SaidSoFar (done ++ (l ++ (newline ∷ []))) (begun (length done) (headingIn (record { start = length done; bytes = l })))
+    begun-said e h =
         record {
           front = done;
           lines = l ∷ [];
@@ -82,11 +81,17 @@ module _ (file done l rest : List ℕ) (whole : file ≡ done ++ (l ++ (newline 
           words = [];
           phrases = [];
           heeded = heeded-line seen no-line;
-          its-head = head-said (p .tables) (λ n. member n used) line (keyword (bytes "#BOS") (omega arith) e) (held (headingRules (p .tables) (λ n. member n used) line) h);
+          its-head = head-said line (keyword (bytes "#BOS") (omega arith) e) (held (headingWritten line) h);
           its-words = tt;
           counted = refl;
           its-phrases = tt;
-        })
+        }
+
+    begins : (p : Preamble) (used : List ℕ) → reads (bytes "#BOS") first ≡ true → Goes (next (goBegun p (length done)) (headingOf (p .tables) (λ n. member n used) line))
+    unfolding headingOf
+    begins p used e =
+        next-checked Goes bad (goBegun p (length done)) (headingWritten line ++ headingCites (p .tables) (λ n. member n used) line) (headingIn line) refl
+        (λ h. begun-said e (every-front holdsOf (headingWritten line) (headingCites (p .tables) (λ n. member n used) line) h))
 
     behind : (p : Preamble) (used : List ℕ) → Goes (answerBehind line first p used)
     unfolding answerBehind
@@ -121,7 +126,7 @@ module _ (file done l rest : List ℕ) (whole : file ≡ done ++ (l ++ (newline 
         by (refused r) = tt
         by (granted r) = tt
 
-    line-goes : (phase : Phase) (used : List ℕ) → Stands done phase → Goes (answerAt phase used line first)
+    line-goes : (phase : Phase) (used : List ℕ) → SaidAt done phase → Goes (answerAt phase used line first)
     unfolding answerAt answerStart formatOf answerTop answerRows tableEnded answerNodes
     line-goes start used k =
         either Goes (reads (bytes "#FORMAT") first) _ (refuseSix line) (λ e. if-granted Goes none-bad (λ n. go (top (record { format = n; tables = noTables }))) _ _ tt) (λ e. tt)
@@ -139,14 +144,14 @@ module _ (file done l rest : List ℕ) (whole : file ≡ done ++ (l ++ (newline 
     line-goes (behindSentence p) used k = behind p used
 
   -- one line: it is ignored, or taken
-  one-line : (phase : Phase) (used : List ℕ) → Stands done phase → Goes (step phase used (record { start = length done; bytes = l }))
-  one-line phase used k = step-taken Goes none-bad phase used line (stays phase k) (λ fit. line-goes fit phase used k)
+  pub one-said : (phase : Phase) (used : List ℕ) → SaidAt done phase → Goes (step phase used (record { start = length done; bytes = l }))
+  one-said phase used k = step-taken Goes none-bad phase used line (stays phase k) (λ fit. line-goes fit phase used k)
 
 -- ---- any file
 
 module _ (file : List ℕ) where
-  all-lines : Read file Stands (SentenceSaid file) (λ done l rest phase used whole o k. one-line file done l rest whole o phase used k)
-  all-lines = by-lines file Stands (SentenceSaid file) (λ done l rest phase used whole o k. one-line file done l rest whole o phase used k) tt
+  all-lines : ReadByLines file SaidAt (SentenceSaid file) (λ done l rest phase used whole o k. one-said file done l rest whole o phase used k)
+  all-lines = by-lines file SaidAt (SentenceSaid file) (λ done l rest phase used whole o k. one-said file done l rest whole o phase used k) tt
 
   pub sentences-written : Each (SentenceSaid file) (surveyOf file .handed)
   unfolding surveyOf

@@ -15,7 +15,7 @@ use Rattle.rules.specs.Texts.{Text}
 use Rattle.rules.specs.Numbers.{lineLimit}
 use Rattle.rules.specs.Rules.{broken, checked}
 use Rattle.rules.specs.Keywords.{firstColumn}
-use Rattle.rules.specs.Phases.{Phase, start, Answer, refuse, go, hand, next, step}
+use Rattle.rules.specs.Phases.{Phase, Answer, refuse, go, hand, next, step}
 use Rattle.rules.specs.Reading.{begin, read, numbers}
 use Rattle.rules.specs.GrammarLines.{Legal}
 use Rattle.rules.specs.Refusals.{Clean, OneLine, Exactly, HasIllegal, TooLongLine}

@@ -42,27 +42,27 @@ legal-line (b ∷ bs) k = (λ e. other (k .0) e, legal-line bs (k .1))
     other (inr (inr p)) e = omega (arith, p .0)
 
 module _ (front : List ℕ) (c : Clean front) (l : List ℕ) (fits : LineFits l) where
-  abbrev used : List ℕ
+  abbrev pub used : List ℕ
   used = numbers (read begin front .handed)
 
-  abbrev line : Text
+  abbrev pub line : Text
   line = record { start = length front; bytes = l }
 
-  one-line : OneLine l
+  pub one-line : OneLine l
   one-line = legal-line l (fits .legal-bytes)
 
   -- what a line that isn't ignored is answered where the front ends
-  answered-at : (phase : Phase) → read begin front .phase ≡ phase → ignored l ≡ false → stepped front c l one-line ≡ answerAt phase used line (firstColumn line)
+  pub answered-at : (phase : Phase) → read begin front .phase ≡ phase → ignored l ≡ false → stepped front c l one-line ≡ answerAt phase used line (firstColumn line)
   unfolding answerTo
   answered-at phase e seen =
       step-fits (read begin front .phase) used line (every-said legal Legal legal-said l .1 (fits .legal-bytes)) (le-leb (length l) 4096 (fits .short))
       ∙ rw (seen, e)
 
   -- the keyword is the first column
-  reads-first : (keyword : List ℕ) → goesOn l ≡ true → columnAt 0 l ≡ keyword → firstColumn line .bytes ≡ keyword
+  pub reads-first : (keyword : List ℕ) → goesOn l ≡ true → columnAt 0 l ≡ keyword → firstColumn line .bytes ≡ keyword
   reads-first keyword g e = starts-first line g ∙ e
 
-  number-exactly : (So : Type 0) → (refusalOf (stepped front c l one-line) ≡ 8) ↔ So → Exactly 8 front l So
+  pub number-exactly : (So : Type 0) → (refusalOf (stepped front c l one-line) ≡ 8) ↔ So → Exactly 8 front l So
   number-exactly So k = then-exactly front c l one-line 8 So (omega arith) k
 
 -- ---- which phase the front ends in

@@ -27,10 +27,10 @@ use Rattle.rules.proofs.Steps.{either, next-checked}
 use Rattle.rules.proofs.NoFault.{never-some}
 
 -- what holds of a phase behind some bytes, and of a sentence handed out, behind the answer to a line
-abbrev pub Answered : (List ℕ → Phase → Type 0) → (Handed → Type 0) → List ℕ → List ℕ → Answer → Type 0
-Answered P H done l (refuse q) = Unit {0}
-Answered P H done l (go phase) = P (done ++ (l ++ (newline ∷ []))) phase
-Answered P H done l (hand p s) = P (done ++ (l ++ (newline ∷ []))) (behindSentence p) × H (record { end = suc (length done + length l); sentence = s })
+abbrev pub LineAnswered : (List ℕ → Phase → Type 0) → (Handed → Type 0) → List ℕ → List ℕ → Answer → Type 0
+LineAnswered P H done l (refuse q) = Unit {0}
+LineAnswered P H done l (go phase) = P (done ++ (l ++ (newline ∷ []))) phase
+LineAnswered P H done l (hand p s) = P (done ++ (l ++ (newline ∷ []))) (behindSentence p) × H (record { end = suc (length done + length l); sentence = s })
 
 -- one line: it is ignored, or it fits and is answered where the reading stands
 pub step-taken : (P : Answer → Type 0) → ((r : Rule) → P (refuse r)) → (phase : Phase) (used : List ℕ) (line : Text) → (ignored (line .bytes) ≡ true → P (go phase))
@@ -48,7 +48,7 @@ step-taken P bad phase used line stay f =
 
 module _ (file : List ℕ) (P : List ℕ → Phase → Type 0) (H : Handed → Type 0)
     (one : (done l rest : List ℕ) (phase : Phase) (used : List ℕ) → file ≡ done ++ (l ++ (newline ∷ rest)) → OneLine l → P done phase
-    → Answered P H done l (step phase used (record { start = length done; bytes = l }))) where
+    → LineAnswered P H done l (step phase used (record { start = length done; bytes = l }))) where
   -- with these bytes still to come
   record Going (done : List ℕ) (r : Reading) (bs : List ℕ) : Type 0 where
     pub parts : file ≡ done ++ (reverse (r .part) ++ bs)
@@ -79,7 +79,7 @@ module _ (file : List ℕ) (P : List ℕ → Phase → Type 0) (H : Handed → T
         let at : length behind ≡ suc (r .at) = omega (arith, length-append front (its ++ (newline ∷ [])), length-append its (newline ∷ []), its-length, g .at) in
         record { done = behind; phase = p; handed = h; going = λ e. record { parts = g .parts ∙ simp append-assoc; from = sym at; at = omega (arith, at); one-line = tt } }
 
-    ended-state : (a : Answer) → Answered P H (k .done) (reverse (r .part)) a → State (ended r a) bs
+    ended-state : (a : Answer) → LineAnswered P H (k .done) (reverse (r .part)) a → State (ended r a) bs
     ended-state (refuse q) l = record { done = front; phase = k .phase; handed = k .handed; going = λ e. absurd (never-some _ e) }
     ended-state (go phase) l = after-line phase (r .handed) l (k .handed)
     ended-state (hand p s) l =
@@ -90,7 +90,7 @@ module _ (file : List ℕ) (P : List ℕ → Phase → Type 0) (H : Handed → T
     line-state : State (ended r (step (r .phase) (numbers (r .handed)) (line r))) bs
     line-state =
         ended-state (step (r .phase) (numbers (r .handed)) (line r))
-        (subst (λ (n : ℕ). Answered P H front its (step (r .phase) (numbers (r .handed)) (record { start = n; bytes = its }))) (sym (g .from))
+        (subst (λ (n : ℕ). LineAnswered P H front its (step (r .phase) (numbers (r .handed)) (record { start = n; bytes = its }))) (sym (g .from))
         (one front its bs (r .phase) (numbers (r .handed)) (g .parts) (g .one-line) (k .phase)))
 
   byte-more : (r : Reading) (b : ℕ) (bs : List ℕ) (k : State r (b ∷ bs)) → Going (k .done) r (b ∷ bs) → (b ≡ newline → ⊥) → State (withByte r b) bs
@@ -129,8 +129,14 @@ module _ (file : List ℕ) (P : List ℕ → Phase → Type 0) (H : Handed → T
   read-state r [] k = k
   read-state r (b ∷ bs) k = read-state (byte r b) bs (byte-state r b bs k)
 
+  -- the bytes behind some that are read already
+  pub lines-from : (done rest : List ℕ) (phase : Phase) → file ≡ done ++ rest → P done phase
+      → Each H (read (record { at = length done; lineStart = length done; part = []; phase = phase; handed = []; fault = none }) rest .handed)
+  lines-from done rest phase parts p =
+      read-state (record { at = length done; lineStart = length done; part = []; phase = phase; handed = []; fault = none }) rest (record { done = done; phase = p; handed = tt; going = λ e. record { parts = parts; from = refl; at = omega arith; one-line = tt } }) .handed
+
   -- at the file's end
-  pub record Read : Type 0 where
+  pub record ReadByLines : Type 0 where
     pub done : List ℕ
     pub phase : P done (read begin file .phase)
     pub handed : Each H (read begin file .handed)
@@ -138,7 +144,7 @@ module _ (file : List ℕ) (P : List ℕ → Phase → Type 0) (H : Handed → T
     pub from : read begin file .fault ≡ none → read begin file .lineStart ≡ length done
     pub one-line : read begin file .fault ≡ none → OneLine (reverse (read begin file .part))
 
-  pub by-lines : P [] start → Read
+  pub by-lines : P [] start → ReadByLines
   by-lines p =
       let s = read-state begin file (record { done = []; phase = p; handed = tt; going = λ e. record { parts = refl; from = refl; at = refl; one-line = tt } }) in
       record {

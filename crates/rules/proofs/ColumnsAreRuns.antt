@@ -120,18 +120,18 @@ split (b ∷ bs) = by (true-or-not (white b)) (split bs)
         let t = taken b bs (λ w. never-both (white b) (white-said b .1 w) e) in
         inr (record { gap = []; c = b ∷ t .more; more = t .rest; are = ap (λ (xs : List ℕ). b ∷ xs) (t .are); white-gap = tt; run = t .run; parted = t .parted })
 
-pub record Whole (l : List ℕ) : Type 0 where
+pub record WholeColumns (l : List ℕ) : Type 0 where
   pub cs : List (List ℕ)
   pub rest : List ℕ
   pub begins : Begins l cs rest
   pub ends-white : Each White rest
 
-whole-within : (n : ℕ) (l : List ℕ) → length l ≤ n → Whole l
+whole-within : (n : ℕ) (l : List ℕ) → length l ≤ n → WholeColumns l
 whole-within zero [] h = record { cs = []; rest = []; begins = no-column; ends-white = tt }
 whole-within zero (b ∷ bs) h = absurd (omega arith)
 whole-within (suc n) l h = by (split l) (whole-within n)
   where
-    by : Each White l ⊎ Split l → ((m : List ℕ) → length m ≤ n → Whole m) → Whole l
+    by : Each White l ⊎ Split l → ((m : List ℕ) → length m ≤ n → WholeColumns m) → WholeColumns l
     by (inl w) shorter = record { cs = []; rest = l; begins = no-column; ends-white = w }
     by (inr s) shorter =
         let less : length (s .more) ≤ n =

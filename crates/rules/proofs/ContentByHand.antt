@@ -26,8 +26,8 @@ use Rattle.rules.specs.GrammarSurvey.{contentOf}
 use Rattle.rules.specs.Grammar.{Contains}
 use Rattle.rules.proofs.AcceptedExactly.{accepted-contains}
 
-abbrev pub fileB : List ℕ
-fileB =
+abbrev pub fileByHand : List ℕ
+fileByHand =
     bytes "#FORMAT 3\n%% by hand\n#BOT EDITOR\n-1 nn nobody\n2 kim  Kim Berg \n#EOT EDITOR\n#BOT WORDTAG\n-1 UNKNOWN N not known\n0 -- N none\n1 ITJ Y interjection\n#EOT WORDTAG\n#BOT ORIGIN\n1 lab notes %% of 1998 \n3 diary\n#EOT ORIGIN\n#BOS 12 2 915148800 3 %% first one\nJa ITJ -- -- 500 SB 501 %% said\n# -- -- HD 501\n#501 S -- -- 0\n#500 NP Nom.Sg HD 501 OB 501 %%  again\n#EOS 12\n\n#BOS 7 -1 0 1\n#EOS 7\n"
 
 -- ---- what it contains, in the order of the content's fields
@@ -55,8 +55,8 @@ abbrev heading : ℕ → ℕ → ℕ → ℕ → String → HeadContent
 heading number editor1 date origin remark =
     record { number = number; editor1 = editor1; date = date; origin = origin; comment = bytes remark }
 
-abbrev pub contentB : Content
-contentB =
+abbrev pub contentByHand : Content
+contentByHand =
     record {
       format = 3;
       tables =
@@ -78,13 +78,13 @@ contentB =
           ∷ [];
     }
 
-accepted-B : surveyOf fileB .refusal ≡ 0
+accepted-by-hand : surveyOf fileByHand .refusal ≡ 0
 unfolding ignored rightTrim trimFrom frontBytes behindFrom columnsFrom fields comment valueFrom decimal broken checked hasId hasTag known originRow editorRow tagRow headingOf endRules endOf pairs paired parentsWritten tagsShort tagsKnown parentsRise wordOf phraseOf formatOf tableOpened tableEnded firstColumn atStart behindOne atTop amongRows amongNodes lineAt taken judged after step surveyOf
-accepted-B = refl
+accepted-by-hand = refl
 
-read-B : contentOf (surveyOf fileB) ≡ contentB
+read-by-hand : contentOf (surveyOf fileByHand) ≡ contentByHand
 unfolding ignored rightTrim trimFrom frontBytes behindFrom columnsFrom fields comment valueFrom decimal broken checked hasId hasTag known originRow editorRow tagRow headingOf endRules endOf pairs paired parentsWritten tagsShort tagsKnown parentsRise wordOf phraseOf formatOf tableOpened tableEnded firstColumn atStart behindOne atTop amongRows amongNodes lineAt taken judged after step surveyOf
-read-B = refl
+read-by-hand = refl
 
-pub B-contains : Contains sentenceRange fileB contentB
-B-contains = subst (Contains sentenceRange fileB) read-B (accepted-contains fileB accepted-B)
+pub contains-by-hand : Contains sentenceRange fileByHand contentByHand
+contains-by-hand = subst (Contains sentenceRange fileByHand) read-by-hand (accepted-contains fileByHand accepted-by-hand)

@@ -1,7 +1,7 @@
 -- Laws of the numbers counted from a place on, and of a test that is computed at each of them.
 use mathlib.Core.Path.{_≡_, refl, sym, ap, _∙_, subst}
 use mathlib.Core.Bool.{Bool, true, false, _&&_}
-use mathlib.Core.List.{map}
+use mathlib.Core.List.{List, [], _∷_, _++_, map}
 use Prim.Native.Nat.{ℕ, zero, suc, _+_, _<_}
 use native.Mathlib.Nat.{add-zero, add-suc, suc-add, zero-add, le-of-suc-le-suc, not-suc-le-zero}
 use lib.Dec.{T}
@@ -11,6 +11,11 @@ use Rattle.rules.specs.Lists.{every, counting}
 pub length-counting : (from count : ℕ) → length (counting from count) ≡ count
 length-counting from zero = refl
 length-counting from (suc n) = ap suc (length-counting (suc from) n)
+
+-- one number more
+pub counting-more : (from count : ℕ) → counting from count ++ ((from + count) ∷ []) ≡ counting from (suc count)
+counting-more from zero = ap (λ (n : ℕ). n ∷ []) (add-zero from)
+counting-more from (suc count) = ap (λ (l : List ℕ). from ∷ l) (ap (λ (n : ℕ). counting (suc from) count ++ (n ∷ [])) (add-suc from count ∙ sym (suc-add from count)) ∙ counting-more (suc from) count)
 
 -- what stands at a place of a list that is computed from the counted numbers
 pub at-counting {ℓ} : {A : Type ℓ} (f : ℕ → A) (from count k : ℕ) (z : A) → k < count → getD (map f (counting from count)) k z ≡ f (from + k)

@@ -15,7 +15,7 @@ use Rattle.rules.specs.Lists.{pick, Each}
 use Rattle.rules.specs.Bytes.{newline}
 use Rattle.rules.specs.Rules.{Fault}
 use Rattle.rules.specs.Phases.{Preamble, behindSentence, Answer, refuse, go, hand, step}
-use Rattle.rules.specs.Reading.{Handed, Reading, line, numbers, ended, withByte, later, sound, byteUnless, byte, read}
+use Rattle.rules.specs.Reading.{Handed, Reading, line, numbers, ended, withByte, byteUnless, byte, read}
 use Rattle.rules.specs.Survey.{lastEnd}
 use Rattle.rules.specs.Cutting.{endsWithin, endedWithin}
 use Rattle.rules.proofs.EachElement.{each-then}

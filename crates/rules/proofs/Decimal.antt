@@ -36,7 +36,7 @@ value-grows v (x ∷ xs) = omega (arith, value-grows (v * 10 + (x - 48)) xs)
 
 -- ---- what the digits of a number are
 
-pub record Written (n : ℕ) (xs : List ℕ) : Type 0 where
+pub record DigitsWritten (n : ℕ) (xs : List ℕ) : Type 0 where
   pub first : ℕ
   pub others : List ℕ
   pub form : xs ≡ first ∷ others
@@ -48,7 +48,7 @@ pub record Written (n : ℕ) (xs : List ℕ) : Type 0 where
 last-digit : (n : ℕ) → digit (48 + n % 10) ≡ true
 last-digit n = rw (le-leb 48 (48 + n % 10) (omega arith), le-leb (48 + n % 10) 57 (omega arith))
 
-one-digit : (n : ℕ) → n < 10 → Written n ((48 + n % 10) ∷ [])
+one-digit : (n : ℕ) → n < 10 → DigitsWritten n ((48 + n % 10) ∷ [])
 unfolding valueFrom
 one-digit n h =
     record {
@@ -61,13 +61,13 @@ one-digit n h =
       value = omega arith;
     }
 
-written-within : (k n : ℕ) → n ≤ k → Written n (digitsWithin k n)
+written-within : (k n : ℕ) → n ≤ k → DigitsWritten n (digitsWithin k n)
 unfolding digitsWithin
 written-within zero n h = one-digit n (omega arith)
 written-within (suc k) n h = by (ltb n 10) refl (λ q. written-within k (n / 10) q)
   where
-    by : (t : Bool) → ltb n 10 ≡ t → (n / 10 ≤ k → Written (n / 10) (digitsWithin k (n / 10)))
-        → Written n (pick t ((48 + n % 10) ∷ []) (digitsWithin k (n / 10) ++ ((48 + n % 10) ∷ [])))
+    by : (t : Bool) → ltb n 10 ≡ t → (n / 10 ≤ k → DigitsWritten (n / 10) (digitsWithin k (n / 10)))
+        → DigitsWritten n (pick t ((48 + n % 10) ∷ []) (digitsWithin k (n / 10) ++ ((48 + n % 10) ∷ [])))
     by true e w = one-digit n (ltb-true n 10 e)
     by false e w =
         let large : 10 ≤ n = ltb-false n 10 e in
@@ -82,7 +82,7 @@ written-within (suc k) n h = by (ltb n 10) refl (λ q. written-within k (n / 10)
           value = value-last 0 (digitsWithin k (n / 10)) (48 + n % 10) ∙ omega (arith, front .value);
         }
 
-pub digits-written : (n : ℕ) → Written n (digitsOf n)
+pub digits-written : (n : ℕ) → DigitsWritten n (digitsOf n)
 unfolding digitsOf
 digits-written n = written-within n n (le-refl n)
 

@@ -91,10 +91,10 @@ every-member f (k ∷ ns) n e m = by (eqb n k) refl m (every-member f ns n (ever
     by true q m more = rw (eqb-true n k q) (every-first f k ns e)
     by false q m more = more m
 
-pub every-each : (f : ℕ → Bool) (ns : List ℕ) → ((n : ℕ) → member n ns ≡ true → f n ≡ true) → every f ns ≡ true
-every-each f [] h = refl
-every-each f (k ∷ ns) h =
-    and-both (f k) (every f ns) (h k (rw (eq-eqb k k refl))) (every-each f ns (λ n m. h n (or-found (eqb n k) (member n ns) m)))
+pub every-of-members : (f : ℕ → Bool) (ns : List ℕ) → ((n : ℕ) → member n ns ≡ true → f n ≡ true) → every f ns ≡ true
+every-of-members f [] h = refl
+every-of-members f (k ∷ ns) h =
+    and-both (f k) (every f ns) (h k (rw (eq-eqb k k refl))) (every-of-members f ns (λ n m. h n (or-found (eqb n k) (member n ns) m)))
 
 -- ---- the numbers counted from a place on
 

@@ -24,17 +24,18 @@ use Rattle.rules.proofs.Conjunctions.{not-true}
 use Rattle.rules.proofs.RuleLaws.{holds-granted}
 use Rattle.rules.proofs.RulesHeld.{Held, held, hold}
 use Rattle.rules.proofs.Decimal.{id-legal, id-read-back}
-use Rattle.rules.proofs.PrintedLines.{plain, solid, tailed, printed, printed-columns, tailed-columns}
+use Rattle.rules.proofs.PrintedLines.{unplaced, tailed, printed, printed-columns, tailed-columns}
 use Rattle.rules.proofs.LineFit.{LineFit, printed-fit}
-use Rattle.rules.proofs.NumbersAgain.{good-some, id-range, id-five, id-solid}
-use Rattle.rules.proofs.RowTexts.{id-seen, Short, column-there, Described, described, last-text, RowBack}
+use Rattle.rules.proofs.NumbersAgain.{id-range, id-five, id-solid}
+use Rattle.rules.proofs.RowTexts.{id-seen, Short, column-legal, Described, described, last-text, RowBack}
 use Rattle.rules.proofs.Steps.{next-checked}
+use Rattle.rules.proofs.TestsAsFacts.{good-some}
 
 pub record EditorKept (r : Row) : Type 0 where
   pub id : r .id1 ≤ 65536
   pub login : Short 16 (r .first .bytes)
   pub name : Described 40 (r .second .bytes)
-  pub placeless : record { id1 = r .id1; first = plain (r .first .bytes); second = plain (r .second .bytes); flag = 0 } ≡ r
+  pub placeless : record { id1 = r .id1; first = unplaced (r .first .bytes); second = unplaced (r .second .bytes); flag = 0 } ≡ r
 
 abbrev pub printedEditor : Row → List ℕ
 printedEditor r = printed tab (idDigits (r .id1)) (r .first .bytes ∷ r .second .bytes ∷ []) []
@@ -69,7 +70,7 @@ module _ (rs : List Row) (line : Text) where
 
   editor-kept : every legal (line .bytes) ≡ true → Held editorRules → EditorKept (bareRow editorRead)
   editor-kept l h =
-      let legal-login = column-there line 1 1 (omega arith) l (h .0) in
+      let legal-login = column-legal line 1 1 (omega arith) l (h .0) in
       record {
         id = id-range (c .text .bytes) (value id) (good-some id (h .1 .0));
         login = record { solid = legal-login .solid; lawful = legal-login .lawful; short = leb-true (length (login .text .bytes)) 16 (h .1 .1 .0) };

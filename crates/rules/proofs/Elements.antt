@@ -1,10 +1,14 @@
 -- Laws of lists that are mapped and joined. By one step along the list.
 use Prim.Native.Nat.{ℕ, zero, suc}
 use mathlib.Core.Path.{_≡_, refl, sym, ap, _∙_}
-use mathlib.Core.Bool.{Bool, _||_}
+use mathlib.Core.Bool.{Bool, true, false≢true, _||_}
 use mathlib.Core.List.{List, [], _∷_, _++_, map, append-assoc}
 use lib.ListN.{drop, set}
-use Rattle.rules.specs.Lists.{any, joined}
+use Rattle.rules.specs.Lists.{empty, any, joined}
+
+pub none-given : {A : Type 0} (xs : List A) → empty xs ≡ true → xs ≡ []
+none-given [] e = refl
+none-given (x ∷ xs) e = absurd (false≢true e)
 
 pub map-append : {A B : Type 0} (f : A → B) (xs ys : List A) → map f (xs ++ ys) ≡ map f xs ++ map f ys
 map-append f [] ys = refl

@@ -89,10 +89,10 @@ edges-of-12 = tt
 
 -- ---- where sentences begin: one more than the place of #BOS
 
-pub begins-at-B : T (same (beginnings 14 (surveyOf fileB .handed)) (0 ∷ 0 ∷ 0 ∷ 594 ∷ 0 ∷ 0 ∷ 0 ∷ 0 ∷ 0 ∷ 0 ∷ 0 ∷ 0 ∷ 438 ∷ 0 ∷ []))
+pub begins-at-B : T (same (beginnings 0 14 (surveyOf fileB .handed)) (0 ∷ 0 ∷ 0 ∷ 594 ∷ 0 ∷ 0 ∷ 0 ∷ 0 ∷ 0 ∷ 0 ∷ 0 ∷ 0 ∷ 438 ∷ 0 ∷ []))
 unfolding ignored rightTrim trimFrom frontBytes behindFrom columnsFrom fields comment valueFrom decimal broken checked hasId hasTag known originRow editorRow tagRow headingOf endRules endOf pairs paired parentsWritten tagsShort tagsKnown parentsRise wordOf phraseOf formatOf tableOpened tableEnded firstColumn atStart behindOne atTop amongRows amongNodes lineAt taken judged after step surveyOf beginnings
 begins-at-B = tt
 
-pub begins-at-A : T (same (beginnings 9 (surveyOf fileA .handed)) (0 ∷ 0 ∷ 0 ∷ 0 ∷ 0 ∷ 0 ∷ 0 ∷ 75 ∷ 0 ∷ []))
+pub begins-at-A : T (same (beginnings 0 9 (surveyOf fileA .handed)) (0 ∷ 0 ∷ 0 ∷ 0 ∷ 0 ∷ 0 ∷ 0 ∷ 75 ∷ 0 ∷ []))
 unfolding ignored rightTrim trimFrom frontBytes behindFrom columnsFrom fields comment valueFrom decimal broken checked hasId hasTag known originRow editorRow tagRow headingOf endRules endOf pairs paired parentsWritten tagsShort tagsKnown parentsRise wordOf phraseOf formatOf tableOpened tableEnded firstColumn atStart behindOne atTop amongRows amongNodes lineAt taken judged after step surveyOf beginnings
 begins-at-A = tt

@@ -1,6 +1,6 @@
 -- A file that contains what the grammar says is accepted, and what is read of it is that. Sentence by sentence, behind the
 -- tables.
-use Prim.Native.Nat.{ℕ, _+_}
+use Prim.Native.Nat.{ℕ}
 use native.Mathlib.Omega.{arith}
 use mathlib.Core.Path.{_≡_, refl, sym, ap, _∙_, subst}
 use mathlib.Core.Bool.{Bool}
@@ -29,6 +29,7 @@ use Rattle.rules.specs.GrammarTables.{TableLines, tableLines, whiches}
 use Rattle.rules.specs.GrammarSentences.{SentenceLines, SentenceFits, EosFits, nodesOf, nodeLines, sentenceLines, sentenceSays}
 use Rattle.rules.specs.Grammar.{Contains, sentenceNumbers}
 use Rattle.rules.proofs.Same.{same-false}
+use Rattle.rules.proofs.AnyLine.{bytesOf}
 use Rattle.rules.proofs.BytesAsSaid.{Started, started-said, heededOf, heeded-only}
 use Rattle.rules.proofs.SaidOfLists.{differ-map-next}
 use Rattle.rules.proofs.TestsAsFacts.{is-member}
@@ -38,8 +39,8 @@ use Rattle.rules.proofs.HeadsAsSaid.{front-column, head-grants}
 use Rattle.rules.proofs.SentenceEnds.{SentenceAlike, end-grants}
 use Rattle.rules.proofs.TablesFollow.{Follows, one-line, keyword-reads, other-keyword, format-follows, tables-follow}
 use Rattle.rules.proofs.SentencesFollow.{words-follow, phrases-follow, taken-end}
-use Rattle.rules.proofs.LineByLine.{numbersIn, Through, bytesOf, heededTexts, heeded-bytes}
-use Rattle.rules.proofs.LinesOfFiles.{placed, placed-bytes, sentencesOf, Reaches, Ended, takes-accepted}
+use Rattle.rules.proofs.LineByLine.{numbersIn, Through, heededTexts, heeded-bytes}
+use Rattle.rules.proofs.LinesOfFiles.{placed, placed-bytes, sentencesOf, Reaches, MayEnd, takes-accepted}
 
 -- ---- a sentence as read, and as said
 
@@ -142,16 +143,16 @@ contains-read f c t =
     let tables = t .tables-fit in
     let behind = joined (map sentenceLines (t .sentences)) in
     let F : Phase → List Sentence → Type 0 = λ ph out. contentAt ph out ≡ c in
-    let whole : Follows (Ended F) (t .formatLine ∷ joined (map tableLines (t .tables)) ++ behind) start [] =
-    format-follows (Ended F) (t .formatLine) (joined (map tableLines (t .tables)) ++ behind) (t .format) (t .format-fits)
-    (tables-follow (Ended F) (t .format) behind (t .tables) [] noTables stand-none (tables .each-table) (tables .once)
+    let whole : Follows (MayEnd F) (t .formatLine ∷ joined (map tableLines (t .tables)) ++ behind) start [] =
+    format-follows (MayEnd F) (t .formatLine) (joined (map tableLines (t .tables)) ++ behind) (t .format) (t .format-fits)
+    (tables-follow (MayEnd F) (t .format) behind (t .tables) [] noTables stand-none (tables .each-table) (tables .once)
     (λ T stand.
     let p : Preamble = record { format = t .format; tables = T } in
     let says : (out : List Sentence) → map sentenceRead out ≡ map sentenceSays (t .sentences) → contentAt (behindSentence p) out ≡ c =
     λ out e. same-content (tables-say T (t .tables) stand) e ∙ sym (t .says) in
-    let empty : t .sentences ≡ [] → Ended F (top p) [] =
+    let empty : t .sentences ≡ [] → MayEnd F (top p) [] =
     λ e. (rw (is-there T (t .tables) stand origins .1 (tables .origin-there), is-there T (t .tables) stand editors .1 (tables .editor-there)), says [] (sym (ap (map sentenceSays) e))) in
-    behind-tables (Ended F) p (t .tables) stand (tables .origin-there) (tables .editor-there) (t .sentences) (t .each-sentence) (t .numbers-differ) empty (λ out e. (refl, says out e)))) in
+    behind-tables (MayEnd F) p (t .tables) stand (tables .origin-there) (tables .editor-there) (t .sentences) (t .each-sentence) (t .numbers-differ) empty (λ out e. (refl, says out e)))) in
     let at-places : bytesOf (heededTexts (placed 0 (t .lines))) ≡ heededOf (t .lines) = heeded-bytes (placed 0 (t .lines)) ∙ ap heededOf (placed-bytes 0 (t .lines)) in
     let taken = whole (heededTexts (placed 0 (t .lines))) (at-places ∙ sym (heeded-only (t .are-heeded)) ∙ t .parts)
     (subst (Each Started) (t .parts) (each-then Starts Started (λ l. started-said l .1) (t .heeded) (t .each-starts))) in

@@ -25,14 +25,16 @@ use Rattle.rules.proofs.Same.{same-eq}
 use Rattle.rules.proofs.RuleLaws.{holds-granted}
 use Rattle.rules.proofs.RulesHeld.{Held, held, hold}
 use Rattle.rules.proofs.Decimal.{number-read-back, id-read-back, id-one-writing}
+use Rattle.rules.proofs.Elements.{none-given}
 use Rattle.rules.proofs.TrimLaws.{Trimmed}
-use Rattle.rules.proofs.PrintedLines.{plain, solid, columnBytes, Behind, printed, remark, printed-read, remark-fields, remark-comment, fields-field, comment-field}
+use Rattle.rules.proofs.PrintedLines.{unplaced, solid, columnBytes, ColumnsThen, printed, remark, printed-read, remark-fields, remark-comment, fields-field, comment-field}
 use Rattle.rules.proofs.AnyLine.{bytesOf, comment-trimmed}
 use Rattle.rules.proofs.LineFit.{LineFit, again-fit}
-use Rattle.rules.proofs.NumbersAgain.{good-some, number-again, number-range, id-range, digits-solid, id-solid}
+use Rattle.rules.proofs.NumbersAgain.{number-again, number-range, id-range, digits-solid, id-solid}
 use Rattle.rules.proofs.MeantTables.{present-meant, known-editor-meant, known-origin-meant}
-use Rattle.rules.proofs.Steps.{Opened, next-checked}
+use Rattle.rules.proofs.Steps.{FirstThere, next-checked}
 use Rattle.rules.proofs.KeywordLines.{written-bytes}
+use Rattle.rules.proofs.TestsAsFacts.{good-some}
 
 abbrev pub headingColumns : Heading → List (List ℕ)
 headingColumns h = digitsOf (h .number) ∷ idDigits (h .editor1) ∷ digitsOf (h .date) ∷ digitsOf (h .origin) ∷ []
@@ -50,7 +52,7 @@ pub record HeadingKept (ts : Tables) (h : Heading) : Type 0 where
   pub editor-known : knownEditor ts (h .editor1) ≡ true
   pub origin-known : knownOrigin ts (h .origin) ≡ true
   pub trimmed : Trimmed (h .comment .bytes)
-  pub placeless : plain (h .comment .bytes) ≡ h .comment
+  pub placeless : unplaced (h .comment .bytes) ≡ h .comment
   pub fit : LineFit (printedHeading h)
 
 -- ---- numbers are not %%
@@ -76,10 +78,6 @@ id-no-comment xs g = by (same xs percents) refl
 abbrev no-comment : List Column → ℕ → Type 0
 no-comment cs n = same (written cs n .bytes) percents ≡ false
 
-nothing-of : (ts : List Text) → empty ts ≡ true → bytesOf ts ≡ []
-nothing-of [] e = refl
-nothing-of (t ∷ ts) e = absurd (false≢true e)
-
 five-fields : (cs : List Column) → ltb 4 (length cs) ≡ true → empty (fields (drop 5 cs)) ≡ true
     → no-comment cs 0 → no-comment cs 1 → no-comment cs 2 → no-comment cs 3 → no-comment cs 4
     → (bytesOf (fields cs) ≡ written cs 0 .bytes ∷ written cs 1 .bytes ∷ written cs 2 .bytes ∷ written cs 3 .bytes ∷ written cs 4 .bytes ∷ []) × (comment cs ≡ comment (drop 5 cs))
@@ -94,7 +92,7 @@ five-fields (c0 ∷ c1 ∷ c2 ∷ c3 ∷ c4 ∷ cs) h e n0 n1 n2 n3 n4 =
     let f2 = fields-field c2 (c3 ∷ c4 ∷ cs) n2 in
     let f3 = fields-field c3 (c4 ∷ cs) n3 in
     let f4 = fields-field c4 cs n4 in (
-      rw (f0, f1, f2, f3, f4, nothing-of (fields cs) e),
+      rw (f0, f1, f2, f3, f4, none-given (fields cs) e),
       comment-field c0 (c1 ∷ c2 ∷ c3 ∷ c4 ∷ cs) n0 ∙ comment-field c1 (c2 ∷ c3 ∷ c4 ∷ cs) n1 ∙ comment-field c2 (c3 ∷ c4 ∷ cs) n2 ∙ comment-field c3 (c4 ∷ cs) n3
           ∙ comment-field c4 cs n4,
     )
@@ -144,7 +142,7 @@ module _ (ts : Tables) (used : ℕ → Bool) (line : Text) where
         comment = comment (drop 5 cs);
       }
 
-  module _ (f : LineFit (line .bytes)) (o : Opened line) (bos : o .first .text .bytes ≡ bytes "#BOS") where
+  module _ (f : LineFit (line .bytes)) (o : FirstThere line) (bos : o .first .text .bytes ≡ bytes "#BOS") where
     heading-kept : Held headingRules → HeadingKept (meantTables ts) (bareHeading headingRead)
     heading-kept h =
         let g1 = h .1 .0 in
@@ -204,7 +202,7 @@ module _ (us : Tables) (h : Heading) (k : HeadingKept (meantTables us) h) (used 
   heading-solid : every solid (bytes "#BOS" ∷ headingColumns h) ≡ true
   heading-solid = rw (digits-solid (h .number), id-solid (h .editor1), digits-solid (h .date), digits-solid (h .origin))
 
-  columns-back : Behind (columns lineBack) (bytes "#BOS" ∷ headingColumns h) (remark space (h .comment .bytes))
+  columns-back : ColumnsThen (columns lineBack) (bytes "#BOS" ∷ headingColumns h) (remark space (h .comment .bytes))
   columns-back = printed-read space refl (h .comment .bytes) at (bytes "#BOS") (headingColumns h) heading-solid
 
   column-back : (n : ℕ) → written (columns lineBack) n .bytes ≡ getD ((bytes "#BOS" ∷ headingColumns h) ++ columnBytes (columnsFrom (columns-back .at) (remark space (h .comment .bytes)))) n []

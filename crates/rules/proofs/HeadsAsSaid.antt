@@ -24,17 +24,19 @@ use Rattle.rules.specs.GrammarSurvey.{headRead}
 use Rattle.rules.specs.GrammarLines.{In}
 use Rattle.rules.specs.GrammarColumns.{Front}
 use Rattle.rules.proofs.Conjunctions.{false-if-never}
+use Rattle.rules.proofs.Elements.{none-given}
 use Rattle.rules.proofs.ColumnsSaid.{front-said, said-front, front-comment}
 use Rattle.rules.proofs.BareColumns.{frontColumns, commentOf, columnAt}
 use Rattle.rules.specs.GrammarTables.{TableLines, whiches, HasRow}
 use Rattle.rules.specs.GrammarSentences.{HeadLine, HeadFits, headSays}
 use Rattle.rules.proofs.PrintedLines.{comment-field}
+use Rattle.rules.proofs.AnyLine.{bytesOf}
 use Rattle.rules.proofs.PlaceFree.{column-there, front-columns, comment-there}
 use Rattle.rules.proofs.SaidOfLists.{and-both-ways, or-both-ways, not-both-ways}
 use Rattle.rules.proofs.TestsAsFacts.{reads-are, good-some, some-good, some-value}
 use Rattle.rules.proofs.NumeralsAsSaid.{number-said, id-said}
 use Rattle.rules.proofs.TablesAsSaid.{Stand, is-there, has-row}
-use Rattle.rules.proofs.LineByLine.{Through, through-held, held-through, bytesOf}
+use Rattle.rules.proofs.LineByLine.{Through, through-held, held-through}
 
 -- ---- columns in front of the comment
 
@@ -66,10 +68,6 @@ front-first line x xs e =
 
 pub front-column : (line : List ℕ) (x : List ℕ) (xs : List (List ℕ)) (text : List ℕ) → Front line (x ∷ xs) text → columnAt 0 line ≡ x
 front-column line x xs text f = front-first line x xs (said-front line (x ∷ xs) text f)
-
-no-fields : (ts : List Text) → empty ts ≡ true → bytesOf ts ≡ []
-no-fields [] e = refl
-no-fields (t ∷ ts) e = absurd (false≢true e)
 
 fields-none : (ts : List Text) → bytesOf ts ≡ [] → empty ts ≡ true
 fields-none [] e = refl
@@ -175,7 +173,7 @@ module _ (T : Tables) (ts : List TableLines) (s : Stand T ts) where
         (not-sign (number date) (written cs 3 .bytes) refl (h .0 .1 .1 .1 .0))
         (not-sign (number originId) (written cs 4 .bytes) refl (h .0 .1 .1 .1 .1 .0))
         ∙ ap (λ (xs : List (List ℕ)). written cs 0 .bytes ∷ written cs 1 .bytes ∷ written cs 2 .bytes ∷ written cs 3 .bytes ∷ written cs 4 .bytes ∷ xs)
-        (no-fields (fields (drop 5 cs)) (seven .1))
+        (ap bytesOf (none-given (fields (drop 5 cs)) (seven .1)))
         ∙ ap (λ (x : List ℕ). x ∷ written cs 1 .bytes ∷ written cs 2 .bytes ∷ written cs 3 .bytes ∷ written cs 4 .bytes ∷ []) keyword in
         record {
           head = record { line = line .bytes; number = value n; editor1 = value e; date = value d; origin = value o; comment = comment (drop 5 cs) .bytes };

@@ -13,7 +13,7 @@ use borrow.Author.Tests.{leb-true, eqb-true, eq-eqb}
 use Rattle.rules.specs.Lists.{pick, counting}
 use Rattle.rules.specs.Tables.{Row}
 use Rattle.rules.specs.Rows.{lastId, follows}
-use Rattle.rules.specs.GrammarTables.{InOrder}
+use Rattle.rules.specs.GrammarTables.{IdsInOrder}
 use Rattle.rules.proofs.SaidOfLists.{or-both-ways, and-both-ways}
 
 -- each follows the one in front of it, the first what stands in front of the list
@@ -60,7 +60,7 @@ chained-counts l (i ∷ is) h c =
 
 -- ---- the whole
 
-pub ordered-chained : (is : List ℕ) → InOrder is → Chained none is
+pub ordered-chained : (is : List ℕ) → IdsInOrder is → Chained none is
 ordered-chained is o = subst (Chained none) (sym (o .are)) (by (o .minus-given) (o .zero-given) (o .others))
   where
     by : (m z : Bool) (k : ℕ) → Chained none (pick m (0 ∷ []) [] ++ pick z (1 ∷ []) [] ++ counting 2 k)
@@ -71,25 +71,25 @@ ordered-chained is o = subst (Chained none) (sym (o .are)) (by (o .minus-given) 
     by false false zero = tt
     by false false (suc k) = (refl, counted 2 k)
 
-behind-one : (is : List ℕ) (m : Bool) → Chained (some 1) is → InOrder (pick m (0 ∷ []) [] ++ (1 ∷ []) ++ is)
+behind-one : (is : List ℕ) (m : Bool) → Chained (some 1) is → IdsInOrder (pick m (0 ∷ []) [] ++ (1 ∷ []) ++ is)
 behind-one is m c = record { minus-given = m; zero-given = true; others = length is; are = ap (λ (is : List ℕ). pick m (0 ∷ []) [] ++ (1 ∷ []) ++ is) (chained-counts 1 is (omega arith) c) }
 
-behind-two : (is : List ℕ) (m : Bool) → Chained (some 2) is → InOrder (pick m (0 ∷ []) [] ++ [] ++ (2 ∷ is))
+behind-two : (is : List ℕ) (m : Bool) → Chained (some 2) is → IdsInOrder (pick m (0 ∷ []) [] ++ [] ++ (2 ∷ is))
 behind-two is m c =
     record { minus-given = m; zero-given = false; others = suc (length is); are = ap (λ (is : List ℕ). pick m (0 ∷ []) [] ++ [] ++ (2 ∷ is)) (chained-counts 2 is (omega arith) c) }
 
-pub chained-ordered : (is : List ℕ) → Chained none is → InOrder is
+pub chained-ordered : (is : List ℕ) → Chained none is → IdsInOrder is
 chained-ordered [] c = record { minus-given = false; zero-given = false; others = 0; are = refl }
 chained-ordered (zero ∷ []) c = record { minus-given = true; zero-given = false; others = 0; are = refl }
 chained-ordered (zero ∷ j ∷ is) c = by (or-both-ways (eqb j 1) (eqb j 2) .0 (c .1 .0))
   where
-    by : (eqb j 1 ≡ true) ⊎ (eqb j 2 ≡ true) → InOrder (0 ∷ j ∷ is)
+    by : (eqb j 1 ≡ true) ⊎ (eqb j 2 ≡ true) → IdsInOrder (0 ∷ j ∷ is)
     by (inl e) =
         let q = eqb-true j 1 e in
-        subst (λ (j : ℕ). InOrder (0 ∷ j ∷ is)) (sym q) (behind-one is true (subst (λ (j : ℕ). Chained (some j) is) q (c .1 .1)))
+        subst (λ (j : ℕ). IdsInOrder (0 ∷ j ∷ is)) (sym q) (behind-one is true (subst (λ (j : ℕ). Chained (some j) is) q (c .1 .1)))
     by (inr e) =
         let q = eqb-true j 2 e in
-        subst (λ (j : ℕ). InOrder (0 ∷ j ∷ is)) (sym q) (behind-two is true (subst (λ (j : ℕ). Chained (some j) is) q (c .1 .1)))
+        subst (λ (j : ℕ). IdsInOrder (0 ∷ j ∷ is)) (sym q) (behind-two is true (subst (λ (j : ℕ). Chained (some j) is) q (c .1 .1)))
 chained-ordered (suc zero ∷ is) c = behind-one is false (c .1)
 chained-ordered (suc (suc zero) ∷ is) c = behind-two is false (c .1)
 chained-ordered (suc (suc (suc i)) ∷ is) c = absurd (omega (arith, leb-true (suc (suc (suc i))) 2 (c .0)))

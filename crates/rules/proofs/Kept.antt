@@ -44,15 +44,15 @@ pub record SentencesKept (format : ℕ) (ts : Tables) (ss : List Sentence) : Typ
   pub each : Each (SentenceKept format ts) ss
   pub distinct : Distinct sentenceNumberOf ss
 
-abbrev pub both : Tables → Bool
-both ts = present origins ts && present editors ts
+abbrev pub bothPresent : Tables → Bool
+bothPresent ts = present origins ts && present editors ts
 
 -- ---- where a reading stands, with these sentences handed out
 
 abbrev pub means : Preamble → Tables
 means p = meantTables (p .tables)
 
-pub record InSentence (p : Preamble) (s : Sentence) (ss : List Sentence) : Type 0 where
+pub record KeptInSentence (p : Preamble) (s : Sentence) (ss : List Sentence) : Type 0 where
   pub preamble : PreambleKept p
   pub part : PartKept (p .format) (means p) (bareSentence s)
   pub sentences : SentencesKept (p .format) (means p) ss
@@ -61,9 +61,9 @@ pub record InSentence (p : Preamble) (s : Sentence) (ss : List Sentence) : Type 
 pub record BehindSentence (p : Preamble) (ss : List Sentence) : Type 0 where
   pub preamble : PreambleKept p
   pub sentences : SentencesKept (p .format) (means p) ss
-  pub both : both (means p) ≡ true
+  pub both : bothPresent (means p) ≡ true
 
-pub record InTable (p : Preamble) (n : ℕ) (rs : List Row) (ss : List Sentence) : Type 0 where
+pub record KeptInTable (p : Preamble) (n : ℕ) (rs : List Row) (ss : List Sentence) : Type 0 where
   pub preamble : PreambleKept p
   pub place : n < 7
   pub rows : RowsKept n [] (map bareRow rs)
@@ -72,8 +72,8 @@ pub record InTable (p : Preamble) (n : ℕ) (rs : List Row) (ss : List Sentence)
 abbrev pub Kept : Phase → List Sentence → Type 0
 Kept start ss = ss ≡ []
 Kept (top p) ss = PreambleKept p × (ss ≡ [])
-Kept (inTable p n rs) ss = InTable p n rs ss
-Kept (inSentence p s) ss = InSentence p s ss
+Kept (inTable p n rs) ss = KeptInTable p n rs ss
+Kept (inSentence p s) ss = KeptInSentence p s ss
 Kept (behindSentence p) ss = BehindSentence p ss
 
 abbrev pub KeptAnswer : List Sentence → Answer → Type 0

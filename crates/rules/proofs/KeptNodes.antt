@@ -25,17 +25,17 @@ use Rattle.rules.proofs.Conjunctions.{and-left}
 use Rattle.rules.proofs.RulesHeld.{held}
 use Rattle.rules.proofs.Elements.{map-append}
 use Rattle.rules.proofs.Sorting.{distinct-last}
-use Rattle.rules.proofs.PrintedLines.{plain, solid}
+use Rattle.rules.proofs.PrintedLines.{unplaced}
 use Rattle.rules.proofs.LineFit.{LineFit}
 use Rattle.rules.proofs.NumbersAgain.{number-again}
-use Rattle.rules.proofs.Steps.{either, next-checked, opened}
+use Rattle.rules.proofs.Steps.{either, next-checked, first-there}
 use Rattle.rules.proofs.NodesKept.{NodeKept, node-kept, WordKept, PhraseKept}
 use Rattle.rules.proofs.NodeLines.{wordRead, word-cases, phraseRead, phrase-cases}
 use Rattle.rules.proofs.SentencesKept.{bareSentence, PartKept, SentenceKept, part-word, part-phrase, edges-bare, listed-bare, gapless-bare, parents-bare}
-use Rattle.rules.proofs.Kept.{PreambleKept, both, means, InSentence, KeptAnswer}
+use Rattle.rules.proofs.Kept.{PreambleKept, means, KeptInSentence, KeptAnswer}
 use Rattle.rules.proofs.FirstColumns.{phrase-given, word-given, hash-form}
 
-module _ (ss : List Sentence) (line : Text) (f : LineFit (line .bytes)) (p : Preamble) (k : PreambleKept p) (s : Sentence) (t : InSentence p s ss) where
+module _ (ss : List Sentence) (line : Text) (f : LineFit (line .bytes)) (p : Preamble) (k : PreambleKept p) (s : Sentence) (t : KeptInSentence p s ss) where
   abbrev first : Text
   first = firstColumn line
 
@@ -83,7 +83,7 @@ module _ (ss : List Sentence) (line : Text) (f : LineFit (line .bytes)) (p : Pre
   words-kept : reads (bytes "#EOS") first ≡ false → startsPhrase first ≡ false → startsWord first ≡ true
       → P (next (goWord p s) (wordOf format ts (soFar s) line))
   words-kept no-end no-phrase begins =
-      let o = opened line f (word-given first begins) in
+      let o = first-there line f (word-given first begins) in
       let w = length (s .words) in
       word-cases format ts (soFar s) line P bad (goWord p s)
       (λ h.
@@ -92,12 +92,12 @@ module _ (ss : List Sentence) (line : Text) (f : LineFit (line .bytes)) (p : Pre
       let field : text fs 0 ≡ o .first .text = ap (λ (l : List Text). text l 0) (o .fields) in
       let there : given (text fs 0) ≡ true = ap given field ∙ and-left (given (o .first .text)) _ (o .solid) in
       let is : nodeName n ≡ o .first .text .bytes = rw there (ap (λ (t : Text). t .bytes) field) in
-      let word : plain (nodeName (bareNode n)) ≡ bare (text fs 0) = ap plain (is ∙ ap (λ (t : Text). t .bytes) (sym field)) in
+      let word : unplaced (nodeName (bareNode n)) ≡ bare (text fs 0) = ap unplaced (is ∙ ap (λ (t : Text). t .bytes) (sym field)) in
       let kept : WordKept (p .format) (means p) (bareNode n) = record {
         node = subst (λ (x : Text). NodeKept (p .format) (means p) wordTags x (bareNode n)) (sym word) (node-kept line f o format ts wordTags w (text fs 0) (h .own) is);
         no-end = ap (λ (x : List ℕ). same x (bytes "#EOS")) is ∙ ap (reads (bytes "#EOS")) (sym (o .column)) ∙ no-end;
-        no-phrase = ap (λ (x : List ℕ). startsPhrase (plain x)) is ∙ ap startsPhrase (sym (o .column)) ∙ no-phrase;
-        begins = ap (λ (x : List ℕ). startsWord (plain x)) is ∙ ap startsWord (sym (o .column)) ∙ begins;
+        no-phrase = ap (λ (x : List ℕ). startsPhrase (unplaced x)) is ∙ ap startsPhrase (sym (o .column)) ∙ no-phrase;
+        begins = ap (λ (x : List ℕ). startsWord (unplaced x)) is ∙ ap startsWord (sym (o .column)) ∙ begins;
       } in
       let few = length-map (s .words) bareNode in
       record {
@@ -113,7 +113,7 @@ module _ (ss : List Sentence) (line : Text) (f : LineFit (line .bytes)) (p : Pre
   phrases-kept : reads (bytes "#EOS") first ≡ false → startsPhrase first ≡ true
       → P (next (goPhrase p s) (phraseOf format ts (soFar s) line))
   phrases-kept no-end begins =
-      let o = opened line f (phrase-given first begins) in
+      let o = first-there line f (phrase-given first begins) in
       phrase-cases format ts (soFar s) line P bad (goPhrase p s)
       (λ i h.
       let fs = fields (columns line) in
@@ -127,7 +127,7 @@ module _ (ss : List Sentence) (line : Text) (f : LineFit (line .bytes)) (p : Pre
         node = node-kept line f o format ts nodeTags i noText (h .own) is;
         number = ap (λ (x : List ℕ). number phraseNumber (drop 1 x)) is ∙ numbered;
         no-end = ap (λ (x : List ℕ). same x (bytes "#EOS")) is ∙ ap (reads (bytes "#EOS")) (sym (o .column)) ∙ no-end;
-        begins = ap (λ (x : List ℕ). startsPhrase (plain x)) is ∙ starts;
+        begins = ap (λ (x : List ℕ). startsPhrase (unplaced x)) is ∙ starts;
       } in
       record {
         preamble = k;

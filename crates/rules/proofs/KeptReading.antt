@@ -20,7 +20,7 @@ use Rattle.rules.proofs.Elements.{map-append, any-map}
 use Rattle.rules.proofs.Sorting.{has}
 use Rattle.rules.proofs.MeantTables.{present-meant}
 use Rattle.rules.proofs.SentencesKept.{bareSentence, byNumber, meant-by-number}
-use Rattle.rules.proofs.Kept.{PreambleKept, SentencesKept, both, means, Kept, KeptAnswer}
+use Rattle.rules.proofs.Kept.{PreambleKept, SentencesKept, bothPresent, means, Kept, KeptAnswer}
 use Rattle.rules.proofs.KeptSteps.{step-kept}
 
 -- the sentences handed out, without places
@@ -77,7 +77,7 @@ file-kept f = read-kept begin f (record { phase = refl; fault = no-fault })
 pub record FileKept (p : Preamble) (ss : List Sentence) : Type 0 where
   pub preamble : PreambleKept p
   pub sentences : SentencesKept (p .format) (means p) ss
-  pub both : both (means p) ≡ true
+  pub both : bothPresent (means p) ≡ true
 
 pub record Ends (r : Reading) : Type 0 where
   pub preamble : Preamble
@@ -104,7 +104,7 @@ ends r k e = by (r .phase) refl k e
               record {
                 preamble = k .0;
                 sentences = subst (SentencesKept (p .format) (means p)) (sym (k .1)) (record { each = tt; distinct = tt });
-                both = ap₂ _&&_ (present-meant origins (p .tables)) (present-meant editors (p .tables)) ∙ thirteen (both (p .tables)) e;
+                both = ap₂ _&&_ (present-meant origins (p .tables)) (present-meant editors (p .tables)) ∙ thirteen (bothPresent (p .tables)) e;
               };
           format = ap formatAt q;
           tables = ap tablesAt q;

@@ -9,9 +9,9 @@ use mathlib.Core.List.{List, [], _∷_, map}
 use lib.ListN.{length, length-set}
 use lib.Dec.{ltb, eqb}
 use borrow.Author.Tests.{eqb-true}
-use Rattle.rules.specs.Lists.{pick, same, bytes, member}
+use Rattle.rules.specs.Lists.{pick, bytes, member}
 use Rattle.rules.specs.Texts.{Text, reads}
-use Rattle.rules.specs.Columns.{columns, written, text}
+use Rattle.rules.specs.Columns.{columns, written}
 use Rattle.rules.specs.Numbers.{number, formatNumber, good, value}
 use Rattle.rules.specs.Rules.{Rule, rule}
 use Rattle.rules.specs.Tables.{Row, noTables, tableNames, placeFrom, tableNamed}
@@ -25,12 +25,12 @@ use Rattle.rules.proofs.RulesHeld.{held}
 use Rattle.rules.proofs.Elements.{map-append}
 use Rattle.rules.proofs.Sorting.{has}
 use Rattle.rules.proofs.LineFit.{LineFit}
-use Rattle.rules.proofs.Steps.{either, next-checked, step-cases, opened}
+use Rattle.rules.proofs.Steps.{either, next-checked, step-cases, first-there}
 use Rattle.rules.proofs.Headings.{heading-cases}
 use Rattle.rules.proofs.RowsKept.{RowsKept, rows-last}
 use Rattle.rules.proofs.RowLines.{row-cases}
 use Rattle.rules.proofs.SentencesKept.{part-begun}
-use Rattle.rules.proofs.Kept.{tables-closed, PreambleKept, SentencesKept, means, InTable, Kept, KeptAnswer}
+use Rattle.rules.proofs.Kept.{tables-closed, PreambleKept, SentencesKept, means, KeptInTable, Kept, KeptAnswer}
 use Rattle.rules.proofs.FirstColumns.{reads-given}
 use Rattle.rules.proofs.KeptNodes.{nodes-kept}
 
@@ -95,7 +95,7 @@ module _ (ss : List Sentence) (line : Text) where
       begin-kept =
           either P (reads (bytes "#BOS") first) _ _
           (λ e.
-          let o = opened line f (reads-given (bytes "#BOS") first refl e) in
+          let o = first-there line f (reads-given (bytes "#BOS") first refl e) in
           let bos : o .first .text .bytes ≡ bytes "#BOS" = ap (λ (t : Text). t .bytes) (sym (o .column)) ∙ same-eq (first .bytes) (bytes "#BOS") e in
           heading-cases (p .tables) (λ n. member n used) line f o bos P bad (goBegun p (line .start))
           (λ h q new.
@@ -117,7 +117,7 @@ module _ (ss : List Sentence) (line : Text) where
         (λ h. record { preamble = k; place = named-below (written (columns line) 1); rows = tt; nothing = z })
 
     -- a table ends
-    closed-kept : (n : ℕ) (rs : List Row) → InTable p n rs ss → P (next (λ m. goClosed p n rs) (tableEnded n line))
+    closed-kept : (n : ℕ) (rs : List Row) → KeptInTable p n rs ss → P (next (λ m. goClosed p n rs) (tableEnded n line))
     unfolding tableEnded
     closed-kept n rs t =
         next-checked P bad (λ m. goClosed p n rs)
@@ -131,7 +131,7 @@ module _ (ss : List Sentence) (line : Text) where
           t .nothing,
         ))
 
-    rows-kept : (n : ℕ) (rs : List Row) → InTable p n rs ss → P (answerRows line first p n rs)
+    rows-kept : (n : ℕ) (rs : List Row) → KeptInTable p n rs ss → P (answerRows line first p n rs)
     unfolding answerRows
     rows-kept n rs t =
         either P (reads (bytes "#EOT") first) _ _ (λ e. closed-kept n rs t)

@@ -3,7 +3,7 @@
 use Prim.Native.Nat.{ℕ, zero, suc, _≤_, _<_}
 use native.Mathlib.Omega.{arith}
 use mathlib.Core.Path.{_≡_, refl, sym, ap, _∙_}
-use mathlib.Core.Bool.{Bool, true, false, not, _&&_, _||_}
+use mathlib.Core.Bool.{true, false, not, _&&_}
 use mathlib.Core.Option.{Option, some}
 use mathlib.Core.List.{List, [], _∷_, _++_}
 use lib.ListN.{length, getD, length-map, List·getD-map}
@@ -19,7 +19,7 @@ use Rattle.rules.specs.Tables.{Tables, tableNamed, present}
 use Rattle.rules.specs.Sentences.{Sentence, gapless, parented, endRules, endOf, soFar}
 use Rattle.rules.specs.Keywords.{formatOf, fresh, tableOpened, itself, tableEnded}
 use Rattle.rules.specs.Tidy.{space, digitsOf, tableName}
-use Rattle.rules.proofs.Conjunctions.{and-left, and-both}
+use Rattle.rules.proofs.Conjunctions.{and-left, and-both, or-found}
 use Rattle.rules.proofs.RuleLaws.{holds-granted}
 use Rattle.rules.proofs.Decimal.{digits-legal, number-read-back}
 use Rattle.rules.proofs.PrintedLines.{solid, columnBytes, printed, printed-read}
@@ -132,22 +132,18 @@ module _ (n : ℕ) (h : n < 7) (at : ℕ) where
     table-two : eqb (length (columns (tableLine keyword))) 2 ≡ true
     table-two = eq-eqb (length (columns (tableLine keyword))) 2 (two keyword (tableName n) table-solid at)
 
-  or-true : (a b : Bool) → b ≡ true → (a || b) ≡ true
-  or-true true b e = refl
-  or-true false b e = e
-
   pub table-opened : (ts : Tables) → present n ts ≡ false → tableOpened ts (tableLine (bytes "#BOT")) ≡ granted n
   unfolding tableOpened
   table-opened ts e =
       holds-granted _ _
-      (and-both _ _ (or-true (ltb (length (columns (tableLine (bytes "#BOT")))) 2) _ (ap (fresh ts) (place-read (bytes "#BOT") refl) ∙ ap not e)) (and-both _ _ (table-two (bytes "#BOT") refl) refl))
+      (and-both _ _ (or-found (ltb (length (columns (tableLine (bytes "#BOT")))) 2) _ (ap (fresh ts) (place-read (bytes "#BOT") refl) ∙ ap not e)) (and-both _ _ (table-two (bytes "#BOT") refl) refl))
       ∙ ap (λ (o : Option ℕ). granted (value o)) (place-read (bytes "#BOT") refl)
 
   pub table-ended : tableEnded n (tableLine (bytes "#EOT")) ≡ granted n
   unfolding tableEnded
   table-ended =
       holds-granted _ _
-      (and-both _ _ (or-true (ltb (length (columns (tableLine (bytes "#EOT")))) 2) _ (ap (itself n) (place-read (bytes "#EOT") refl) ∙ eq-eqb n n refl)) (and-both _ _ (table-two (bytes "#EOT") refl) refl))
+      (and-both _ _ (or-found (ltb (length (columns (tableLine (bytes "#EOT")))) 2) _ (ap (itself n) (place-read (bytes "#EOT") refl) ∙ eq-eqb n n refl)) (and-both _ _ (table-two (bytes "#EOT") refl) refl))
 
   pub table-fit : (keyword : List ℕ) → solid keyword ≡ true → ignored keyword ≡ false → every legal keyword ≡ true → length keyword ≤ 100 → LineFit (keyed keyword (tableName n))
   table-fit keyword s i l k =

@@ -21,7 +21,7 @@ use Rattle.rules.proofs.Kept.{TablesKept, PreambleKept, Kept}
 use Rattle.rules.proofs.KeptReading.{bares, file-kept}
 use Rattle.rules.proofs.HandedKept.{handed-kept}
 use Rattle.rules.proofs.NodeNumbers.{distinct-placed, nodes-distinct, each-numbered, few-words, each-in-room}
-use Rattle.rules.proofs.TableNumbers.{RowsFit, tables-laid}
+use Rattle.rules.proofs.TableNumbers.{FewRows, tables-laid}
 use Rattle.rules.proofs.SeenBits.{seen-laid}
 use Rattle.rules.proofs.SentenceNumbers.{sentence-laid}
 
@@ -33,7 +33,7 @@ rows-fit n done (r ∷ rs) h k =
     let one = length-append done (r ∷ []) in
     omega (arith, one, rows-fit n (done ++ (r ∷ [])) rs (omega (arith, one, k .0 .few)) (k .1))
 
-tables-fit : (n : ℕ) (ts : Tables) → TablesKept n ts → Each RowsFit ts
+tables-fit : (n : ℕ) (ts : Tables) → TablesKept n ts → Each FewRows ts
 tables-fit n [] k = tt
 tables-fit n (none ∷ ts) k = (omega arith, tables-fit (suc n) ts (k .1))
 tables-fit n (some rs ∷ ts) k =

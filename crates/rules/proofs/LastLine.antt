@@ -14,12 +14,12 @@ use Rattle.rules.specs.Phases.{Phase, start, top, inTable, inSentence, b
 use Rattle.rules.specs.Reading.{begin, read, Handed, closing, closingUnless}
 use Rattle.rules.specs.Survey.{Survey, surveyOf}
 use Rattle.rules.specs.Refusals.{Clean, Unended}
-use Rattle.rules.proofs.Kept.{both}
+use Rattle.rules.proofs.Kept.{bothPresent}
 use Rattle.rules.proofs.CleanFronts.{survey-is, clean-fresh, fault-four}
 use Rattle.rules.specs.Rules.{Fault}
 use Rattle.rules.specs.LentBuffers.{WithinLimit}
 use Rattle.rules.specs.Places.{StartsLine}
-use Rattle.rules.proofs.ByLines.{Answered, Read, by-lines}
+use Rattle.rules.proofs.ByLines.{LineAnswered, ReadByLines, by-lines}
 use Rattle.rules.proofs.LiesThere.{next-line}
 
 -- ---- whole lines
@@ -28,12 +28,12 @@ abbrev AtLine : List ℕ → List ℕ → Phase → Type 0
 AtLine file done phase = StartsLine file (length done)
 
 module _ (file : List ℕ) where
-  line-starts : (done l rest : List ℕ) → file ≡ done ++ (l ++ (newline ∷ rest)) → (a : Answer) → Answered (AtLine file) (λ (h : Handed). Unit {0}) done l a
+  line-starts : (done l rest : List ℕ) → file ≡ done ++ (l ++ (newline ∷ rest)) → (a : Answer) → LineAnswered (AtLine file) (λ (h : Handed). Unit {0}) done l a
   line-starts done l rest e (refuse q) = tt
   line-starts done l rest e (go phase) = next-line file done l rest e
   line-starts done l rest e (hand p s) = (next-line file done l rest e, tt)
 
-  ends-at-line : Read file (AtLine file) (λ (h : Handed). Unit {0}) (λ done l rest phase used e o k. line-starts done l rest e (step phase used (record { start = length done; bytes = l })))
+  ends-at-line : ReadByLines file (AtLine file) (λ (h : Handed). Unit {0}) (λ done l rest phase used e o k. line-starts done l rest e (step phase used (record { start = length done; bytes = l })))
   ends-at-line = by-lines file (AtLine file) (λ (h : Handed). Unit {0}) (λ done l rest phase used e o k. line-starts done l rest e (step phase used (record { start = length done; bytes = l }))) (inl refl)
 
 pub front-lines : (front : List ℕ) → Clean front → StartsLine front (length front)
@@ -50,7 +50,7 @@ NotThree n = n ≡ 3 → ⊥
 
 end-not-three : (phase : Phase) → NotThree (atEnd phase)
 end-not-three start e = omega arith
-end-not-three (top p) e = by (both (p .tables)) e
+end-not-three (top p) e = by (bothPresent (p .tables)) e
   where
     by : (t : Bool) → _≡_ {A = ℕ} (pick t 0 13) 3 → ⊥
     by true z = omega arith

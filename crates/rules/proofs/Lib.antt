@@ -9,7 +9,6 @@ pub mod Same
 pub mod Decimal
 pub mod ColumnLaws
 pub mod RuleLaws
-pub mod LesserLaws
 pub mod ReadLines
 pub mod Cut
 pub mod NoLateTable
@@ -132,3 +131,19 @@ pub mod TablesWritten
 pub mod LastLine
 pub mod MissingTables
 pub mod Beginnings
+pub mod LineStarts
+pub mod HeadingsAlone
+pub mod WithoutTables
+pub mod ReadFromPlace
+pub mod FromThere
+pub mod Climbable
+pub mod CutThere
+pub mod BeginsThere
+pub mod ExamplesThere
+pub mod AtIndex
+pub mod OpenedThere
+pub mod FirstEights
+pub mod BadNodeNumbers
+pub mod BadRowNumbers
+mod WrongReadings
+mod WrongCalls

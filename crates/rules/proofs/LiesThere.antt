@@ -14,16 +14,16 @@ use Rattle.rules.specs.Bytes.{newline}
 use Rattle.rules.specs.Texts.{Text, reads}
 use Rattle.rules.specs.Rules.{Rule}
 use Rattle.rules.specs.Tables.{Tables, Row, rowsOf, noTables}
-use Rattle.rules.specs.Sentences.{Node, Sentence, headingOf, endOf, soFar}
+use Rattle.rules.specs.Sentences.{Node, Sentence, headingIn, headingOf, endOf, soFar}
 use Rattle.rules.specs.Nodes.{wordOf, phraseOf}
 use Rattle.rules.specs.Keywords.{formatOf, tableOpened, tableEnded, firstColumn, startsRow, startsWord, startsPhrase}
 use Rattle.rules.specs.Rows.{rowOf}
-use Rattle.rules.specs.Phases.{Preamble, Phase, start, top, inTable, inSentence, behindSentence, withWord, withPhrase, Answer, refuse, go, hand, next, step, tablesAt}
+use Rattle.rules.specs.Phases.{Preamble, Phase, start, top, inTable, inSentence, behindSentence, begun, withWord, withPhrase, Answer, refuse, go, hand, next, step, tablesAt}
 use Rattle.rules.specs.Reading.{begin, line, read}
 use Rattle.rules.specs.Survey.{answered, nothingRead, surveyOf, fileFits}
 use Rattle.rules.specs.Places.{RowLies, NodeLies, AfterNewline, StartsLine, SentenceLies, HandedLies, LiesThere}
 use Rattle.rules.proofs.EachElement.{each-more}
-use Rattle.rules.proofs.ByLines.{Answered, Read, by-lines}
+use Rattle.rules.proofs.ByLines.{LineAnswered, ReadByLines, by-lines}
 use Rattle.rules.proofs.LineFit.{LineFit}
 use Rattle.rules.proofs.Takings.{goBegun, goClosed, goRow, goWord, goPhrase, refuseSix, answerStart, answerBehind, answerTop, answerRows, answerNodes, answerAt}
 use Rattle.rules.proofs.Steps.{either, step-cases}
@@ -31,11 +31,11 @@ use Rattle.rules.proofs.TextPlaces.{Part}
 use Rattle.rules.proofs.LinePlaces.{if-granted, row-lies, word-lies, phrase-lies, heading-lies, keyword-lies}
 
 module _ (file : List ℕ) where
-  abbrev TablesLie : Tables → Type 0
+  abbrev pub TablesLie : Tables → Type 0
   TablesLie ts = Each (λ (t : Option (List Row)). Each (RowLies file) (rowsOf t)) ts
 
   -- where a reading stands
-  abbrev PhaseLies : Phase → Type 0
+  abbrev pub PhaseLies : Phase → Type 0
   PhaseLies start = Unit {0}
   PhaseLies (top p) = TablesLie (p .tables)
   PhaseLies (inTable p n rs) = TablesLie (p .tables) × Each (RowLies file) rs
@@ -47,7 +47,7 @@ module _ (file : List ℕ) where
   AnswerLies (go phase) = PhaseLies phase
   AnswerLies (hand p s) = TablesLie (p .tables) × SentenceLies file s
 
-  phase-tables : (phase : Phase) → PhaseLies phase → TablesLie (tablesAt phase)
+  pub phase-tables : (phase : Phase) → PhaseLies phase → TablesLie (tablesAt phase)
   phase-tables start k = (tt, (tt, (tt, (tt, (tt, (tt, (tt, tt)))))))
   phase-tables (top p) k = k
   phase-tables (inTable p n rs) k = k .0
@@ -74,12 +74,14 @@ module _ (file : List ℕ) where
     abbrev first : Text
     first = firstColumn line
 
+    pub begun-lies : reads (bytes "#BOS") (firstColumn line) ≡ true → SentenceLies file (begun (line .start) (headingIn line))
+    begun-lies e = record { begins = keyword-lies file line stands fit (bytes "#BOS") refl e; line = starts; comment = heading-lies file line stands; words = tt; phrases = tt }
+
     begins-lie : (p : Preamble) (used : List ℕ) → TablesLie (p .tables) → reads (bytes "#BOS") first ≡ true
         → AnswerLies (next (goBegun p (line .start)) (headingOf (p .tables) (λ n. member n used) line))
     unfolding headingOf
     begins-lie p used k e =
-        if-granted AnswerLies bad (goBegun p (line .start)) _ _
-        (k, record { begins = keyword-lies file line stands fit (bytes "#BOS") refl e; line = starts; comment = heading-lies file line stands; words = tt; phrases = tt })
+        if-granted AnswerLies bad (goBegun p (line .start)) _ _ (k, begun-lies e)
 
     behind-lie : (p : Preamble) (used : List ℕ) → TablesLie (p .tables) → AnswerLies (answerBehind line first p used)
     unfolding answerBehind
@@ -129,8 +131,8 @@ module _ (file : List ℕ) where
 
   -- ---- all lines
 
-  abbrev Stands : List ℕ → Phase → Type 0
-  Stands done phase = PhaseLies phase × StartsLine file (length done)
+  abbrev pub LiesSoFar : List ℕ → Phase → Type 0
+  LiesSoFar done phase = PhaseLies phase × StartsLine file (length done)
 
   module _ (done l rest : List ℕ) (parts : file ≡ done ++ (l ++ (newline ∷ rest))) where
     newline-at : AfterNewline file (suc (length done + length l))
@@ -148,18 +150,18 @@ module _ (file : List ℕ) where
         let e : length (done ++ (l ++ (newline ∷ []))) ≡ suc (length done + length l) = omega (arith, length-append done (l ++ (newline ∷ [])), length-append l (newline ∷ [])) in
         inr (subst (AfterNewline file) (sym e) newline-at)
 
-    answered-lies : (a : Answer) → AnswerLies a → Answered Stands (HandedLies file) done l a
+    answered-lies : (a : Answer) → AnswerLies a → LineAnswered LiesSoFar (HandedLies file) done l a
     answered-lies (refuse q) k = tt
     answered-lies (go phase) k = (k, next-line)
     answered-lies (hand p s) k = ((k .0, next-line), record { sentence = k .1; end = newline-at })
 
-    one-line : (phase : Phase) (used : List ℕ) → Stands done phase → Answered Stands (HandedLies file) done l (step phase used (record { start = length done; bytes = l }))
-    one-line phase used k =
+    pub one-lies : (phase : Phase) (used : List ℕ) → LiesSoFar done phase → LineAnswered LiesSoFar (HandedLies file) done l (step phase used (record { start = length done; bytes = l }))
+    one-lies phase used k =
         let line : Text = record { start = length done; bytes = l } in
         answered-lies (step phase used line) (step-lies phase used line (record { front = done; back = newline ∷ rest; parts = parts; place = omega arith }) (k .1) (k .0))
 
-  read-lies : Read file Stands (HandedLies file) (λ done l rest phase used parts o k. one-line done l rest parts phase used k)
-  read-lies = by-lines file Stands (HandedLies file) (λ done l rest phase used parts o k. one-line done l rest parts phase used k) (tt, inl refl)
+  read-lies : ReadByLines file LiesSoFar (HandedLies file) (λ done l rest phase used parts o k. one-lies done l rest parts phase used k)
+  read-lies = by-lines file LiesSoFar (HandedLies file) (λ done l rest phase used parts o k. one-lies done l rest parts phase used k) (tt, inl refl)
 
 -- ---- any file
 

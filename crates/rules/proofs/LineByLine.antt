@@ -1,6 +1,6 @@
 -- An answer, and what is to be so behind it; lines read one after the other, and those of them that are not ignored. By one
 -- step along the lines.
-use Prim.Native.Nat.{ℕ, _+_}
+use Prim.Native.Nat.{ℕ}
 use mathlib.Core.Path.{_≡_, refl, sym, ap, subst}
 use mathlib.Core.Bool.{Bool, true, false}
 use mathlib.Core.Option.{Option, none, some}
@@ -18,6 +18,7 @@ use Rattle.rules.specs.Phases.{Phase, behindSentence, Answer, refuse, go
 use Rattle.rules.specs.GrammarLines.{Legal, LineFits}
 use Rattle.rules.proofs.Takings.{answerAt, answerTo, lineRules, step-answers}
 use Rattle.rules.proofs.RuleLaws.{holdsOf, all-hold, none-broken}
+use Rattle.rules.proofs.AnyLine.{bytesOf}
 use Rattle.rules.proofs.BytesAsSaid.{legal-said, every-said, heededOf}
 use Rattle.rules.proofs.SaidOfLists.{every-each, each-every}
 
@@ -58,9 +59,9 @@ through-then K L f out (hand p s) t = f (behindSentence p) (out ++ (s ∷ [])) t
 
 module _ (E : Phase → List Sentence → Type 0) where
   -- all lines
-  abbrev pub Read : List Text → Phase → List Sentence → Type 0
-  Read [] ph out = E ph out
-  Read (l ∷ ls) ph out = Through (Read ls) out (step ph (numbersIn out) l)
+  abbrev pub ReadsAll : List Text → Phase → List Sentence → Type 0
+  ReadsAll [] ph out = E ph out
+  ReadsAll (l ∷ ls) ph out = Through (ReadsAll ls) out (step ph (numbersIn out) l)
 
   -- the lines that are not ignored
   abbrev pub Takes : List Text → Phase → List Sentence → Type 0
@@ -70,9 +71,6 @@ module _ (E : Phase → List Sentence → Type 0) where
 -- where a file may end
 abbrev pub Accepting : Phase → Type 0
 Accepting ph = atEnd ph ≡ 0
-
-abbrev pub bytesOf : List Text → List (List ℕ)
-bytesOf ts = map (λ (t : Text). t .bytes) ts
 
 abbrev pub heededTexts : List Text → List Text
 heededTexts [] = []
@@ -100,35 +98,35 @@ through-both K L f out (go ph) t = f ph out t
 through-both K L f out (hand p s) t = f (behindSentence p) (out ++ (s ∷ [])) t
 
 module _ (E : Phase → List Sentence → Type 0) where
-  pub read-takes : (ls : List Text) (ph : Phase) (out : List Sentence) → Read E ls ph out → Each Sound ls × Takes E (heededTexts ls) ph out
+  pub read-takes : (ls : List Text) (ph : Phase) (out : List Sentence) → ReadsAll E ls ph out → Each Sound ls × Takes E (heededTexts ls) ph out
   unfolding answerTo
   read-takes [] ph out r = (tt, r)
   read-takes (l ∷ ls) ph out r =
-      let h = through-held (Read E ls) out (answerTo ph (numbersIn out)) (lineRules l) l (subst (Through (Read E ls) out) (step-answers ph (numbersIn out) l) r) in
+      let h = through-held (ReadsAll E ls) out (answerTo ph (numbersIn out)) (lineRules l) l (subst (Through (ReadsAll E ls) out) (step-answers ph (numbersIn out) l) r) in
       let sound : Sound l = record { legal-bytes = every-said legal Legal legal-said (l .bytes) .0 (h .0 .0); short = leb-true (length (l .bytes)) lineLimit (h .0 .1 .0) } in
       by sound (ignored (l .bytes)) (h .1) (read-takes ls)
     where
-      by : Sound l → (t : Bool) → Through (Read E ls) out (pick t (go ph) (answerAt ph (numbersIn out) l (firstColumn l)))
-          → ((ph : Phase) (out : List Sentence) → Read E ls ph out → Each Sound ls × Takes E (heededTexts ls) ph out)
+      by : Sound l → (t : Bool) → Through (ReadsAll E ls) out (pick t (go ph) (answerAt ph (numbersIn out) l (firstColumn l)))
+          → ((ph : Phase) (out : List Sentence) → ReadsAll E ls ph out → Each Sound ls × Takes E (heededTexts ls) ph out)
           → Each Sound (l ∷ ls) × Takes E (pick t (heededTexts ls) (l ∷ heededTexts ls)) ph out
       by sound true t more = let m = more ph out t in ((sound, m .0), m .1)
       by sound false t more =
-          let m = through-both (Read E ls) (Takes E (heededTexts ls)) more out (answerAt ph (numbersIn out) l (firstColumn l)) t in
+          let m = through-both (ReadsAll E ls) (Takes E (heededTexts ls)) more out (answerAt ph (numbersIn out) l (firstColumn l)) t in
           ((sound, m .0), m .1)
 
-  pub takes-read : (ls : List Text) (ph : Phase) (out : List Sentence) → Each Sound ls → Takes E (heededTexts ls) ph out → Read E ls ph out
+  pub takes-read : (ls : List Text) (ph : Phase) (out : List Sentence) → Each Sound ls → Takes E (heededTexts ls) ph out → ReadsAll E ls ph out
   unfolding answerTo
   takes-read [] ph out s t = t
   takes-read (l ∷ ls) ph out s t =
-      subst (Through (Read E ls) out) (sym (step-answers ph (numbersIn out) l))
-      (held-through (Read E ls) out (answerTo ph (numbersIn out)) (lineRules l) l (every-said legal Legal legal-said (l .bytes) .1 (s .0 .legal-bytes), (le-leb (length (l .bytes)) lineLimit (s .0 .short), tt))
+      subst (Through (ReadsAll E ls) out) (sym (step-answers ph (numbersIn out) l))
+      (held-through (ReadsAll E ls) out (answerTo ph (numbersIn out)) (lineRules l) l (every-said legal Legal legal-said (l .bytes) .1 (s .0 .legal-bytes), (le-leb (length (l .bytes)) lineLimit (s .0 .short), tt))
       (by (ignored (l .bytes)) t (λ ph out. takes-read ls ph out (s .1))))
     where
       by : (t : Bool) → Takes E (pick t (heededTexts ls) (l ∷ heededTexts ls)) ph out
-          → ((ph : Phase) (out : List Sentence) → Takes E (heededTexts ls) ph out → Read E ls ph out)
-          → Through (Read E ls) out (pick t (go ph) (answerAt ph (numbersIn out) l (firstColumn l)))
+          → ((ph : Phase) (out : List Sentence) → Takes E (heededTexts ls) ph out → ReadsAll E ls ph out)
+          → Through (ReadsAll E ls) out (pick t (go ph) (answerAt ph (numbersIn out) l (firstColumn l)))
       by true t more = more ph out t
-      by false t more = through-then (Takes E (heededTexts ls)) (Read E ls) more out (answerAt ph (numbersIn out) l (firstColumn l)) t
+      by false t more = through-then (Takes E (heededTexts ls)) (ReadsAll E ls) more out (answerAt ph (numbersIn out) l (firstColumn l)) t
 
   -- lines that are taken come to an end
   pub takes-end : (ls : List Text) (ph : Phase) (out : List Sentence) → Takes E ls ph out → (ph : Phase) × (out : List Sentence) × E ph out

@@ -10,7 +10,7 @@ use mathlib.Core.List.{List, [], _∷_, _++_, append-assoc}
 use lib.ListN.{length, take, drop, getD}
 use lib.Seq.{take-at, drop-at}
 use lib.Dec.{eqb}
-use Rattle.rules.specs.Lists.{pick, bytes, Each}
+use Rattle.rules.specs.Lists.{pick, Each}
 use Rattle.rules.specs.Bytes.{percents}
 use Rattle.rules.specs.Texts.{Text, noText, given, reads, trim, frontBytes, behindFrom, inFront, behind}
 use Rattle.rules.specs.Columns.{Column, columns, column, text, fields, comment}
@@ -27,7 +27,7 @@ use Rattle.rules.proofs.Same.{same-eq}
 use Rattle.rules.proofs.LineFit.{LineFit}
 use Rattle.rules.proofs.AnyLine.{begun-by}
 use Rattle.rules.proofs.FirstColumns.{reads-given}
-use Rattle.rules.proofs.Steps.{opened}
+use Rattle.rules.proofs.Steps.{first-there}
 use Rattle.rules.proofs.TextPlaces.{Part, Loose, Placed, part-part, placed-part, lies, trim-placed, front-part, behind-loose, ColumnIn, columns-in}
 
 -- ---- texts of a line
@@ -195,7 +195,7 @@ module _ (file : List ℕ) (line : Text) (stands : Part 0 file line) where
   -- a line whose first column is a keyword begins with it
   pub keyword-lies : LineFit (line .bytes) → (word : List ℕ) → given (record { start = 0; bytes = word }) ≡ true → reads word (firstColumn line) ≡ true → take (length word) (drop (line .start) file) ≡ word
   keyword-lies fit word g e =
-      let o = opened line fit (reads-given word (firstColumn line) g e) in
+      let o = first-there line fit (reads-given word (firstColumn line) g e) in
       let b = begun-by (line .start) (line .bytes) (o .starts) in
       let same-first : b .first ≡ o .first = ap (λ (l : List Column). getD l 0 (b .first)) (sym (b .form) ∙ o .form) in
       let its : b .first .text .bytes ≡ word = ap (λ (c : Column). c .text .bytes) same-first ∙ sym (ap (λ (t : Text). t .bytes) (o .column)) ∙ same-eq (firstColumn line .bytes) word e in

@@ -20,10 +20,11 @@ use Rattle.rules.proofs.Conjunctions.{false-if-never}
 use Rattle.rules.proofs.EachElement.{each-then, each-map, each-mapped}
 use Rattle.rules.proofs.Elements.{map-append, map-map}
 use Rattle.rules.proofs.ReadLines.{hasNewline, read-part, read-line, read-fault}
+use Rattle.rules.proofs.AnyLine.{bytesOf}
 use Rattle.rules.proofs.BytesAsSaid.{legal-said, every-said, heededOf}
 use Rattle.rules.proofs.SaidOfLists.{and-both-ways, never-both}
 use Rattle.rules.proofs.RefusalNumbers.{FromOne, step-from-one}
-use Rattle.rules.proofs.LineByLine.{numbersIn, Through, Read, Takes, read-takes, takes-read, takes-end, takes-then, heededTexts, heeded-bytes, Accepting, bytesOf}
+use Rattle.rules.proofs.LineByLine.{numbersIn, Through, ReadsAll, Takes, read-takes, takes-read, takes-end, takes-then, heededTexts, heeded-bytes, Accepting}
 
 -- the lines at their places, the first at a
 abbrev pub placed : ℕ → List (List ℕ) → List Text
@@ -79,24 +80,24 @@ module _ (rest : List ℕ) (u : Unended rest) where
       ap (read (fresh a ph hs)) (append-assoc (l ++ (newline ∷ [])) (linesWritten ls) rest ∙ append-assoc l (newline ∷ []) (linesWritten ls ++ rest))
       ∙ read-line (fresh a ph hs) l (linesWritten ls ++ rest) refl refl n
 
-  pub comes-read : (ls : List (List ℕ)) (a : ℕ) (ph : Phase) (hs : List Handed) → Each Unended ls → Comes ls a ph hs → Read (Ends rest) (placed a ls) ph (sentencesOf hs)
+  pub comes-read : (ls : List (List ℕ)) (a : ℕ) (ph : Phase) (hs : List Handed) → Each Unended ls → Comes ls a ph hs → ReadsAll (Ends rest) (placed a ls) ph (sentencesOf hs)
   comes-read [] a ph hs n c = at-the-end a ph hs c
   comes-read (l ∷ ls) a ph hs n c =
       let t : Text = record { start = a; bytes = l } in
-      subst (λ (ns : List ℕ). Through (Read (Ends rest) (placed (suc (a + length l)) ls)) (sentencesOf hs) (step ph ns t)) (numbers-out hs)
+      subst (λ (ns : List ℕ). Through (ReadsAll (Ends rest) (placed (suc (a + length l)) ls)) (sentencesOf hs) (step ph ns t)) (numbers-out hs)
       (by (step ph (numbers hs) t) (step-from-one ph (numbers hs) t)
       (sym (ap (λ (r : Reading). verdict r .number) (one-line l ls a ph hs (n .0))) ∙ c)
       (λ ph hs c. comes-read ls (suc (a + length l)) ph hs (n .1) c))
     where
       by : (w : Answer) → FromOne w → verdict (read (ended (line-end l a ph hs) w) (linesWritten ls ++ rest)) .number ≡ 0
-          → ((ph : Phase) (hs : List Handed) → Comes ls (suc (a + length l)) ph hs → Read (Ends rest) (placed (suc (a + length l)) ls) ph (sentencesOf hs))
-          → Through (Read (Ends rest) (placed (suc (a + length l)) ls)) (sentencesOf hs) w
+          → ((ph : Phase) (hs : List Handed) → Comes ls (suc (a + length l)) ph hs → ReadsAll (Ends rest) (placed (suc (a + length l)) ls) ph (sentencesOf hs))
+          → Through (ReadsAll (Ends rest) (placed (suc (a + length l)) ls)) (sentencesOf hs) w
       by (refuse q) one c more =
           let e = read-fault (ended (line-end l a ph hs) (refuse q)) (record { number = q .number; place = a }) (linesWritten ls ++ rest) refl in
           absurd (omega (arith, sym (ap (λ (r : Reading). verdict r .number) e) ∙ c))
       by (go ph') one c more = more ph' hs c
       by (hand p s) one c more =
-          subst (Read (Ends rest) (placed (suc (a + length l)) ls) (behindSentence p)) (one-more-out hs (record { end = suc (a + length l); sentence = s }))
+          subst (ReadsAll (Ends rest) (placed (suc (a + length l)) ls) (behindSentence p)) (one-more-out hs (record { end = suc (a + length l); sentence = s }))
           (more (behindSentence p) (hs ++ (record { end = suc (a + length l); sentence = s } ∷ [])) c)
 
 -- a reading that may end here, and of which F holds
@@ -105,10 +106,10 @@ Reaches F r = (verdict r .number ≡ 0) × F (r .phase) (sentencesOf (r .handed)
 
 module _ (F : Phase → List Sentence → Type 0) where
   -- a file may end here, and F holds
-  abbrev pub Ended : Phase → List Sentence → Type 0
-  Ended ph out = Accepting ph × F ph out
+  abbrev pub MayEnd : Phase → List Sentence → Type 0
+  MayEnd ph out = Accepting ph × F ph out
 
-  pub read-comes : (ls : List (List ℕ)) (a : ℕ) (ph : Phase) (hs : List Handed) → Each Unended ls → Read Ended (placed a ls) ph (sentencesOf hs)
+  pub read-comes : (ls : List (List ℕ)) (a : ℕ) (ph : Phase) (hs : List Handed) → Each Unended ls → ReadsAll MayEnd (placed a ls) ph (sentencesOf hs)
       → Reaches F (read (fresh a ph hs) (linesWritten ls))
   read-comes [] a ph hs n c = c
   read-comes (l ∷ ls) a ph hs n c =
@@ -116,17 +117,17 @@ module _ (F : Phase → List Sentence → Type 0) where
       let e = ap (read (fresh a ph hs)) (append-assoc l (newline ∷ []) (linesWritten ls)) ∙ read-line (fresh a ph hs) l (linesWritten ls) refl refl (n .0) in
       subst (Reaches F) (sym e)
       (by (step ph (numbers hs) t)
-      (subst (λ (ns : List ℕ). Through (Read Ended (placed (suc (a + length l)) ls)) (sentencesOf hs) (step ph ns t)) (sym (numbers-out hs)) c)
+      (subst (λ (ns : List ℕ). Through (ReadsAll MayEnd (placed (suc (a + length l)) ls)) (sentencesOf hs) (step ph ns t)) (sym (numbers-out hs)) c)
       (λ ph hs c. read-comes ls (suc (a + length l)) ph hs (n .1) c))
     where
-      by : (w : Answer) → Through (Read Ended (placed (suc (a + length l)) ls)) (sentencesOf hs) w
-          → ((ph : Phase) (hs : List Handed) → Read Ended (placed (suc (a + length l)) ls) ph (sentencesOf hs) → Reaches F (read (fresh (suc (a + length l)) ph hs) (linesWritten ls)))
+      by : (w : Answer) → Through (ReadsAll MayEnd (placed (suc (a + length l)) ls)) (sentencesOf hs) w
+          → ((ph : Phase) (hs : List Handed) → ReadsAll MayEnd (placed (suc (a + length l)) ls) ph (sentencesOf hs) → Reaches F (read (fresh (suc (a + length l)) ph hs) (linesWritten ls)))
           → Reaches F (read (ended (line-end [] refl l a ph hs) w) (linesWritten ls))
       by (refuse q) t more = absurd t
       by (go ph') t more = more ph' hs t
       by (hand p s) t more =
           more (behindSentence p) (hs ++ (record { end = suc (a + length l); sentence = s } ∷ []))
-          (subst (Read Ended (placed (suc (a + length l)) ls) (behindSentence p)) (sym (one-more-out hs (record { end = suc (a + length l); sentence = s }))) t)
+          (subst (ReadsAll MayEnd (placed (suc (a + length l)) ls) (behindSentence p)) (sym (one-more-out hs (record { end = suc (a + length l); sentence = s }))) t)
 
 -- ---- a file's bytes are lines and a rest that no newline ends
 
@@ -194,9 +195,9 @@ accepted-takes f z =
       taken = takes-then (Ends (l .rest)) (λ ph out. Accepting ph) (λ ph out e. e .1) (heededTexts (placed 0 (l .lines))) start [] (t .1);
     }
 
-pub takes-accepted : (F : Phase → List Sentence → Type 0) (ls : List (List ℕ)) → Each LineFits ls → Takes (Ended F) (heededTexts (placed 0 ls)) start []
+pub takes-accepted : (F : Phase → List Sentence → Type 0) (ls : List (List ℕ)) → Each LineFits ls → Takes (MayEnd F) (heededTexts (placed 0 ls)) start []
     → Reaches F (read begin (linesWritten ls))
 takes-accepted F ls s t =
     read-comes F ls 0 start [] (each-then LineFits Unended (λ l k. legal-unended l (every-said legal Legal legal-said l .1 (k .legal-bytes))) ls s)
-    (takes-read (Ended F) (placed 0 ls) start []
+    (takes-read (MayEnd F) (placed 0 ls) start []
     (each-mapped (λ (t : Text). t .bytes) LineFits (placed 0 ls) (rw (placed-bytes 0 ls) s)) t)

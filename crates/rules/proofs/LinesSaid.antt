@@ -16,7 +16,7 @@ use Rattle.rules.specs.Texts.{Text, noText, trim}
 use Rattle.rules.specs.Columns.{Column, columnsFrom, columns, written, fields, comment, text}
 use Rattle.rules.specs.Numbers.{sentenceNumber, originId, date, phraseNumber, number, signedId, value}
 use Rattle.rules.specs.Tables.{Tables}
-use Rattle.rules.specs.Sentences.{Sentence, SoFar, endRules, gapless, parented}
+use Rattle.rules.specs.Sentences.{Sentence, SoFar, headingWritten, headingIn, endRules, gapless, parented}
 use Rattle.rules.specs.Keywords.{firstColumn, startsPhrase}
 use Rattle.rules.specs.Tidy.{digitsOf, idDigits}
 use Rattle.rules.specs.GrammarLines.{White}
@@ -24,7 +24,7 @@ use Rattle.rules.specs.GrammarColumns.{Begins, no-column, one-column, Co
 use Rattle.rules.specs.AsWritten.{LineSaid, HeadSaid, columnsBehind, WordSaid, PhraseSaid}
 use Rattle.rules.proofs.Conjunctions.{and-left, and-right}
 use Rattle.rules.proofs.SaidOfLists.{never-both}
-use Rattle.rules.proofs.TestsAsFacts.{same-is}
+use Rattle.rules.proofs.TestsAsFacts.{same-is, good-some}
 use Rattle.rules.proofs.AnyLine.{bytesOf}
 use Rattle.rules.proofs.ColumnsAreRuns.{one-run, white-none, columns-whole}
 use Rattle.rules.proofs.StrippedTexts.{stripped-said}
@@ -33,14 +33,14 @@ use Rattle.rules.proofs.BareColumns.{allColumns, columnAt, restBehind}
 use Rattle.rules.proofs.PlaceFree.{column-there, count-columns}
 use Rattle.rules.proofs.KeywordsAsSaid.{column-of-all, two-columns}
 use Rattle.rules.proofs.Decimal.{id-one-writing}
-use Rattle.rules.proofs.NumbersAgain.{good-some, number-again}
+use Rattle.rules.proofs.Elements.{none-given}
+use Rattle.rules.proofs.NumbersAgain.{number-again}
 use Rattle.rules.proofs.RulesHeld.{Held}
 use Rattle.rules.proofs.LineFit.{LineFit}
 use Rattle.rules.proofs.FirstColumns.{phrase-given, hash-form}
-use Rattle.rules.proofs.Steps.{opened}
+use Rattle.rules.proofs.Steps.{first-there}
 use Rattle.rules.proofs.NodesKept.{columns-again}
 use Rattle.rules.proofs.NodeLines.{WordHolds, wordRead, PhraseHolds, phraseRead}
-use Rattle.rules.proofs.Headings.{headingRules, headingRead}
 use Rattle.rules.proofs.NumberRules.{dropped}
 
 -- ---- any line
@@ -88,7 +88,7 @@ module _ (line : Text) where
   pub phrase-said : (format : ℕ) (ts : Tables) (so : SoFar) (k : ℕ) → LineFit (line .bytes) → startsPhrase (firstColumn line) ≡ true → PhraseHolds format ts so line k
       → PhraseSaid (phraseRead format ts so line k) (line .bytes)
   phrase-said format ts so k fit starts h =
-      let o = opened line fit (phrase-given (firstColumn line) starts) in
+      let o = first-there line fit (phrase-given (firstColumn line) starts) in
       let first : text fs 0 .bytes ≡ firstColumn line .bytes = ap (λ (l : List Text). text l 0 .bytes) (o .fields) ∙ sym (ap (λ (t : Text). t .bytes) (o .column)) in
       let hash : text fs 0 .bytes ≡ 35 ∷ drop 1 (text fs 0 .bytes) = first ∙ hash-form (firstColumn line .bytes) starts ∙ ap (λ (l : List ℕ). 35 ∷ drop 1 l) (sym first) in
       let name : text fs 0 .bytes ≡ 35 ∷ digitsOf k = hash ∙ ap (λ (l : List ℕ). 35 ∷ l) (sym (number-again phraseNumber (drop 1 (text fs 0 .bytes)) k (h .number))) in
@@ -110,11 +110,11 @@ take-five (a ∷ b ∷ c ∷ []) h = absurd (omega arith)
 take-five (a ∷ b ∷ c ∷ d ∷ []) h = absurd (omega arith)
 take-five (a ∷ b ∷ c ∷ d ∷ e ∷ xs) h = refl
 
-module _ (ts : Tables) (used : ℕ → Bool) (line : Text) where
+module _ (line : Text) where
   its-column : (n : ℕ) → getD (allColumns (line .bytes)) n [] ≡ written (columns line) n .bytes
   its-column n = column-of-all (columnsFrom 0 (line .bytes)) n ∙ sym (column-there line n)
 
-  pub head-said : columnAt 0 (line .bytes) ≡ bytes "#BOS" → Held (headingRules ts used line) → HeadSaid (headingRead ts used line) (line .bytes)
+  pub head-said : columnAt 0 (line .bytes) ≡ bytes "#BOS" → Held (headingWritten line) → HeadSaid (headingIn line) (line .bytes)
   unfolding fields
   head-said keyword h =
       let l = line .bytes in
@@ -129,12 +129,12 @@ module _ (ts : Tables) (used : ℕ → Bool) (line : Text) where
       let n3 = number-again date (written cs 3 .bytes) _ (good-some (number date (written cs 3 .bytes)) (h .1 .1 .1 .0)) in
       let n4 = number-again originId (written cs 4 .bytes) _ (good-some (number originId (written cs 4 .bytes)) (h .1 .1 .1 .1 .0)) in
       let five : take 5 (allColumns l)
-      ≡ bytes "#BOS" ∷ digitsOf (headingRead ts used line .number) ∷ idDigits (headingRead ts used line .editor1) ∷ digitsOf (headingRead ts used line .date) ∷ digitsOf (headingRead ts used line .origin) ∷ [] =
+      ≡ bytes "#BOS" ∷ digitsOf (headingIn line .number) ∷ idDigits (headingIn line .editor1) ∷ digitsOf (headingIn line .date) ∷ digitsOf (headingIn line .origin) ∷ [] =
       take-five (allColumns l) more ∙ rw (its-column 0, its-column 1, its-column 2, its-column 3, its-column 4, n1, n2, n3, n4) (ap (λ (x : List ℕ). x ∷ written cs 1 .bytes ∷ written cs 2 .bytes ∷ written cs 3 .bytes ∷ written cs 4 .bytes ∷ []) (column-there line 0 ∙ keyword)) in
       let sized : length (take 5 (allColumns l)) ≡ 5 = length-take-le 5 (allColumns l) (omega arith) in
       let gone : drop 5 cs ≡ columnsFrom (d .to) (restBehind 4 l .bytes) = ap (λ (n : ℕ). drop n cs) (sym sized) ∙ d .are in
       let none-left : bytesOf (fields (columnsFrom (d .to) (restBehind 4 l .bytes))) ≡ [] =
-      ap (λ (ds : List Column). bytesOf (fields ds)) (sym gone) ∙ ap bytesOf (nothing-of (fields (drop 5 cs)) (and-right (ltb 4 (length cs)) (empty (fields (drop 5 cs))) seven)) in
+      ap (λ (ds : List Column). bytesOf (fields ds)) (sym gone) ∙ ap bytesOf (none-given (fields (drop 5 cs)) (and-right (ltb 4 (length cs)) (empty (fields (drop 5 cs))) seven)) in
       record {
         rest = restBehind 4 l .bytes;
         columns = subst (λ (xs : List (List ℕ)). Begins l xs (restBehind 4 l .bytes)) five b;
@@ -142,10 +142,6 @@ module _ (ts : Tables) (used : ℕ → Bool) (line : Text) where
             subst (λ (t : List ℕ). LineSaid (restBehind 4 l .bytes) [] t) (ap (λ (ds : List Column). comment ds .bytes) (sym gone))
             (subst (λ (xs : List (List ℕ)). LineSaid (restBehind 4 l .bytes) xs (comment (columnsFrom (d .to) (restBehind 4 l .bytes)) .bytes)) none-left (line-said (d .to) (restBehind 4 l .bytes)));
       }
-    where
-      nothing-of : (ts : List Text) → empty ts ≡ true → ts ≡ []
-      nothing-of [] e = refl
-      nothing-of (t ∷ ts) e = absurd (never-both false e refl)
 
 -- ---- #EOS
 

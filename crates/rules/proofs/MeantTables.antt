@@ -85,16 +85,16 @@ again-by-id : (o p : Option (List Row)) → meantRows o ≡ meantRows (byId p) �
 again-by-id o p e =
     meant-by-id o ∙ ap byId (e ∙ meant-by-id p) ∙ by-id-twice (meantRows p) ∙ sym (meant-by-id p)
 
-pub same-meaning : (us ts : Tables) → map meantRows us ≡ meantTables ts → meantTables us ≡ meantTables ts
-same-meaning [] [] e = refl
-same-meaning [] (o ∷ []) e = e
-same-meaning [] (o ∷ p ∷ ts) e = e
-same-meaning (u ∷ []) [] e = cc
-same-meaning (u ∷ []) (o ∷ []) e = let a : meantRows u ≡ meantRows (byId o) = cc in ap (λ (x : Option (List Row)). x ∷ []) (again-by-id u o a)
-same-meaning (u ∷ []) (o ∷ p ∷ ts) e = cc
-same-meaning (u ∷ v ∷ us) [] e = cc
-same-meaning (u ∷ v ∷ us) (o ∷ []) e = cc
-same-meaning (u ∷ v ∷ us) (o ∷ p ∷ ts) e =
+pub meant-again : (us ts : Tables) → map meantRows us ≡ meantTables ts → meantTables us ≡ meantTables ts
+meant-again [] [] e = refl
+meant-again [] (o ∷ []) e = e
+meant-again [] (o ∷ p ∷ ts) e = e
+meant-again (u ∷ []) [] e = cc
+meant-again (u ∷ []) (o ∷ []) e = let a : meantRows u ≡ meantRows (byId o) = cc in ap (λ (x : Option (List Row)). x ∷ []) (again-by-id u o a)
+meant-again (u ∷ []) (o ∷ p ∷ ts) e = cc
+meant-again (u ∷ v ∷ us) [] e = cc
+meant-again (u ∷ v ∷ us) (o ∷ []) e = cc
+meant-again (u ∷ v ∷ us) (o ∷ p ∷ ts) e =
     let a : meantRows u ≡ meantRows (byId o) = cc in
     let b : meantRows v ≡ meantRows (byId p) = cc in
     let c : map meantRows us ≡ map meantRows ts = cc in

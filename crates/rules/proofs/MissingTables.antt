@@ -16,28 +16,28 @@ use Rattle.rules.specs.Refusals.{Clean, AtItsEnd, EndRule}
 use Rattle.rules.proofs.Conjunctions.{false-if-never}
 use Rattle.rules.proofs.SaidOfLists.{and-both-ways, true-or-not, never-both}
 use Rattle.rules.proofs.MeantTables.{present-meant}
-use Rattle.rules.proofs.Kept.{both, Kept}
+use Rattle.rules.proofs.Kept.{bothPresent, Kept}
 use Rattle.rules.proofs.KeptReading.{bares, file-kept}
 use Rattle.rules.proofs.CleanFronts.{survey-is, ends-by}
 use Rattle.rules.proofs.LastLine.{front-lines}
 use Rattle.rules.proofs.BadNumbers.{at-head}
 
-not-present : (ts : Tables) → (table 0 ts ≡ none) ⊎ (table 1 ts ≡ none) → both ts ≡ true → ⊥
+not-present : (ts : Tables) → (table 0 ts ≡ none) ⊎ (table 1 ts ≡ none) → bothPresent ts ≡ true → ⊥
 not-present ts l e = by l (and-both-ways (present origins ts) (present editors ts) .0 e)
   where
     by : (table 0 ts ≡ none) ⊎ (table 1 ts ≡ none) → (present origins ts ≡ true) × (present editors ts ≡ true) → ⊥
     by (inl z) p = never-both true refl (sym (p .0) ∙ ap there z)
     by (inr z) p = never-both true refl (sym (p .1) ∙ ap there z)
 
-is-absent : (t : Option (List Row)) → there t ≡ false → t ≡ none
+pub is-absent : (t : Option (List Row)) → there t ≡ false → t ≡ none
 is-absent none e = refl
 is-absent (some rs) e = absurd (never-both true refl e)
 
-lacks : (ts : Tables) → both ts ≡ false → (table 0 ts ≡ none) ⊎ (table 1 ts ≡ none)
+lacks : (ts : Tables) → bothPresent ts ≡ false → (table 0 ts ≡ none) ⊎ (table 1 ts ≡ none)
 lacks ts e = by (true-or-not (present origins ts)) (true-or-not (present editors ts))
   where
     by : (present origins ts ≡ true) ⊎ (present origins ts ≡ false) → (present editors ts ≡ true) ⊎ (present editors ts ≡ false) → (table 0 ts ≡ none) ⊎ (table 1 ts ≡ none)
-    by (inl p) (inl q) = absurd (never-both (both ts) (and-both-ways (present origins ts) (present editors ts) .1 (p, q)) e)
+    by (inl p) (inl q) = absurd (never-both (bothPresent ts) (and-both-ways (present origins ts) (present editors ts) .1 (p, q)) e)
     by (inl p) (inr q) = inr (is-absent (table 1 ts) q)
     by (inr p) q = inl (is-absent (table 0 ts) p)
 
@@ -50,7 +50,7 @@ module _ (front : List ℕ) (c : Clean front) where
 
   end-numbers : (phase : Phase) → AtItsEnd (atEnd phase)
   end-numbers start = inr (inl refl)
-  end-numbers (top p) = by (both (p .tables))
+  end-numbers (top p) = by (bothPresent (p .tables))
     where
       by : (t : Bool) → AtItsEnd (pick t 0 13)
       by true = inl refl
@@ -62,7 +62,7 @@ module _ (front : List ℕ) (c : Clean front) where
   thirteen : (phase : Phase) → Kept phase (bares (read begin front .handed)) → (atEnd phase ≡ 9 → ⊥) → (atEnd phase ≡ 23 → ⊥)
       → (atEnd phase ≡ 13) ↔ ((table 0 (tablesAt phase) ≡ none) ⊎ (table 1 (tablesAt phase) ≡ none))
   thirteen start k a b = absurd (a refl)
-  thirteen (top p) k a b = (λ e. lacks (p .tables) (which (both (p .tables)) e), λ l. rw (false-if-never (both (p .tables)) (not-present (p .tables) l)))
+  thirteen (top p) k a b = (λ e. lacks (p .tables) (which (bothPresent (p .tables)) e), λ l. rw (false-if-never (bothPresent (p .tables)) (not-present (p .tables) l)))
     where
       which : (t : Bool) → _≡_ {A = ℕ} (pick t 0 13) 13 → t ≡ false
       which true e = absurd (omega arith)
@@ -70,7 +70,7 @@ module _ (front : List ℕ) (c : Clean front) where
   thirteen (inTable p n rs) k a b = absurd (b refl)
   thirteen (inSentence p s) k a b = absurd (b refl)
   thirteen (behindSentence p) k a b =
-      let there-both : both (p .tables) ≡ true = sym (ap₂ _&&_ (present-meant origins (p .tables)) (present-meant editors (p .tables))) ∙ k .both in
+      let there-both : bothPresent (p .tables) ≡ true = sym (ap₂ _&&_ (present-meant origins (p .tables)) (present-meant editors (p .tables))) ∙ k .both in
       (λ e. absurd (omega arith), λ l. absurd (not-present (p .tables) l there-both))
 
   pub missing-tables : EndRule front

@@ -8,13 +8,13 @@ use Rattle.rules.specs.Bytes.{newline, percents}
 use Rattle.rules.specs.Numbers.{sentenceNumber, originId, date, formatNumber, phraseNumber, fileLimit, lineLimit, rowLimit, wordLimit, edgeLimit}
 use Rattle.rules.specs.Tables.{origins, editors, wordTags, morphTags, nodeTags, edgeTags, secEdgeTags, tableNames, dashes, unknown, tagLimit}
 use Rattle.rules.specs.GrammarNumbers.{sentenceRange, originRange, dateRange, formatRange, phraseRange, fileBytes, lineBytes, tableRows, sentenceWords, sentenceEdges, tagBytes}
-use Rattle.rules.specs.GrammarNames.{lineEnd, commentSign, noTag, unknownTag, titles, ofOrigin, ofEditor, ofWordtag, ofMorphtag, ofNodetag, ofEdgetag, ofSecedgetag}
-use Rattle.rules.proofs.NumeralsAsSaid.{rangeOf}
+use Rattle.rules.specs.GrammarNames.{endOfLine, commentSign, noTag, unknownTag, titles, ofOrigin, ofEditor, ofWordtag, ofMorphtag, ofNodetag, ofEdgetag, ofSecedgetag}
+use Rattle.rules.proofs.NumeralsAsSaid.{rangeOfKind}
 
 pub record NamesSaid : Type 0 where
   pub letters : bytes "ABCDEFGHIJKLMNOPQRSTUVWXYZ" ≡ counting 65 26
   pub signs : bytes "#%-1" ≡ 35 ∷ 37 ∷ 45 ∷ 49 ∷ []
-  pub line-end : newline ≡ lineEnd
+  pub line-end : newline ≡ endOfLine
   pub comment-sign : percents ≡ commentSign
   pub no-tag : dashes ≡ noTag
   pub unknown-tag : unknown ≡ unknownTag
@@ -47,11 +47,11 @@ names-said =
     }
 
 pub record LimitsSaid : Type 0 where
-  pub sentence-numbers : rangeOf sentenceNumber ≡ sentenceRange
-  pub origin-ids : rangeOf originId ≡ originRange
-  pub dates : rangeOf date ≡ dateRange
-  pub formats : rangeOf formatNumber ≡ formatRange
-  pub phrases : rangeOf phraseNumber ≡ phraseRange
+  pub sentence-numbers : rangeOfKind sentenceNumber ≡ sentenceRange
+  pub origin-ids : rangeOfKind originId ≡ originRange
+  pub dates : rangeOfKind date ≡ dateRange
+  pub formats : rangeOfKind formatNumber ≡ formatRange
+  pub phrases : rangeOfKind phraseNumber ≡ phraseRange
   pub file : fileLimit ≡ fileBytes
   pub line : lineLimit ≡ lineBytes
   pub rows : rowLimit ≡ tableRows

@@ -13,13 +13,13 @@ use Rattle.rules.specs.Sentences.{Edge, Node, listed, gapless, parented}
 use Rattle.rules.specs.Highest.{largest, edgeParent, highestParent}
 use Rattle.rules.proofs.Conjunctions.{and-left, and-right, every-first, every-rest}
 use Rattle.rules.proofs.Largest.{larger-below, largest-below}
-use Rattle.rules.proofs.NoGap.{Numbered, listed-is}
+use Rattle.rules.proofs.NoGap.{NewNumbers, listed-is}
 
 -- parents as lines are read: 0 or 500 at least, and secondary parents 500 at least
 abbrev pub climbing : Node → Bool
 climbing n = (eqb (n .parent) 0 || leb 500 (n .parent)) && every (λ (e : Edge). leb 500 (e .parent)) (n .secondary)
 
-module _ (ps : List Node) (known : Numbered ps) (whole : gapless ps ≡ true) where
+module _ (ps : List Node) (known : NewNumbers ps) (whole : gapless ps ≡ true) where
   abbrev below : ℕ → Bool
   below n = leb n (499 + length ps)
 

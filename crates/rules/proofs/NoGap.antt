@@ -14,7 +14,7 @@ use Rattle.rules.specs.Highest.{larger, topmost, highestPhrase}
 use Rattle.rules.proofs.Conjunctions.{and-left, and-right, and-both, false-if-never, or-found, every-append}
 use Rattle.rules.proofs.Counting.{length-counting}
 use Rattle.rules.proofs.Largest.{larger-left, larger-right, larger-assoc}
-use Rattle.rules.proofs.DifferentNumbers.{both-ways, distinct, distinct-added, among, no-more, every-member, every-each, counting-told, counting-inside, counting-distinct}
+use Rattle.rules.proofs.DifferentNumbers.{both-ways, distinct, distinct-added, among, no-more, every-member, every-of-members, counting-told, counting-inside, counting-distinct}
 
 -- ---- the highest of numbers from 500 on
 
@@ -78,7 +78,7 @@ module _ (ns : List ℕ) (low : fromPhrases ns ≡ true) (apart : distinct ns �
       by false q = omega (arith, ltb-false (499 + length ns) (topmost ns) q, no-lower e)
 
   top-filled : topmost ns ≡ 499 + length ns → filled ns ≡ true
-  top-filled e = every-each (among ns) (counting 500 (length ns)) (λ k m. by k m (member k ns) refl)
+  top-filled e = every-of-members (among ns) (counting 500 (length ns)) (λ k m. by k m (member k ns) refl)
     where
       inside : (k : ℕ) → member k ns ≡ true → member k (counting 500 (length ns)) ≡ true
       inside k m = let p = in-range k m in counting-inside k 500 (length ns) (p .0) (omega (arith, p .1))
@@ -88,7 +88,7 @@ module _ (ns : List ℕ) (low : fromPhrases ns ≡ true) (apart : distinct ns �
       by k m false q =
           let more = no-more (k ∷ ns) (counting 500 (length ns))
           (and-both (not (member k ns)) (distinct ns) (ap not q) apart)
-          (and-both (among (counting 500 (length ns)) k) (every (among (counting 500 (length ns))) ns) m (every-each (among (counting 500 (length ns))) ns inside)) in
+          (and-both (among (counting 500 (length ns)) k) (every (among (counting 500 (length ns))) ns) m (every-of-members (among (counting 500 (length ns))) ns inside)) in
           absurd (omega (arith, more, length-counting 500 (length ns)))
 
   filled-is : filled ns ≡ eqb (topmost ns) (499 + length ns)
@@ -110,7 +110,7 @@ abbrev pub phraseNumbers : List Node → List ℕ
 phraseNumbers ps = map (λ (p : Node). p .number) ps
 
 -- phrases as lines are read: each number is 500 at least, and was not listed before
-pub record Numbered (ps : List Node) : Type 0 where
+pub record NewNumbers (ps : List Node) : Type 0 where
   pub low : fromPhrases (phraseNumbers ps) ≡ true
   pub apart : distinct (phraseNumbers ps) ≡ true
 
@@ -118,14 +118,14 @@ pub listed-member : (ps : List Node) (n : ℕ) → listed ps n ≡ member n (phr
 listed-member [] n = refl
 listed-member (p ∷ ps) n = ap (λ (b : Bool). eqb n (p .number) || b) (listed-member ps n)
 
-pub none-numbered : Numbered []
+pub none-numbered : NewNumbers []
 none-numbered = record { low = refl; apart = refl }
 
 numbers-added : (ps : List Node) (p : Node) → phraseNumbers (ps ++ (p ∷ [])) ≡ phraseNumbers ps ++ (p .number ∷ [])
 numbers-added [] p = refl
 numbers-added (q ∷ ps) p = ap (λ (ns : List ℕ). q .number ∷ ns) (numbers-added ps p)
 
-pub numbered-added : (ps : List Node) (p : Node) → Numbered ps → 500 ≤ p .number → listed ps (p .number) ≡ false → Numbered (ps ++ (p ∷ []))
+pub numbered-added : (ps : List Node) (p : Node) → NewNumbers ps → 500 ≤ p .number → listed ps (p .number) ≡ false → NewNumbers (ps ++ (p ∷ []))
 numbered-added ps p known h new =
     record {
       low = rw (numbers-added ps p) (every-append (leb 500) (phraseNumbers ps) (p .number ∷ []) (known .low) (rw (le-leb 500 (p .number) h)));
@@ -147,7 +147,7 @@ every-same : (f g : ℕ → Bool) → ((n : ℕ) → f n ≡ g n) → (ns : List
 every-same f g e [] = refl
 every-same f g e (n ∷ ns) = rw (e n, every-same f g e ns)
 
-module _ (ps : List Node) (known : Numbered ps) where
+module _ (ps : List Node) (known : NewNumbers ps) where
   filled-gapless : gapless ps ≡ filled (phraseNumbers ps)
   filled-gapless =
       every-same (listed ps) (among (phraseNumbers ps)) (listed-member ps) (counting 500 (length ps))

@@ -35,7 +35,7 @@ module _ (p : Preamble) where
 
   -- ---- one line
 
-  abbrev Keeps : Answer → Type 0
+  abbrev pub Keeps : Answer → Type 0
   Keeps (refuse r) = Unit
   Keeps (go phase) = Late phase
   Keeps (hand q s) = q ≡ p
@@ -77,7 +77,7 @@ module _ (p : Preamble) where
   line-keeps (inSentence q s) l used line first = among-keeps q l line first s
   line-keeps (behindSentence q) l used line first = behind-keeps q l line first used
 
-  step-keeps : (phase : Phase) → Late phase → (used : List ℕ) (line : Text) → Keeps (step phase used line)
+  pub step-keeps : (phase : Phase) → Late phase → (used : List ℕ) (line : Text) → Keeps (step phase used line)
   unfolding answerTo
   step-keeps phase l used line =
       subst Keeps (sym (step-answers phase used line)) (keeps-next (answerTo phase used)

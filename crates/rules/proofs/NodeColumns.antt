@@ -3,7 +3,7 @@
 use Prim.Native.Nat.{ℕ, _≤_}
 use native.Mathlib.Omega.{arith}
 use mathlib.Core.Path.{_≡_, refl, ap}
-use mathlib.Core.Bool.{true, false, false≢true}
+use mathlib.Core.Bool.{true, false≢true}
 use mathlib.Core.List.{List, [], _∷_, map}
 use lib.ListN.{length, drop}
 use lib.Dec.{leb}
@@ -15,8 +15,8 @@ use Rattle.rules.specs.Numbers.{value}
 use Rattle.rules.specs.Sentences.{Edge, Node}
 use Rattle.rules.specs.Nodes.{Pair, pairs, paired, secondaryParent, parentField, itsTag, itsMorphology, itsEdge, shaped, itsPairs}
 use Rattle.rules.specs.GrammarNodes.{EdgeSaid, NodeLine, pairColumns, nodeColumns}
+use Rattle.rules.proofs.AnyLine.{bytesOf}
 use Rattle.rules.proofs.SaidOfLists.{and-both-ways}
-use Rattle.rules.proofs.LineByLine.{bytesOf}
 
 -- ---- pairs
 

@@ -9,19 +9,19 @@ use lib.ListN.{length, drop}
 use lib.Dec.{ltb}
 use borrow.Author.Tests.{ltb-true, leb-true, lt-ltb, le-leb}
 use Rattle.rules.specs.Lists.{every}
-use Rattle.rules.specs.Texts.{Text, noText}
+use Rattle.rules.specs.Texts.{Text, noText, behindHash}
 use Rattle.rules.specs.Columns.{columns, text, fields, comment}
 use Rattle.rules.specs.Numbers.{wordLimit, edgeLimit, phraseNumber, number, good, value}
 use Rattle.rules.specs.Rules.{Rule, rule, granted}
 use Rattle.rules.specs.Tables.{Tables, wordTags, nodeTags}
 use Rattle.rules.specs.Sentences.{Node, SoFar}
-use Rattle.rules.specs.Nodes.{itsPairs, nodeOf, shaped, parentsWritten, tagsShort, tagsKnown, parentsRise, roomy, wordOf, behindHash, phraseOf}
+use Rattle.rules.specs.Nodes.{itsPairs, nodeOf, shaped, parentsWritten, tagsShort, tagsKnown, parentsRise, roomy, wordOf, phraseOf}
 use Rattle.rules.specs.Phases.{Answer, refuse, next}
 use Rattle.rules.proofs.Conjunctions.{and-left, and-right, not-true, every-append, every-front, every-back}
 use Rattle.rules.proofs.RuleLaws.{holdsOf, holds-granted}
-use Rattle.rules.proofs.NumbersAgain.{good-some, some-good}
 use Rattle.rules.proofs.PlacelessNodes.{NodeHolds}
 use Rattle.rules.proofs.Steps.{next-checked}
+use Rattle.rules.proofs.TestsAsFacts.{good-some, some-good}
 use Rattle.rules.proofs.RefusalNumbers.{node-numbered}
 
 -- ---- five lists of rules

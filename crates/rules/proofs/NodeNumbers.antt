@@ -8,7 +8,7 @@ use mathlib.Core.List.{List, [], _∷_, _++_, map}
 use lib.ListN.{length, length-map}
 use lib.Dec.{leb, eqb}
 use borrow.Author.Tests.{eqb-true, eq-eqb, ne-eqb, le-leb}
-use Rattle.rules.specs.Lists.{every, member, Each}
+use Rattle.rules.specs.Lists.{every, member, Each, pick}
 use Rattle.rules.specs.Numbers.{phraseNumber, wordLimit}
 use Rattle.rules.specs.Tables.{Tables}
 use Rattle.rules.specs.Sentences.{Node, Sentence, listed}
@@ -21,10 +21,10 @@ use Rattle.rules.proofs.Conjunctions.{and-both, or-left, or-right}
 use Rattle.rules.proofs.EachElement.{each-then, each-joined, each-mapped-then}
 use Rattle.rules.proofs.Sorting.{Distinct, has}
 use Rattle.rules.proofs.DifferentNumbers.{distinct}
-use Rattle.rules.proofs.NoGap.{phraseNumbers, Numbered, listed-member}
+use Rattle.rules.proofs.NoGap.{phraseNumbers, NewNumbers, listed-member}
 use Rattle.rules.proofs.NumbersAgain.{number-range}
 use Rattle.rules.proofs.NodesKept.{PhraseKept}
-use Rattle.rules.proofs.SentencesKept.{Counted, bareSentence, SentenceKept, listed-bare}
+use Rattle.rules.proofs.SentencesKept.{CountedFrom, bareSentence, SentenceKept, listed-bare}
 use Rattle.rules.proofs.HandedKept.{handed-kept}
 
 -- a phrase's number
@@ -46,6 +46,9 @@ all-apart [] d = refl
 all-apart (p ∷ ps) d =
     and-both (not (member (p .number) (phraseNumbers ps))) (distinct (phraseNumbers ps)) (ap not (sym (listed-member ps (p .number)) ∙ d .0)) (all-apart ps (d .1))
 
+pub numbered-apart : (ps : List Node) → Each PhraseNumbered ps → Distinct nodeNumber ps → NewNumbers ps
+numbered-apart ps a d = record { low = all-low ps a; apart = all-apart ps d }
+
 pub distinct-placed : (ps : List Node) → Distinct nodeNumber (map bareNode ps) → Distinct nodeNumber ps
 distinct-placed [] d = tt
 distinct-placed (p ∷ ps) d = (sym (listed-bare ps (p .number)) ∙ d .0, distinct-placed ps (d .1))
@@ -61,49 +64,54 @@ listed-highest (p ∷ ps) a n e = by (eqb n (p .number)) refl e (listed-highest 
 
 -- ---- words in front of phrases
 
-words-in-room : (k : ℕ) (ws : List Node) → Counted k (map bareNode ws) → k + length ws ≤ wordLimit → Each InRoom ws
+words-in-room : (k : ℕ) (ws : List Node) → CountedFrom k (map bareNode ws) → k + length ws ≤ wordLimit → Each InRoom ws
 words-in-room k [] c h = tt
 words-in-room k (w ∷ ws) c h = (omega (arith, c .0), words-in-room (suc k) ws (c .1) (omega arith))
 
-module _ (ps : List Node) (numbered : Each PhraseNumbered ps) where
+module _ (ps : List Node) (new-numbers : Each PhraseNumbered ps) where
   phrases-lack : (m : ℕ) (qs : List Node) → Each PhraseNumbered qs → m < 500 → has nodeNumber m qs ≡ false
   phrases-lack m [] a h = refl
   phrases-lack m (q ∷ qs) a h = rw (ne-eqb m (q .number) (λ z. omega (arith, a .0 .0))) (phrases-lack m qs (a .1) h)
 
   -- a number below those that words count on from
-  nodes-lack : (m k : ℕ) (ws : List Node) → Counted k (map bareNode ws) → m < k → m < 500 → has nodeNumber m (ws ++ ps) ≡ false
-  nodes-lack m k [] c h l = phrases-lack m ps numbered l
+  nodes-lack : (m k : ℕ) (ws : List Node) → CountedFrom k (map bareNode ws) → m < k → m < 500 → has nodeNumber m (ws ++ ps) ≡ false
+  nodes-lack m k [] c h l = phrases-lack m ps new-numbers l
   nodes-lack m k (w ∷ ws) c h l = rw (ne-eqb m (w .number) (λ z. omega (arith, c .0))) (nodes-lack m (suc k) ws (c .1) (omega arith) l)
 
-  pub nodes-distinct : (k : ℕ) (ws : List Node) → Counted k (map bareNode ws) → k + length ws ≤ wordLimit → Distinct nodeNumber ps → Distinct nodeNumber (ws ++ ps)
+  pub nodes-distinct : (k : ℕ) (ws : List Node) → CountedFrom k (map bareNode ws) → k + length ws ≤ wordLimit → Distinct nodeNumber ps → Distinct nodeNumber (ws ++ ps)
   nodes-distinct k [] c h d = d
   nodes-distinct k (w ∷ ws) c h d =
       (nodes-lack (w .number) (suc k) ws (c .1) (omega (arith, c .0)) (omega (arith, c .0)), nodes-distinct (suc k) ws (c .1) (omega arith) d)
 
--- ---- the parent of a node's number is the node's
+-- ---- what is looked up by a node's number is the node's own
 
-abbrev Own : List Node → Node → Type 0
-Own ns n = parentAmong ns (n .number) ≡ n .parent
+module _ {A : Type 0} (found : List Node → ℕ → A) (own : Node → A)
+    (along : (m : Node) (ms : List Node) (k : ℕ) → found (m ∷ ms) k ≡ pick (eqb (m .number) k) (own m) (found ms k)) where
+  abbrev pub Own : List Node → Node → Type 0
+  Own ns n = found ns (n .number) ≡ own n
 
--- a node in front with another number
-others-own : (m : Node) (ms ns : List Node) → has nodeNumber (m .number) ns ≡ false → Each (Own ms) ns → Each (Own (m ∷ ms)) ns
-others-own m ms [] e a = tt
-others-own m ms (n ∷ ns) e a =
-    let differ = or-left (eqb (m .number) (n .number)) (has nodeNumber (m .number) ns) e in
-    (rw differ (a .0), others-own m ms ns (or-right (eqb (m .number) (n .number)) (has nodeNumber (m .number) ns) e) (a .1))
+  first-own : (m : Node) (ms : List Node) (k : ℕ) (t : Bool) → eqb (m .number) k ≡ t → found (m ∷ ms) k ≡ pick t (own m) (found ms k)
+  first-own m ms k t e = along m ms k ∙ ap (λ (b : Bool). pick b (own m) (found ms k)) e
 
-each-own : (ns : List Node) → Distinct nodeNumber ns → Each (Own ns) ns
-each-own [] d = tt
-each-own (n ∷ ns) d = (rw (eq-eqb (n .number) (n .number) refl), others-own n ns ns (d .0) (each-own ns (d .1)))
+  -- a node in front with another number
+  others-own : (m : Node) (ms ns : List Node) → has nodeNumber (m .number) ns ≡ false → Each (Own ms) ns → Each (Own (m ∷ ms)) ns
+  others-own m ms [] e a = tt
+  others-own m ms (n ∷ ns) e a =
+      let differ = or-left (eqb (m .number) (n .number)) (has nodeNumber (m .number) ns) e in
+      (first-own m ms (n .number) false differ ∙ a .0, others-own m ms ns (or-right (eqb (m .number) (n .number)) (has nodeNumber (m .number) ns) e) (a .1))
+
+  pub each-own : (ns : List Node) → Distinct nodeNumber ns → Each (Own ns) ns
+  each-own [] d = tt
+  each-own (n ∷ ns) d = (first-own n ns (n .number) true (eq-eqb (n .number) (n .number) refl), others-own n ns ns (d .0) (each-own ns (d .1)))
+
+abbrev HasParent : List Node → Node → Type 0
+HasParent ns n = parentAmong ns (n .number) ≡ n .parent
 
 -- ---- a sentence handed out
 
 module _ (format : ℕ) (ts : Tables) (s : Sentence) (k : SentenceKept format (meantTables ts) (bareSentence s)) where
   pub each-numbered : Each PhraseNumbered (s .phrases)
   each-numbered = each-mapped-then (PhraseKept format (meantTables ts)) PhraseNumbered bareNode (phrase-numbered format (meantTables ts)) (s .phrases) (k .part .phrases)
-
-  pub numbered : Numbered (s .phrases)
-  numbered = record { low = all-low (s .phrases) each-numbered; apart = all-apart (s .phrases) (distinct-placed (s .phrases) (k .part .distinct)) }
 
   pub few-words : 0 + length (s .words) ≤ wordLimit
   few-words = omega (arith, length-map (s .words) bareNode, k .part .few)
@@ -113,10 +121,10 @@ module _ (format : ℕ) (ts : Tables) (s : Sentence) (k : SentenceKept format (m
       each-joined InRoom (s .words) (s .phrases) (words-in-room 0 (s .words) (k .part .counted) few-words)
       (each-then PhraseNumbered InRoom (λ n a. omega (arith, a .1)) (s .phrases) each-numbered)
 
-  each-parent : Each (Own (nodes s)) (nodes s)
+  each-parent : Each (HasParent (nodes s)) (nodes s)
   each-parent =
-      each-own (nodes s) (nodes-distinct (s .phrases) each-numbered 0 (s .words) (k .part .counted) few-words (distinct-placed (s .phrases) (k .part .distinct)))
+      each-own parentAmong (λ (n : Node). n .parent) (λ m ms k. refl) (nodes s) (nodes-distinct (s .phrases) each-numbered 0 (s .words) (k .part .counted) few-words (distinct-placed (s .phrases) (k .part .distinct)))
 
 -- the parent that a node's number has is the node's
 pub parents-found : (f : List ℕ) → Each (λ (h : Handed). Each (λ (n : Node). parentIn (h .sentence) (n .number) ≡ n .parent) (nodes (h .sentence))) (surveyOf f .handed)
-parents-found f = handed-kept (λ (v : Survey) (s : Sentence). Each (Own (nodes s)) (nodes s)) (λ v s k. each-parent (v .format) (v .tables) s k) f
+parents-found f = handed-kept (λ (v : Survey) (s : Sentence). Each (HasParent (nodes s)) (nodes s)) (λ v s k. each-parent (v .format) (v .tables) s k) f

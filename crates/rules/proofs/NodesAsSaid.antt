@@ -135,8 +135,8 @@ same-content : {n : ℕ} {w v t u m l e f : List ℕ} {p q : ℕ} {ss rs : List 
 same-content a b c d e f g = cc
 
 module _ (format : ℕ) (T : Tables) (ts : List TableLines) (s : Stand T ts) (line : List ℕ) (fs : List Text) (tags n : ℕ) where
-  abbrev pub nodeSaid : NodeLine
-  nodeSaid =
+  abbrev pub nodeAsSaid : NodeLine
+  nodeAsSaid =
       record {
         line = line;
         first = text fs 0 .bytes;
@@ -161,10 +161,10 @@ module _ (format : ℕ) (T : Tables) (ts : List TableLines) (s : Stand T ts) (li
     edges-said ps (g .1) (h .1) (k .1),
   )
 
-  pub held-said : NodeHeld format T fs tags n → frontColumns line ≡ nodeColumns format nodeSaid → NodeFits format ts tags nodeSaid
+  pub held-said : NodeHeld format T fs tags n → frontColumns line ≡ nodeColumns format nodeAsSaid → NodeFits format ts tags nodeAsSaid
   held-said h c =
       record {
-        columns = front-said line (nodeColumns format nodeSaid) c;
+        columns = front-said line (nodeColumns format nodeAsSaid) c;
         parent-written = parent-said (text fs (parentField format) .bytes) (value (itsParent format fs)) .0 (good-some (itsParent format fs) (h .parent-good));
         parent-zero = h .rises .0;
         tag-short = leb-is (length (itsTag format fs .bytes)) (tagLimit tags) .0 (h .tag-short);
@@ -231,6 +231,6 @@ module _ (format : ℕ) (T : Tables) (ts : List TableLines) (s : Stand T ts) (li
         same-content w (sh .at-tag) (sh .at-morphology) (sh .at-edge) same-parent (edges-same (itsPairs format fs) (node .secondary) (sh .at-pairs) (fit .each-secondary)) c
 
   pub node-said : (its-number : ℕ) (word its-comment : Text) → its-comment .bytes ≡ commentOf line
-      → nodeRead (nodeOf format fs its-number word its-comment) ≡ nodeSays its-number (word .bytes) nodeSaid
+      → nodeRead (nodeOf format fs its-number word its-comment) ≡ nodeSays its-number (word .bytes) nodeAsSaid
   node-said its-number word its-comment c =
       same-content refl refl refl refl refl (map-map edgeRead asEdge (itsPairs format fs) ∙ sym (map-map edgeSays saidPair (itsPairs format fs))) c

@@ -21,7 +21,7 @@ use Rattle.rules.specs.Meaning.{bareEdge, bareNode, meantTables}
 use Rattle.rules.specs.Tidy.{tab, nodeName, nodeLine}
 use Rattle.rules.proofs.Takings.{goWord, goPhrase, answerNodes, answerAt}
 use Rattle.rules.proofs.Conjunctions.{and-left}
-use Rattle.rules.proofs.PrintedLines.{plain, solid, field, printed-fields, printed-comment, parted-printed}
+use Rattle.rules.proofs.PrintedLines.{unplaced, solid, field, printed-fields, printed-comment, parted-printed}
 use Rattle.rules.proofs.PlacelessNodes.{NodeHolds, text-bare, holds-placed, node-placeless}
 use Rattle.rules.proofs.NodesKept.{tailColumns, printColumns, printedNode, NodeKept, WordKept, PhraseKept}
 use Rattle.rules.proofs.NodeLines.{WordHolds, wordRead, word-passes, PhraseHolds, phraseRead, phrase-passes}
@@ -39,10 +39,10 @@ module _ (format : ℕ) (us : Tables) (tags : ℕ) (word : Text) (n : Node) (k :
   abbrev fs : List Text
   fs = fields (columns line)
 
-  fields-back : map bare fs ≡ map plain (printColumns n)
+  fields-back : map bare fs ≡ map unplaced (printColumns n)
   fields-back = printed-fields tab refl (n .comment .bytes) at (nodeName n) (tailColumns n) (k .columns)
 
-  first-back : bare (text fs 0) ≡ plain (nodeName n)
+  first-back : bare (text fs 0) ≡ unplaced (nodeName n)
   first-back = sym (text-bare fs 0) ∙ ap (λ (l : List Text). text l 0) fields-back
 
   holds-back : NodeHolds format fs us tags (n .number)
@@ -52,7 +52,7 @@ module _ (format : ℕ) (us : Tables) (tags : ℕ) (word : Text) (n : Node) (k :
   node-back w e =
       sym (node-placeless format fs (n .number) w (comment (columns line)))
       ∙ ap₂ (λ (l : List Text) (x : Text). nodeOf format l (n .number) x (bare (comment (columns line)))) fields-back e
-      ∙ ap (nodeOf format (map plain (printColumns n)) (n .number) word) (printed-comment tab refl (n .comment .bytes) at (nodeName n) (tailColumns n) (k .columns) (k .trimmed))
+      ∙ ap (nodeOf format (map unplaced (printColumns n)) (n .number) word) (printed-comment tab refl (n .comment .bytes) at (nodeName n) (tailColumns n) (k .columns) (k .trimmed))
       ∙ k .again
 
   pairs-back : (w : Text) → bare w ≡ word → length (itsPairs format fs) ≡ length (n .secondary)
@@ -97,7 +97,7 @@ module _ (p : Preamble) (s : Sentence) (used : List ℕ) (at : ℕ) (n : Node) (
       let format = p .format in
       let us = p .tables in
       let w = length (s .words) in
-      let word = plain (nodeName n) in
+      let word = unplaced (nodeName n) in
       let first = first-back format us wordTags word n (k .node) at in
       let read = wordRead format us (soFar s) lineBack in
       let h : WordHolds format us (soFar s) lineBack = record {

@@ -23,12 +23,13 @@ use Rattle.rules.proofs.Conjunctions.{and-left, and-right}
 use Rattle.rules.proofs.RuleLaws.{holdsOf}
 use Rattle.rules.proofs.Elements.{map-map}
 use Rattle.rules.proofs.TrimLaws.{Trimmed}
-use Rattle.rules.proofs.PrintedLines.{plain, solid, field, printed}
+use Rattle.rules.proofs.PrintedLines.{unplaced, solid, field, printed}
 use Rattle.rules.proofs.AnyLine.{bytesOf, line-fields, comment-trimmed}
 use Rattle.rules.proofs.LineFit.{LineFit, again-fit}
-use Rattle.rules.proofs.NumbersAgain.{good-some, number-again, parent-again}
+use Rattle.rules.proofs.NumbersAgain.{number-again, parent-again}
 use Rattle.rules.proofs.PlacelessNodes.{NodeHolds, holds-placeless, node-placeless}
-use Rattle.rules.proofs.Steps.{Opened}
+use Rattle.rules.proofs.Steps.{FirstThere}
+use Rattle.rules.proofs.TestsAsFacts.{good-some}
 
 -- ---- the columns that a node is printed with
 
@@ -79,13 +80,13 @@ columns-again format (a ∷ b ∷ d ∷ e ∷ f ∷ ts) k w c s h =
 -- ---- fit to be printed, in a file whose tables mean ts
 
 pub record NodeKept (format : ℕ) (ts : Tables) (tags : ℕ) (word : Text) (n : Node) : Type 0 where
-  pub holds : NodeHolds format (map plain (printColumns n)) ts tags (n .number)
-  pub again : nodeOf format (map plain (printColumns n)) (n .number) word (plain (n .comment .bytes)) ≡ n
+  pub holds : NodeHolds format (map unplaced (printColumns n)) ts tags (n .number)
+  pub again : nodeOf format (map unplaced (printColumns n)) (n .number) word (unplaced (n .comment .bytes)) ≡ n
   pub columns : every field (printColumns n) ≡ true
   pub trimmed : Trimmed (n .comment .bytes)
   pub fit : LineFit (printedNode n)
 
-module _ (line : Text) (f : LineFit (line .bytes)) (o : Opened line) (format : ℕ) (ts : Tables) (tags k : ℕ) (word : Text) where
+module _ (line : Text) (f : LineFit (line .bytes)) (o : FirstThere line) (format : ℕ) (ts : Tables) (tags k : ℕ) (word : Text) where
   abbrev fs : List Text
   fs = fields (columns line)
 
@@ -100,7 +101,7 @@ module _ (line : Text) (f : LineFit (line .bytes)) (o : Opened line) (format : �
       let cols : printColumns (bareNode n) ≡ bytesOf fs =
       ap₂ (λ (x : List ℕ) (y : List (List ℕ)). x ∷ y) (e ∙ ap (λ (t : Text). t .bytes) (sym first-field)) (tail-bare n)
       ∙ sym (columns-again format fs k word (comment (columns line)) (h .shape) (h .parents)) in
-      let barely : map plain (printColumns (bareNode n)) ≡ map bare fs = ap (map plain) cols ∙ map-map plain (λ (t : Text). t .bytes) fs in
+      let barely : map unplaced (printColumns (bareNode n)) ≡ map bare fs = ap (map unplaced) cols ∙ map-map unplaced (λ (t : Text). t .bytes) fs in
       let first : nodeName (bareNode n) ≡ o .first .text .bytes = e in
       record {
         holds = subst (λ (l : List Text). NodeHolds format l (meantTables ts) tags k) (sym barely) (holds-placeless format fs ts tags k h);
@@ -115,13 +116,13 @@ module _ (line : Text) (f : LineFit (line .bytes)) (o : Opened line) (format : �
 -- ---- words and phrases
 
 pub record WordKept (format : ℕ) (ts : Tables) (n : Node) : Type 0 where
-  pub node : NodeKept format ts wordTags (plain (nodeName n)) n
+  pub node : NodeKept format ts wordTags (unplaced (nodeName n)) n
   pub no-end : same (nodeName n) (bytes "#EOS") ≡ false
-  pub no-phrase : startsPhrase (plain (nodeName n)) ≡ false
-  pub begins : startsWord (plain (nodeName n)) ≡ true
+  pub no-phrase : startsPhrase (unplaced (nodeName n)) ≡ false
+  pub begins : startsWord (unplaced (nodeName n)) ≡ true
 
 pub record PhraseKept (format : ℕ) (ts : Tables) (n : Node) : Type 0 where
   pub node : NodeKept format ts nodeTags noText n
   pub number : number phraseNumber (drop 1 (nodeName n)) ≡ some (n .number)
   pub no-end : same (nodeName n) (bytes "#EOS") ≡ false
-  pub begins : startsPhrase (plain (nodeName n)) ≡ true
+  pub begins : startsPhrase (unplaced (nodeName n)) ≡ true

@@ -19,7 +19,7 @@ use Rattle.rules.specs.Rules.{Rule, rule, broken, unless, checked}
 use Rattle.rules.specs.Tables.{Tables, origins, editors, present}
 use Rattle.rules.specs.Sentences.{Heading, Sentence, headingOf, endRules, endOf, soFar}
 use Rattle.rules.specs.Keywords.{formatOf}
-use Rattle.rules.specs.Phases.{start, Answer, next}
+use Rattle.rules.specs.Phases.{Answer, next}
 use Rattle.rules.specs.Tidy.{idDigits}
 use Rattle.rules.specs.GrammarLines.{White}
 use Rattle.rules.specs.GrammarColumns.{Begins, no-column, one-column, Columns}
@@ -60,12 +60,12 @@ id-said xs = (λ g. let e = good-some (signedId xs) g in said (value (signedId x
     read-so (inr w) = some-good (signedId xs) (suc (w .0)) (ap signedId (w .3) ∙ id-read-back (suc (w .0)) (omega (arith, w .2)))
 
 -- a test that fails, and what it says
-fails : {P : Type 0} (t : Bool) → (t ≡ true) ↔ P → (t ≡ false) ↔ (P → ⊥)
+pub fails : {P : Type 0} (t : Bool) → (t ≡ true) ↔ P → (t ≡ false) ↔ (P → ⊥)
 fails t k = (λ e p. never-both t (k .1 p) e, λ n. false-if-never t (λ e. n (k .0 e)))
 
 -- ---- rules of number 8
 
-eights-none : (rs : List Rule) → every (λ (q : Rule). leb 9 (q .number)) rs ≡ true → (smallest rs ≡ 8) ↔ ⊥
+pub eights-none : (rs : List Rule) → every (λ (q : Rule). leb 9 (q .number)) rs ≡ true → (smallest rs ≡ 8) ↔ ⊥
 eights-none rs h = (λ e. by (broken rs) refl e, λ z. absurd z)
   where
     by : (o : Option Rule) → broken rs ≡ o → numberOf o ≡ 8 → ⊥
@@ -84,13 +84,13 @@ eight-first {P} {Q} t b rs h p q = by (true-or-not b)
         other (inr y) = ap numberOf (passes (rule 8 t b) rs e) ∙ q .1 y
     by (inr e) = (λ z. inl (p .0 e), λ z. decides (rule 8 t b) rs e h)
 
-seven-first : {Q : Type 0} (t : Text) (b : Bool) (rs : List Rule) → b ≡ true → (smallest rs ≡ 8) ↔ Q → (smallest (rule 7 t b ∷ rs) ≡ 8) ↔ Q
-seven-first t b rs e q =
-    let p = ap numberOf (passes (rule 7 t b) rs e) in
+pub held-first : {Q : Type 0} (r : Rule) (rs : List Rule) → r .holds ≡ true → (smallest rs ≡ 8) ↔ Q → (smallest (r ∷ rs) ≡ 8) ↔ Q
+held-first r rs e q =
+    let p = ap numberOf (passes r rs e) in
     (λ z. q .0 (sym p ∙ z), λ y. p ∙ q .1 y)
 
 -- the number of what is made of a line by its rules
-checked-number : {A : Type 0} (f : A → Answer) (rs : List Rule) (a : A) → refusalOf (f a) ≡ 0 → refusalOf (next f (checked rs a)) ≡ smallest rs
+pub checked-number : {A : Type 0} (f : A → Answer) (rs : List Rule) (a : A) → refusalOf (f a) ≡ 0 → refusalOf (next f (checked rs a)) ≡ smallest rs
 unfolding checked
 checked-number f rs a z = by (broken rs)
   where
@@ -149,7 +149,7 @@ module _ (line : Text) where
       let two = eq-eqb (length (columns line)) 2 (columns-two line (bytes "#FORMAT") n c) in
       let second = name-second line (bytes "#FORMAT") n c in
       subst (λ (m : ℕ). (m ≡ 8) ↔ (NumberWritten 0 65535 n → ⊥)) (sym (checked-number f _ _ (zeros _)))
-      (seven-first line _ _ two
+      (held-first (rule 7 line _) _ two
       (only-left (eight-first (written (columns line) 1) _ _ refl (not-number formatNumber (written (columns line) 1 .bytes) n second) (eights-none _ refl))))
 
   pub end-eight : (f : ℕ → Answer) → ((m : ℕ) → refusalOf (f m) ≡ 0) → (s : Sentence) (n : List ℕ) → Columns (line .bytes) (bytes "#EOS" ∷ n ∷ [])
@@ -159,7 +159,7 @@ module _ (line : Text) where
       let two = eq-eqb (length (columns line)) 2 (columns-two line (bytes "#EOS") n c) in
       let second = name-second line (bytes "#EOS") n c in
       subst (λ (m : ℕ). (m ≡ 8) ↔ (NumberWritten 1 65535 n → ⊥)) (sym (checked-number f _ _ (zeros _)))
-      (seven-first line _ _ two
+      (held-first (rule 7 line _) _ two
       (only-left (eight-first (written (columns line) 1) _ _ refl (not-number sentenceNumber (written (columns line) 1 .bytes) n second) (eights-none _ refl))))
 
   right-columns : (n editor when origin back : List ℕ) → Begins (line .bytes) (bytes "#BOS" ∷ n ∷ editor ∷ when ∷ origin ∷ []) back
@@ -180,7 +180,7 @@ module _ (line : Text) where
       subst
       (λ (m : ℕ). (m ≡ 8) ↔ ((NumberWritten 1 65535 n → ⊥) ⊎ (IdWritten editor → ⊥) ⊎ (NumberWritten 0 4294967295 when → ⊥) ⊎ (NumberWritten 1 65535 origin → ⊥)))
       (sym (checked-number f _ _ (zeros _)))
-      (seven-first line _ _ (right-columns n editor when origin back b behind)
+      (held-first (rule 7 line _) _ (right-columns n editor when origin back b behind)
       (eight-first (written cs 1) _ _ refl (not-number sentenceNumber (written cs 1 .bytes) n (begins-at b (line .start) 1 (omega arith)))
       (eight-first (written cs 2) _ _ refl (not-id (written cs 2 .bytes) editor (begins-at b (line .start) 2 (omega arith)))
       (eight-first (written cs 3) _ _ refl (not-number date (written cs 3 .bytes) when (begins-at b (line .start) 3 (omega arith)))

@@ -2,25 +2,18 @@
 use Prim.Native.Nat.{ℕ, zero, suc, _+_, _*_, _/_, _%_, _≤_, _<_}
 use native.Mathlib.Omega.{arith}
 use mathlib.Core.Path.{_≡_, refl, ap, _∙_}
-use mathlib.Core.Bool.{Bool, true, false, false≢true}
+use mathlib.Core.Bool.{Bool, true, false}
 use mathlib.Core.Option.{Option, none, some}
 use mathlib.Core.List.{List, [], _∷_, _++_}
 use lib.ListN.{length, length-append}
 use lib.Dec.{leb, ltb, eqb}
 use borrow.Author.Tests.{leb-true, eqb-true, ltb-false}
 use Rattle.rules.specs.Lists.{pick, between, same, bytes}
-use Rattle.rules.specs.Numbers.{Kind, idPlusOne, decimal, within, plusOne, number, phraseNumber, zeroOr, parentNumber, signedId, good, value}
+use Rattle.rules.specs.Numbers.{Kind, idPlusOne, decimal, within, plusOne, number, phraseNumber, zeroOr, parentNumber, signedId}
 use Rattle.rules.specs.Tidy.{digitsWithin, digitsOf, idDigits}
 use Rattle.rules.proofs.Conjunctions.{and-left, and-right}
 use Rattle.rules.proofs.Decimal.{digits-one-writing, digits-given, id-given, digits-not-white, id-not-white}
 use Rattle.rules.proofs.PrintedLines.{solid}
-
-pub good-some : (o : Option ℕ) → good o ≡ true → o ≡ some (value o)
-good-some none e = absurd (false≢true e)
-good-some (some n) e = refl
-
-pub some-good : (o : Option ℕ) (n : ℕ) → o ≡ some n → good o ≡ true
-some-good o n e = ap good e
 
 pub within-value : (k : Kind) (o : Option ℕ) (n : ℕ) → within k o ≡ some n → (o ≡ some n) × (between (k .lowest) (k .highest) n ≡ true)
 within-value k none n e = (cc, cc)

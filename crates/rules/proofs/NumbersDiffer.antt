@@ -4,7 +4,7 @@ use Prim.Native.Nat.{ℕ}
 use mathlib.Core.Path.{_≡_, refl, sym, subst}
 use mathlib.Core.Bool.{Bool, true, false}
 use mathlib.Core.Option.{Option, none, some}
-use mathlib.Core.List.{List, [], _∷_, _++_, map, append-assoc, append-nil}
+use mathlib.Core.List.{List, [], _∷_, map}
 use lib.ListN.{length}
 use Rattle.rules.specs.Lists.{pick, Each}
 use Rattle.rules.specs.Tables.{Tables, Row, origins, editors, table, rowsOf, hasId}
@@ -14,8 +14,8 @@ use Rattle.rules.specs.Reading.{Handed, begin, read}
 use Rattle.rules.specs.Survey.{Survey, answered, nothingRead, surveyOf, fileFits}
 use Rattle.rules.specs.Meaning.{bareRow, bareNode, rowId, nodeNumber, sentenceNumberOf}
 use Rattle.rules.specs.Same.{handedNumber}
-use Rattle.rules.proofs.Sorting.{Distinct, distinct-last}
-use Rattle.rules.proofs.RowsKept.{RowNew, RowsKept}
+use Rattle.rules.proofs.Sorting.{Distinct}
+use Rattle.rules.proofs.RowsKept.{RowNew, distinct-rows}
 use Rattle.rules.proofs.SentencesKept.{bareSentence}
 use Rattle.rules.proofs.Kept.{TableKept, TablesKept, PreambleKept, Kept}
 use Rattle.rules.proofs.KeptReading.{bares, file-kept}
@@ -29,15 +29,9 @@ abbrev pub IdsDiffer : Option (List Row) → Type 0
 IdsDiffer o = Distinct rowId (rowsOf o)
 
 module _ (n : ℕ) (new : (done : List Row) (r : Row) → RowNew n done r → hasId (r .id1) done ≡ false) where
-  ids-behind : (done rs : List Row) → Distinct rowId done → RowsKept n done rs → Distinct rowId (done ++ rs)
-  unfolding hasId
-  ids-behind done [] d k = subst (Distinct rowId) (sym (append-nil done)) d
-  ids-behind done (r ∷ rs) d k =
-      subst (Distinct rowId) (append-assoc done (r ∷ []) rs) (ids-behind (done ++ (r ∷ [])) rs (distinct-last rowId done r d (new done r (k .0 .new))) (k .1))
-
   ids-differ : (o : Option (List Row)) → TableKept n o → IdsDiffer o
   ids-differ none k = tt
-  ids-differ (some rs) k = distinct-mapped rowId rowId bareRow (λ r. refl) rs (ids-behind [] (map bareRow rs) tt k)
+  ids-differ (some rs) k = distinct-mapped rowId rowId bareRow (λ r. refl) rs (distinct-rows n new [] (map bareRow rs) tt k)
 
 pub record TablesDiffer (ts : Tables) : Type 0 where
   pub seven : length ts ≡ 7

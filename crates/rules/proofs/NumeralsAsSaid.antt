@@ -12,7 +12,7 @@ use borrow.Author.Tests.{eqb-true, eqb-false}
 use Rattle.rules.specs.Lists.{pick, bytes, every, same}
 use Rattle.rules.specs.Bytes.{digit}
 use Rattle.rules.specs.Numbers.{Kind, phraseNumber, plain, valueFrom, decimal, within, number, plusOne, idPlusOne, signedId, zeroOr, parentNumber}
-use Rattle.rules.specs.GrammarNumbers.{DigitByte, Numeral, one-digit, one-more, Range, NumberIn, IdWritten, ParentWritten}
+use Rattle.rules.specs.GrammarNumbers.{DigitByte, Numeral, one-digit, one-more, Range, NumberIn, IdIn, ParentWritten}
 use Rattle.rules.proofs.Conjunctions.{false-if-never, every-append}
 use Rattle.rules.proofs.Decimal.{value-last}
 use Rattle.rules.proofs.NumbersAgain.{within-value}
@@ -108,10 +108,10 @@ within-said k o n = (
   λ h. ap (within k) (h .0) ∙ ap (λ (t : Bool). pick t (some n) none) (between-said (k .lowest) (k .highest) n .1 (h .1, h .2)),
 )
 
-abbrev pub rangeOf : Kind → Range
-rangeOf k = record { least = k .lowest; most = k .highest }
+abbrev pub rangeOfKind : Kind → Range
+rangeOfKind k = record { least = k .lowest; most = k .highest }
 
-pub number-said : (k : Kind) (xs : List ℕ) (n : ℕ) → (number k xs ≡ some n) ↔ NumberIn (rangeOf k) xs n
+pub number-said : (k : Kind) (xs : List ℕ) (n : ℕ) → (number k xs ≡ some n) ↔ NumberIn (rangeOfKind k) xs n
 number-said k xs n = (
   λ e. let h = within-said k (decimal xs) n .0 e in record { numeral = decimal-said xs n .0 (h .0); from = h .1; upTo = h .2 },
   λ h. within-said k (decimal xs) n .1 (decimal-said xs n .1 (h .numeral), h .from, h .upTo),
@@ -119,21 +119,21 @@ number-said k xs n = (
 
 -- ---- ids that may be -1
 
-pub id-said : (xs : List ℕ) (i : ℕ) → (signedId xs ≡ some i) ↔ IdWritten xs i
+pub id-said : (xs : List ℕ) (i : ℕ) → (signedId xs ≡ some i) ↔ IdIn xs i
 unfolding decimal
 id-said xs i = (λ e. said (same xs (bytes "-1")) refl e, λ w. read-so w)
   where
-    more : (o : Option ℕ) → decimal xs ≡ o → plusOne o ≡ some i → i ≤ 65536 → IdWritten xs i
+    more : (o : Option ℕ) → decimal xs ≡ o → plusOne o ≡ some i → i ≤ 65536 → IdIn xs i
     more none d q u = absurd (let z : _≡_ {A = ℕ} 0 1 = cc in omega arith)
     more (some m) d q u =
         let e : suc m ≡ i = cc in
         inr (m, record { numeral = decimal-said xs m .0 d; from = omega arith; upTo = omega (arith, e) }, sym e)
 
-    said : (t : Bool) → same xs (bytes "-1") ≡ t → within idPlusOne (pick t (some 0) (plusOne (decimal xs))) ≡ some i → IdWritten xs i
+    said : (t : Bool) → same xs (bytes "-1") ≡ t → within idPlusOne (pick t (some 0) (plusOne (decimal xs))) ≡ some i → IdIn xs i
     said true s e = inl (same-is xs (bytes "-1") .0 s, (cc))
     said false s e = let h = within-said idPlusOne (plusOne (decimal xs)) i .0 e in more (decimal xs) refl (h .0) (h .2)
 
-    read-so : IdWritten xs i → within idPlusOne (pick (same xs (bytes "-1")) (some 0) (plusOne (decimal xs))) ≡ some i
+    read-so : IdIn xs i → within idPlusOne (pick (same xs (bytes "-1")) (some 0) (plusOne (decimal xs))) ≡ some i
     read-so (inl p) =
         ap (λ (t : Bool). within idPlusOne (pick t (some 0) (plusOne (decimal xs)))) (same-is xs (bytes "-1") .1 (p .0)) ∙ ap some (sym (p .1))
     read-so (inr p) =

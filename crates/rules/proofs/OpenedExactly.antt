@@ -12,50 +12,21 @@ use lib.Seq.{length-take-le}
 use lib.Dec.{eqb}
 use borrow.Author.Tests.{eq-eqb, ne-eqb, eqb-false, le-leb, lt-leb}
 use Rattle.rules.specs.Lists.{pick, member}
-use Rattle.rules.specs.Sentences.{Sentence}
-use Rattle.rules.specs.Phases.{Phase, start, top, inTable, inSentence, behindSentence}
-use Rattle.rules.specs.Reading.{Handed, numbers, begin, read}
+use Rattle.rules.specs.Reading.{Handed, numbers}
 use Rattle.rules.specs.Sheets.{EdgeRecord, sentenceSheet, edgeList}
-use Rattle.rules.specs.Survey.{Survey, answered, nothingRead, surveyOf, fileFits, afterSurvey}
+use Rattle.rules.specs.Survey.{Survey, surveyOf, afterSurvey}
 use Rattle.rules.specs.Opening.{Opened, sentenceOf, opened, afterOpening}
-use Rattle.rules.specs.Meaning.{sentenceNumberOf}
+use Rattle.rules.specs.Same.{handedNumber as numberOf}
 use Rattle.rules.specs.Cutting.{endsWithin, endedWithin}
 use Rattle.rules.specs.LentBuffers.{AllSized, WithinLimit, OpeningRule, CutOpening}
 use Rattle.rules.proofs.Conjunctions.{or-left, or-right}
 use Rattle.rules.proofs.Elements.{any-map}
 use Rattle.rules.proofs.SaidOfLists.{never-both}
 use Rattle.rules.proofs.Sorting.{Distinct, has}
-use Rattle.rules.proofs.SentencesKept.{bareSentence}
-use Rattle.rules.proofs.Kept.{Kept}
-use Rattle.rules.proofs.KeptReading.{bares, file-kept}
 use Rattle.rules.proofs.Cut.{within-append}
 use Rattle.rules.proofs.CutRule.{cut-rule}
+use Rattle.rules.proofs.NumbersDiffer.{numbers-differ}
 use Rattle.rules.proofs.Sizes.{sheets-fit, all-fit, all-misfit, within-fits, long-misfits}
-
-abbrev pub numberOf : Handed → ℕ
-numberOf h = h .sentence .heading .number
-
--- ---- no two sentences have the same number
-
-distinct-handed : (hs : List Handed) → Distinct sentenceNumberOf (bares hs) → Distinct numberOf hs
-distinct-handed [] d = tt
-distinct-handed (h ∷ hs) d =
-    (sym (any-map (λ (s : Sentence). eqb (numberOf h) (sentenceNumberOf s)) (λ (g : Handed). bareSentence (g .sentence)) hs) ∙ d .0, distinct-handed hs (d .1))
-
-phase-distinct : (phase : Phase) (ss : List Sentence) → Kept phase ss → Distinct sentenceNumberOf ss
-phase-distinct start ss k = subst (Distinct sentenceNumberOf) (sym k) tt
-phase-distinct (top p) ss k = subst (Distinct sentenceNumberOf) (sym (k .1)) tt
-phase-distinct (inTable p n rs) ss k = subst (Distinct sentenceNumberOf) (sym (k .nothing)) tt
-phase-distinct (inSentence p s) ss k = k .sentences .distinct
-phase-distinct (behindSentence p) ss k = k .sentences .distinct
-
-pub survey-distinct : (file : List ℕ) → Distinct numberOf (surveyOf file .handed)
-unfolding surveyOf
-survey-distinct file = by (fileFits file)
-  where
-    by : (t : Bool) → Distinct numberOf (pick t (answered (read begin file)) (nothingRead 2) .handed)
-    by true = distinct-handed (read begin file .handed) (phase-distinct (read begin file .phase) (bares (read begin file .handed)) (file-kept file .phase))
-    by false = tt
 
 -- ---- looking for a number
 
@@ -86,7 +57,7 @@ zero-found v n (h ∷ hs) = by (eqb n (numberOf h)) (zero-found v n hs)
     by false more = more
 
 module _ (file : List ℕ) (n : ℕ) (tables seen sheet : List ℕ) (edges : List EdgeRecord) where
-  opens : AllSized tables seen sheet edges → WithinLimit file → afterOpening file n tables seen sheet edges ≡ opened (surveyOf file) (sentenceOf n (surveyOf file .handed))
+  pub opens : AllSized tables seen sheet edges → WithinLimit file → afterOpening file n tables seen sheet edges ≡ opened (surveyOf file) (sentenceOf n (surveyOf file .handed))
   unfolding afterOpening
   opens s h = rw (all-fit tables seen sheet edges s, within-fits file h)
 
@@ -100,7 +71,7 @@ module _ (file : List ℕ) (n : ℕ) (tables seen sheet : List ℕ) (edges : Lis
         given =
             λ s h front g back e q.
             opens s h
-            ∙ ap (opened (surveyOf file)) (ap (sentenceOf n) e ∙ ap (λ (m : ℕ). sentenceOf m (front ++ (g ∷ back))) (sym q) ∙ found front g back (subst (Distinct numberOf) e (survey-distinct file)))
+            ∙ ap (opened (surveyOf file)) (ap (sentenceOf n) e ∙ ap (λ (m : ℕ). sentenceOf m (front ++ (g ∷ back))) (sym q) ∙ found front g back (subst (Distinct numberOf) e (numbers-differ file .sentences)))
             ∙ rw (sheets-fit tables seen (s .sheets), within-fits file h);
         absent =
             λ s h e.
@@ -158,7 +129,7 @@ module _ (f : List ℕ) (n : ℕ) (whole : WithinLimit f) (inside : n ≤ length
       let gone : member (numberOf h) (numbers (surveyOf (take n f) .handed)) ≡ false =
       any-map (eqb (numberOf h)) numberOf (surveyOf (take n f) .handed)
       ∙ ap (has numberOf (numberOf h)) (handed ∙ ap (endedWithin n) its)
-      ∙ lost-number n front h back l (subst (Distinct numberOf) its (survey-distinct f)) in
+      ∙ lost-number n front h back l (subst (Distinct numberOf) its (numbers-differ f .sentences)) in
       ap (λ (o : Opened). o .answer) (opened-exactly (take n f) (numberOf h) tables seen sheet edges .absent sized fits gone)
 
   pub cut-opened : (x : List ℕ) → WithinLimit (take n f ++ x) → CutOpening f n x h tables seen sheet edges

@@ -26,12 +26,13 @@ use Rattle.rules.proofs.RuleLaws.{holds-granted}
 use Rattle.rules.proofs.RulesHeld.{Held, held, hold}
 use Rattle.rules.proofs.Decimal.{id-legal, number-read-back}
 use Rattle.rules.proofs.TrimLaws.{Trimmed, trim-white, trim-begun, trim-trimmed, trim-trim, trim-every, right-trim-white}
-use Rattle.rules.proofs.PrintedLines.{plain, tailed, remark, printed, printed-columns}
+use Rattle.rules.proofs.PrintedLines.{unplaced, tailed, remark, printed, printed-columns}
 use Rattle.rules.proofs.LineFit.{LineFit, printed-fit}
-use Rattle.rules.proofs.NumbersAgain.{good-some, number-range, digits-five, id-solid}
+use Rattle.rules.proofs.NumbersAgain.{number-range, digits-five, id-solid}
 use Rattle.rules.proofs.PercentPairs.{pairless, front-whole, behind-nothing, front-cut, behind-cut, pairless-tab, front-pairless, trim-pairless, front-every, behind-every}
 use Rattle.rules.proofs.RowTexts.{id-seen, Described, described, RowBack}
 use Rattle.rules.proofs.Steps.{next-checked}
+use Rattle.rules.proofs.TestsAsFacts.{good-some}
 
 pub record OriginKept (r : Row) : Type 0 where
   pub id : ℕ
@@ -41,7 +42,7 @@ pub record OriginKept (r : Row) : Type 0 where
   pub note : Trimmed (r .second .bytes)
   pub note-lawful : every legal (r .second .bytes) ≡ true
   pub note-short : length (r .second .bytes) ≤ 160
-  pub placeless : record { id1 = suc id; first = plain (r .first .bytes); second = plain (r .second .bytes); flag = 0 } ≡ r
+  pub placeless : record { id1 = suc id; first = unplaced (r .first .bytes); second = unplaced (r .second .bytes); flag = 0 } ≡ r
 
 abbrev pub printedOrigin : Row → List ℕ
 printedOrigin r = printed tab (idDigits (r .id1)) (r .first .bytes ∷ []) (r .second .bytes)

@@ -11,17 +11,14 @@ use lib.ListN.{length, getD, List·getD-append}
 use lib.Seq.{getD-append-add}
 use lib.Dec.{eqb}
 use Rattle.rules.specs.Lists.{pick, counting, joined, Each}
-use Rattle.rules.specs.Tables.{Tables}
 use Rattle.rules.specs.Sentences.{Node, Sentence}
 use Rattle.rules.specs.Reading.{Handed}
 use Rattle.rules.specs.Sheets.{nodeRoom, nodeWidth, parentOffset, nodes, leading, nodeNumbers, recordAt, sentenceSheet}
-use Rattle.rules.specs.Survey.{Survey, surveyOf}
-use Rattle.rules.specs.Meaning.{meantTables}
+use Rattle.rules.specs.Survey.{surveyOf}
 use Rattle.rules.specs.Climbing.{parentAmong, parentIn, parentOn, climbed, Climbs, EveryChainClimbs}
 use Rattle.rules.proofs.EachElement.{each-then}
-use Rattle.rules.proofs.SentencesKept.{bareSentence, SentenceKept}
-use Rattle.rules.proofs.HandedKept.{handed-kept}
-use Rattle.rules.proofs.NodeNumbers.{InRoom, each-in-room}
+use Rattle.rules.proofs.NodeNumbers.{InRoom}
+use Rattle.rules.proofs.Climbable.{Climbable, handed-climbable}
 use Rattle.rules.proofs.Chains.{ZeroOrAbove, climbed-same, climbs-same}
 use Rattle.rules.proofs.ParentsClimb.{parent-above, sentence-climbs}
 
@@ -73,11 +70,11 @@ parent-on-sheet s n h =
     ∙ ap (λ (m : ℕ). getD (recordAt (nodes s) m) parentOffset 0) (zero-add n)
     ∙ record-parent (nodes s) n
 
--- ---- a sentence handed out
+-- ---- a sentence whose chains climb
 
-module _ (format : ℕ) (ts : Tables) (s : Sentence) (k : SentenceKept format (meantTables ts) (bareSentence s)) where
+module _ (s : Sentence) (k : Climbable s) where
   parent-in-room : (n : ℕ) → parentIn s n < nodeRoom
-  parent-in-room n = by (parent-above format ts s k n)
+  parent-in-room n = by (parent-above s k n)
     where
       by : ZeroOrAbove (length (s .phrases)) n (parentIn s n) → parentIn s n < nodeRoom
       by (inl e) = omega (arith, e)
@@ -87,20 +84,15 @@ module _ (format : ℕ) (ts : Tables) (s : Sentence) (k : SentenceKept format (m
   on-sheet-same steps n h = climbed-same (parentIn s) (parentOn (sentenceSheet s)) nodeRoom (parent-on-sheet s) (λ m l. parent-in-room m) steps n h
 
   climbs-from : (n : ℕ) → n < nodeRoom → Climbs (parentOn (sentenceSheet s)) (suc (length (s .phrases))) n
-  climbs-from n h = climbs-same (parentIn s) (parentOn (sentenceSheet s)) (suc (length (s .phrases))) n (λ j. on-sheet-same j n h) (sentence-climbs format ts s k n)
+  climbs-from n h = climbs-same (parentIn s) (parentOn (sentenceSheet s)) (suc (length (s .phrases))) n (λ j. on-sheet-same j n h) (sentence-climbs s k n)
 
--- steps on the sheet are steps in the sentence
-pub climbed-on-sheet : (f : List ℕ)
-    → Each (λ (h : Handed). (k n : ℕ) → n < nodeRoom → climbed (parentOn (sentenceSheet (h .sentence))) k n ≡ climbed (parentIn (h .sentence)) k n) (surveyOf f .handed)
-climbed-on-sheet f =
-    handed-kept (λ (v : Survey) (s : Sentence). (k n : ℕ) → n < nodeRoom → climbed (parentOn (sentenceSheet s)) k n ≡ climbed (parentIn s) k n)
-    (λ v s k. on-sheet-same (v .format) (v .tables) s k) f
+  pub chains-climb-on-sheet : EveryChainClimbs s (parentOn (sentenceSheet s))
+  chains-climb-on-sheet = each-then InRoom (λ (n : Node). Climbs (parentOn (sentenceSheet s)) (suc (length (s .phrases))) (n .number)) (λ n h. climbs-from (n .number) h) (nodes s) (k .in-room)
+
+-- ---- every sentence handed out
 
 -- every chain of parents climbs on the sheet
 pub climbs-on-sheet : (f : List ℕ) → Each (λ (h : Handed). EveryChainClimbs (h .sentence) (parentOn (sentenceSheet (h .sentence)))) (surveyOf f .handed)
 climbs-on-sheet f =
-    handed-kept (λ (v : Survey) (s : Sentence). EveryChainClimbs s (parentOn (sentenceSheet s)))
-    (λ v s k.
-    each-then InRoom (λ (n : Node). Climbs (parentOn (sentenceSheet s)) (suc (length (s .phrases))) (n .number))
-    (λ n h. climbs-from (v .format) (v .tables) s k (n .number) h) (nodes s) (each-in-room (v .format) (v .tables) s k))
-    f
+    each-then (λ (h : Handed). Climbable (h .sentence)) (λ (h : Handed). EveryChainClimbs (h .sentence) (parentOn (sentenceSheet (h .sentence))))
+    (λ h c. chains-climb-on-sheet (h .sentence) c) (surveyOf f .handed) (handed-climbable f)

@@ -10,15 +10,15 @@ use borrow.Author.Tests.{not-true}
 use Rattle.rules.specs.Lists.{pick, empty, every, any, same}
 use Rattle.rules.specs.Bytes.{newline, white, percents}
 use Rattle.rules.specs.Texts.{Text, bare}
-use Rattle.rules.specs.Columns.{Column, goesOn, columnsFrom, texts, fields, comment}
+use Rattle.rules.specs.Columns.{Column, goesOn, columnsFrom, fields, comment}
 use Rattle.rules.specs.Tidy.{parted, commented}
 use Rattle.rules.proofs.Conjunctions.{and-left, and-right}
 use Rattle.rules.proofs.ColumnLaws.{columnOf, columns-white, columns-run}
 use Rattle.rules.proofs.TrimLaws.{Trimmed, trim-white, trim-trimmed}
 
 -- a text without its place
-abbrev pub plain : List ℕ → Text
-plain xs = record { start = 0; bytes = xs }
+abbrev pub unplaced : List ℕ → Text
+unplaced xs = record { start = 0; bytes = xs }
 
 -- ---- a text that is a column: not empty, and no byte of it white
 
@@ -104,7 +104,7 @@ abbrev pub columnBytes : List Column → List (List ℕ)
 columnBytes cs = map (λ (c : Column). c .text .bytes) cs
 
 -- columns of these bytes, and behind them those of what follows
-pub record Behind (cs : List Column) (xs : List (List ℕ)) (rest-bytes : List ℕ) : Type 0 where
+pub record ColumnsThen (cs : List Column) (xs : List (List ℕ)) (rest-bytes : List ℕ) : Type 0 where
   pub at : ℕ
   pub texts : columnBytes cs ≡ xs ++ columnBytes (columnsFrom at rest-bytes)
   pub rest : drop (length xs) cs ≡ columnsFrom at rest-bytes
@@ -131,13 +131,13 @@ module _ (w : ℕ) (h : white w ≡ true) where
   remark-fields at [] = refl
   remark-fields at (b ∷ bs) = ap fields (remark-columns at b bs)
 
-  pub remark-comment : (at : ℕ) (n : List ℕ) → Trimmed n → bare (comment (columnsFrom at (remark w n))) ≡ plain n
+  pub remark-comment : (at : ℕ) (n : List ℕ) → Trimmed n → bare (comment (columnsFrom at (remark w n))) ≡ unplaced n
   unfolding comment columnsFrom
   remark-comment at [] t = refl
   remark-comment at (b ∷ bs) t =
       ap (λ (cs : List Column). bare (comment cs)) (remark-columns at b bs)
       ∙ ap bare (trim-white (suc at + 2) w (b ∷ bs) h)
-      ∙ ap plain (trim-trimmed (suc (suc at + 2)) (b ∷ bs) t)
+      ∙ ap unplaced (trim-trimmed (suc (suc at + 2)) (b ∷ bs) t)
 
   module _ (n : List ℕ) where
     -- the columns of a line from its first one on
@@ -157,26 +157,26 @@ module _ (w : ℕ) (h : white w ≡ true) where
     is-field : (c : List ℕ) → field c ≡ true → same c percents ≡ false
     is-field c f = not-true (same c percents) (and-right (solid c) (not (same c percents)) f)
 
-    tailed-fields : (at : ℕ) (cs : List (List ℕ)) → every field cs ≡ true → bareFields (columnsFrom at (tailed w cs (remark w n))) ≡ map plain cs
+    tailed-fields : (at : ℕ) (cs : List (List ℕ)) → every field cs ≡ true → bareFields (columnsFrom at (tailed w cs (remark w n))) ≡ map unplaced cs
     unfolding tailed
     tailed-fields at [] e = ap (map bare) (remark-fields at n)
     tailed-fields at (c ∷ cs) e =
         let f : field c ≡ true = and-left (field c) (every field cs) e in
         ap bareFields (tailed-columns at c cs (and-left (solid c) (not (same c percents)) f))
         ∙ ap (map bare) (fields-field (columnOf (suc at) c (tailed w cs (remark w n))) _ (is-field c f))
-        ∙ ap (λ (l : List Text). plain c ∷ l) (tailed-fields (suc at + length c) cs (and-right (field c) (every field cs) e))
+        ∙ ap (λ (l : List Text). unplaced c ∷ l) (tailed-fields (suc at + length c) cs (and-right (field c) (every field cs) e))
 
     pub printed-fields : (at : ℕ) (c : List ℕ) (cs : List (List ℕ)) → every field (c ∷ cs) ≡ true
-        → map bare (fields (columnsFrom at (printed w c cs n))) ≡ map plain (c ∷ cs)
+        → map bare (fields (columnsFrom at (printed w c cs n))) ≡ map unplaced (c ∷ cs)
     unfolding printed
     printed-fields at c cs e =
         let f : field c ≡ true = and-left (field c) (every field cs) e in
         ap bareFields (printed-columns at c cs (and-left (solid c) (not (same c percents)) f))
         ∙ ap (map bare) (fields-field (columnOf at c (tailed w cs (remark w n))) _ (is-field c f))
-        ∙ ap (λ (l : List Text). plain c ∷ l) (tailed-fields (at + length c) cs (and-right (field c) (every field cs) e))
+        ∙ ap (λ (l : List Text). unplaced c ∷ l) (tailed-fields (at + length c) cs (and-right (field c) (every field cs) e))
 
     tailed-comment : (at : ℕ) (cs : List (List ℕ)) → every field cs ≡ true → Trimmed n
-        → bare (comment (columnsFrom at (tailed w cs (remark w n)))) ≡ plain n
+        → bare (comment (columnsFrom at (tailed w cs (remark w n)))) ≡ unplaced n
     unfolding tailed
     tailed-comment at [] e t = remark-comment at n t
     tailed-comment at (c ∷ cs) e t =
@@ -186,7 +186,7 @@ module _ (w : ℕ) (h : white w ≡ true) where
         ∙ tailed-comment (suc at + length c) cs (and-right (field c) (every field cs) e) t
 
     pub printed-comment : (at : ℕ) (c : List ℕ) (cs : List (List ℕ)) → every field (c ∷ cs) ≡ true → Trimmed n
-        → bare (comment (columnsFrom at (printed w c cs n))) ≡ plain n
+        → bare (comment (columnsFrom at (printed w c cs n))) ≡ unplaced n
     unfolding printed
     printed-comment at c cs e t =
         let f : field c ≡ true = and-left (field c) (every field cs) e in
@@ -195,7 +195,7 @@ module _ (w : ℕ) (h : white w ≡ true) where
         ∙ tailed-comment (at + length c) cs (and-right (field c) (every field cs) e) t
 
     -- where each column stands, and what stands behind the last of them
-    tailed-read : (at : ℕ) (cs : List (List ℕ)) → every solid cs ≡ true → Behind (columnsFrom at (tailed w cs (remark w n))) cs (remark w n)
+    tailed-read : (at : ℕ) (cs : List (List ℕ)) → every solid cs ≡ true → ColumnsThen (columnsFrom at (tailed w cs (remark w n))) cs (remark w n)
     unfolding tailed
     tailed-read at [] e = record { at = at; texts = refl; rest = refl }
     tailed-read at (c ∷ cs) e =
@@ -207,7 +207,7 @@ module _ (w : ℕ) (h : white w ≡ true) where
           rest = ap (drop (suc (length cs))) f ∙ b .rest;
         }
 
-    pub printed-read : (at : ℕ) (c : List ℕ) (cs : List (List ℕ)) → every solid (c ∷ cs) ≡ true → Behind (columnsFrom at (printed w c cs n)) (c ∷ cs) (remark w n)
+    pub printed-read : (at : ℕ) (c : List ℕ) (cs : List (List ℕ)) → every solid (c ∷ cs) ≡ true → ColumnsThen (columnsFrom at (printed w c cs n)) (c ∷ cs) (remark w n)
     unfolding printed
     printed-read at c cs e =
         let b = tailed-read (at + length c) cs (and-right (solid c) (every solid cs) e) in

@@ -1,7 +1,7 @@
 -- A file is read byte by byte, and so line by line: what a reading is behind bytes of a line, behind a whole line, and
 -- behind a fault.
 use mathlib.Core.Path.{_≡_, refl, sym, ap, _∙_}
-use mathlib.Core.Bool.{Bool, true, false, _||_}
+use mathlib.Core.Bool.{Bool, false}
 use mathlib.Core.Option.{Option, none, some}
 use mathlib.Core.List.{List, [], _∷_, _++_, reverse, reverseAux-eq, reverse-reverse, append-nil}
 use Prim.Native.Nat.{ℕ, suc, _+_}
@@ -13,6 +13,7 @@ use Rattle.rules.specs.Bytes.{newline}
 use Rattle.rules.specs.Rules.{Fault}
 use Rattle.rules.specs.Phases.{Phase, step}
 use Rattle.rules.specs.Reading.{Handed, Reading, numbers, line, ended, withByte, byte, read}
+use Rattle.rules.proofs.Conjunctions.{or-left, or-right}
 
 -- a newline is among the bytes
 abbrev pub hasNewline : List ℕ → Bool
@@ -21,14 +22,6 @@ hasNewline l = any (λ (b : ℕ). eqb b newline) l
 pub read-append : (r : Reading) (xs ys : List ℕ) → read r (xs ++ ys) ≡ read (read r xs) ys
 read-append r [] ys = refl
 read-append r (x ∷ xs) ys = read-append (byte r x) xs ys
-
-or-first : (a b : Bool) → (a || b) ≡ false → a ≡ false
-or-first true b e = e
-or-first false b e = refl
-
-or-second : (a b : Bool) → (a || b) ≡ false → b ≡ false
-or-second true b e = (cc)
-or-second false b e = e
 
 -- ---- within one line: its start, where the reading stands and what is handed out don't change
 
@@ -43,8 +36,8 @@ module _ (from : ℕ) (stands : Phase) (out : List Handed) where
   part-from [] part at u = ap (λ (n : ℕ). reading none n part) (sym (add-zero at))
   part-from (b ∷ bs) part at u =
       let r = reading none at part in
-      ap (λ (t : Bool). read (pick t (ended r (step stands (numbers out) (line r))) (withByte r b)) bs) (or-first (eqb b newline) (hasNewline bs) u)
-      ∙ part-from bs (b ∷ part) (suc at) (or-second (eqb b newline) (hasNewline bs) u)
+      ap (λ (t : Bool). read (pick t (ended r (step stands (numbers out) (line r))) (withByte r b)) bs) (or-left (eqb b newline) (hasNewline bs) u)
+      ∙ part-from bs (b ∷ part) (suc at) (or-right (eqb b newline) (hasNewline bs) u)
       ∙ one-more none (reverse bs ++ (b ∷ part)) bs at
       ∙ ap (reading none (at + suc (length bs))) (sym (reverseAux-eq bs (b ∷ part)) ∙ reverseAux-eq (b ∷ bs) part)
 

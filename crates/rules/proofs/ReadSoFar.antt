@@ -1,6 +1,6 @@
 -- A line that is taken leads from what was read to what was read: whatever a reading accepts is as the grammar says. One
 -- law for each kind of line.
-use Prim.Native.Nat.{ℕ, _+_, _≤_}
+use Prim.Native.Nat.{ℕ, _≤_}
 use native.Mathlib.Omega.{arith}
 use mathlib.Core.Path.{_≡_, refl, sym, ap, _∙_, subst}
 use mathlib.Core.Bool.{Bool, true, false, false≢true, not, _&&_}
@@ -142,8 +142,8 @@ module _ (K : Phase → List Sentence → Type 0) (out : List Sentence) (done : 
 
   -- ---- in a table
 
-  pub row-given : startsRow (firstColumn line) ≡ true → 1 ≤ length (firstColumn line .bytes)
-  row-given e = by (firstColumn line .bytes) e
+  pub row-first-given : startsRow (firstColumn line) ≡ true → 1 ≤ length (firstColumn line .bytes)
+  row-first-given e = by (firstColumn line .bytes) e
     where
       by : (xs : List ℕ) → (not (empty xs) && not (hashed xs)) ≡ true → 1 ≤ length xs
       by [] e = absurd (false≢true e)
@@ -176,7 +176,7 @@ module _ (K : Phase → List Sentence → Type 0) (out : List Sentence) (done : 
                       ∙ ap (λ (l : List ℕ). preLines (r .pre .formatLine) (r .pre .ts) ++ (r .bot ∷ rowLines (r .rows) ++ (l ∷ []))) (sym (o .its-line))
                       ∙ ap (λ (ls : List (List ℕ)). preLines (r .pre .formatLine) (r .pre .ts) ++ (r .bot ∷ ls)) (sym (map-append (λ (r : RowLine). r .line) (r .rows) (o .row ∷ [])));
                 };
-            starts = first-starts line (row-given e);
+            starts = first-starts line (row-first-given e);
             kept = o .goes-on;
           }
       row false e g = absurd g

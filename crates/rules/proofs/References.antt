@@ -24,7 +24,7 @@ use Rattle.rules.proofs.RulesHeld.{held, hold}
 use Rattle.rules.proofs.Elements.{map-append}
 use Rattle.rules.proofs.EachElement.{each-tested}
 use Rattle.rules.proofs.MeantTables.{known-meant, known-editor-meant, known-origin-meant}
-use Rattle.rules.proofs.PrintedLines.{plain}
+use Rattle.rules.proofs.PrintedLines.{unplaced}
 use Rattle.rules.proofs.NodesKept.{printColumns, NodeKept, WordKept, PhraseKept}
 use Rattle.rules.proofs.SentencesKept.{bareSentence, SentenceKept, every-same, parents-bare}
 use Rattle.rules.proofs.HandedKept.{handed-kept}
@@ -33,7 +33,7 @@ use Rattle.rules.proofs.HandedKept.{handed-kept}
 
 module _ (format : ℕ) (ts : Tables) (tags : ℕ) (word : Text) (n : Node) (k : NodeKept format ts tags word n) where
   abbrev fs : List Text
-  fs = map plain (printColumns n)
+  fs = map unplaced (printColumns n)
 
   abbrev labelKnown : Edge → Bool
   labelKnown e = known ts secEdgeTags (e .label)
@@ -73,7 +73,7 @@ module _ (ps : List Node) (n : Node) (e : parented ps n ≡ true) where
   pub parent-listed : (n .parent ≡ 0) ⊎ (listed ps (n .parent) ≡ true)
   parent-listed = zero-or (n .parent) (listed ps (n .parent)) (and-left (eqb (n .parent) 0 || listed ps (n .parent)) _ e)
 
-  secondary-listed : every (λ (x : Edge). listed ps (x .parent)) (n .secondary) ≡ true
+  pub secondary-listed : every (λ (x : Edge). listed ps (x .parent)) (n .secondary) ≡ true
   secondary-listed = and-right (eqb (n .parent) 0 || listed ps (n .parent)) _ e
 
 -- places left out and put back

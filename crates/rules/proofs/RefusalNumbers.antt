@@ -7,14 +7,14 @@ use mathlib.Core.Bool.{Bool, true, false, not, _&&_}
 use mathlib.Core.List.{List, [], _∷_, _++_, map}
 use lib.Dec.{leb, ltb, eqb}
 use Rattle.rules.specs.Lists.{pick, bytes}
-use Rattle.rules.specs.Texts.{Text, reads, atMost}
+use Rattle.rules.specs.Texts.{Text, reads, atMost, behindHash}
 use Rattle.rules.specs.Columns.{columns, text, fields}
 use Rattle.rules.specs.Numbers.{wordLimit, phraseNumber, number, good, value}
 use Rattle.rules.specs.Rules.{Rule, rule, checked}
 use Rattle.rules.specs.Tables.{Tables, Row, origins, editors, wordTags, nodeTags, secEdgeTags, known, tagLimit}
 use Rattle.rules.specs.Rows.{originRow, editorRow, tagRow, rowOf}
 use Rattle.rules.specs.Sentences.{Node, Sentence, headingOf, endRules, endOf, SoFar, soFar}
-use Rattle.rules.specs.Nodes.{Pair, secondaryParent, itsPairs, roomy, behindHash, wordOf, phraseOf, parentsWritten, tagsShort, tagsKnown, parentsRise}
+use Rattle.rules.specs.Nodes.{Pair, secondaryParent, itsPairs, roomy, wordOf, phraseOf, parentsWritten, tagsShort, tagsKnown, parentsRise}
 use Rattle.rules.specs.Keywords.{formatOf, tableOpened, tableEnded, firstColumn, startsRow, startsWord, startsPhrase}
 use Rattle.rules.specs.Phases.{Preamble, Phase, start, top, inTable, inSentence, behindSentence, Answer, refuse, go, hand, next, step}
 use Rattle.rules.proofs.Takings.{answerStart, answerBehind, answerTop, answerRows, answerNodes, answerAt}

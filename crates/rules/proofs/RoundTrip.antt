@@ -26,9 +26,9 @@ use Rattle.rules.proofs.Sorting.{Rising, all-sorted, rising-from-zero, 
 use Rattle.rules.proofs.PrintedLines.{parted-plain}
 use Rattle.rules.proofs.LineFit.{LineFit}
 use Rattle.rules.proofs.KeywordLines.{keyed, keyed-number-fit, format-passes}
-use Rattle.rules.proofs.MeantTables.{present-meant, same-meaning as same-printed}
+use Rattle.rules.proofs.MeantTables.{present-meant, meant-again}
 use Rattle.rules.proofs.SentencesKept.{byNumber, SentenceKept, sentence-sorted}
-use Rattle.rules.proofs.Kept.{PreambleKept, both, means}
+use Rattle.rules.proofs.Kept.{PreambleKept, bothPresent, means}
 use Rattle.rules.proofs.KeptReading.{bares, FileKept, meantBy, reading-meaning, survey-read, accepted-kept}
 use Rattle.rules.proofs.Stands.{Stands, line-go, step-printed}
 use Rattle.rules.proofs.TablesBack.{blanks, TablesRead, tables-read, tables-printed}
@@ -103,13 +103,13 @@ record Accepts (q : Preamble) (ss : List Sentence) (r : Reading) : Type 0 where
   tables : tablesAt (r .phase) ≡ q .tables
   handed : bares (r .handed) ≡ ss
 
-accepts-top : (q : Preamble) (r : Reading) → both (q .tables) ≡ true → Stands (top q) [] r → Accepts q [] r
+accepts-top : (q : Preamble) (r : Reading) → bothPresent (q .tables) ≡ true → Stands (top q) [] r → Accepts q [] r
 accepts-top q r b s = record { refusal = rw (s .sound, s .unbegun, s .phase, b); format = ap formatAt (s .phase); tables = ap tablesAt (s .phase); handed = s .handed }
 
 accepts-behind : (q : Preamble) (ss : List Sentence) (r : Reading) → Stands (behindSentence q) ss r → Accepts q ss r
 accepts-behind q ss r s = record { refusal = rw (s .sound, s .unbegun, s .phase); format = ap formatAt (s .phase); tables = ap tablesAt (s .phase); handed = s .handed }
 
-sentences-accepted : (q : Preamble) (ss : List Sentence) (x : Reading) → both (q .tables) ≡ true → Each (Ready (q .format) (means q)) ss → Rising sentenceNumberOf 0 ss → Stands (top q) [] x
+sentences-accepted : (q : Preamble) (ss : List Sentence) (x : Reading) → bothPresent (q .tables) ≡ true → Each (Ready (q .format) (means q)) ss → Rising sentenceNumberOf 0 ss → Stands (top q) [] x
     → Accepts q ss (read x (joined (map sentenceText ss)))
 sentences-accepted q [] x b k rise st = accepts-top q x b st
 sentences-accepted q (s ∷ ss) x b k rise st = accepts-behind q (s ∷ ss) (read x (joined (map sentenceText (s ∷ ss)))) (all-sentences-read q s ss x k rise st)
@@ -128,8 +128,8 @@ tidy-read p ss k =
     let c = joined (map sentenceText (inOrder ss)) in
     let t = preamble-read p (read begin a) (k .preamble) (format-read (p .format) (k .preamble .format)) in
     let q = t .preamble in
-    let same : means q ≡ means p = same-printed (q .tables) (p .tables) (t .same) in
-    let present-both : both (q .tables) ≡ true = sym (ap₂ _&&_ (present-meant origins (q .tables)) (present-meant editors (q .tables))) ∙ ap both same ∙ k .both in
+    let same : means q ≡ means p = meant-again (q .tables) (p .tables) (t .same) in
+    let present-both : bothPresent (q .tables) ≡ true = sym (ap₂ _&&_ (present-meant origins (q .tables)) (present-meant editors (q .tables))) ∙ ap bothPresent same ∙ k .both in
     let printed : Each (Ready (p .format) (means p)) (inOrder ss) =
     all-sorted sentenceNumberOf (Ready (p .format) (means p)) (map byNumber ss) (each-ready (p .format) (means p) ss (k .sentences .each)) in
     let ready : Each (Ready (q .format) (means q)) (inOrder ss) =

@@ -23,7 +23,7 @@ use Rattle.rules.specs.Meaning.{bareRow}
 use Rattle.rules.specs.Tidy.{tab, idDigits, rowLine}
 use Rattle.rules.proofs.Conjunctions.{and-left, and-right}
 use Rattle.rules.proofs.Decimal.{digits-written}
-use Rattle.rules.proofs.PrintedLines.{plain, parted-printed, parted-plain}
+use Rattle.rules.proofs.PrintedLines.{unplaced, parted-printed, parted-plain}
 use Rattle.rules.proofs.AnyLine.{lawfulColumn, columns-lawful}
 use Rattle.rules.proofs.LineFit.{LineFit}
 use Rattle.rules.proofs.MeantTables.{any-bare}
@@ -99,14 +99,14 @@ row-fit (suc zero) r k = editor-fit r k
 row-fit (suc (suc m)) r k = tag-fit (suc (suc m)) (eqb (suc (suc m)) wordTags) r k
 
 -- its first column is the id, which begins a row
-pub record Begins (i : ℕ) : Type 0 where
+pub record BeginsRow (i : ℕ) : Type 0 where
   pub no-end : same (idDigits i) (bytes "#EOT") ≡ false
-  pub row : startsRow (plain (idDigits i)) ≡ true
+  pub row : startsRow (unplaced (idDigits i)) ≡ true
 
-digits-begin : (d : ℕ) (ds : List ℕ) → digit d ≡ true → (same (d ∷ ds) (bytes "#EOT") ≡ false) × (startsRow (plain (d ∷ ds)) ≡ true)
+digits-begin : (d : ℕ) (ds : List ℕ) → digit d ≡ true → (same (d ∷ ds) (bytes "#EOT") ≡ false) × (startsRow (unplaced (d ∷ ds)) ≡ true)
 digits-begin d ds e = (rw (digits-start d e), rw (digits-start d e))
 
-pub id-begins : (i : ℕ) → Begins i
+pub id-begins : (i : ℕ) → BeginsRow i
 id-begins zero = record { no-end = refl; row = refl }
 id-begins (suc i) =
     let w = digits-written i in

@@ -67,8 +67,8 @@ flagRead n t = pick (eqb n wordTags && reads yes t) 1 0
 no-yes : (t : Text) → t .bytes ≡ bytes "N" → reads yes t ≡ false
 no-yes t e = ap (λ (xs : List ℕ). same xs yes) e
 
-pub flagged : (n : ℕ) (t : Text) → n ≡ wordTags → (not (eqb n wordTags) || isFlag t) ≡ true → YesOrNo (t .bytes ∷ []) (flagRead n t)
-flagged n t w h = by (or-both-ways (reads (bytes "Y") t) (reads (bytes "N") t) .0 (sym (ap (λ (b : Bool). not b || isFlag t) e) ∙ h))
+pub flag-said : (n : ℕ) (t : Text) → n ≡ wordTags → (not (eqb n wordTags) || isFlag t) ≡ true → YesOrNo (t .bytes ∷ []) (flagRead n t)
+flag-said n t w h = by (or-both-ways (reads (bytes "Y") t) (reads (bytes "N") t) .0 (sym (ap (λ (b : Bool). not b || isFlag t) e) ∙ h))
   where
     e : eqb n wordTags ≡ true
     e = eq-eqb n wordTags w
@@ -106,10 +106,10 @@ module _ (n : ℕ) (t : Text) (flag : ℕ) (said : n ≡ wordTags → YesOrNo (t
       by false e = sym (none (eqb-false n wordTags e))
 
 module _ (line : Text) where
-  pub described : (n : ℕ)
+  pub description-there : (n : ℕ)
       → trim (pick (eqb n wordTags) (column (columns line) 2) (column (columns line) 1) .after) .bytes
       ≡ textBehind (pick (eqb n wordTags) 2 1) (line .bytes)
-  described n = by (eqb n wordTags)
+  description-there n = by (eqb n wordTags)
     where
       by : (b : Bool) → trim (pick b (column (columns line) 2) (column (columns line) 1) .after) .bytes ≡ textBehind (pick b 2 1) (line .bytes)
       by true = text-there line 2

@@ -48,13 +48,13 @@ pub record Short (limit : ℕ) (xs : List ℕ) : Type 0 where
   pub lawful : every legal xs ≡ true
   pub short : length xs ≤ limit
 
-pub record Legal (c : Column) : Type 0 where
+pub record LegalColumn (c : Column) : Type 0 where
   pub solid : solid (c .text .bytes) ≡ true
   pub lawful : every legal (c .text .bytes) ≡ true
   pub after : every legal (c .after .bytes) ≡ true
 
 -- where a column has a text behind it, the columns in front of it are there
-there : (cs : List Column) (j k : ℕ) → j ≤ k → every solidColumn cs ≡ true → every lawfulColumn cs ≡ true → given (trim (column cs k .after)) ≡ true → Legal (column cs j)
+there : (cs : List Column) (j k : ℕ) → j ≤ k → every solidColumn cs ≡ true → every lawfulColumn cs ≡ true → given (trim (column cs k .after)) ≡ true → LegalColumn (column cs j)
 unfolding trimFrom
 there [] j k h s l g = absurd (false≢true g)
 there (c ∷ cs) zero k h s l g =
@@ -68,8 +68,8 @@ there (c ∷ cs) (suc j) zero h s l g = absurd (omega arith)
 there (c ∷ cs) (suc j) (suc k) h s l g =
     there cs j k (le-of-suc-le-suc h) (and-right (solidColumn c) (every solidColumn cs) s) (and-right (lawfulColumn c) (every lawfulColumn cs) l) g
 
-pub column-there : (line : Text) (j k : ℕ) → j ≤ k → every legal (line .bytes) ≡ true → given (trim (column (columns line) k .after)) ≡ true → Legal (column (columns line) j)
-column-there line j k h l g = there (columns line) j k h (columns-solid (line .start) (line .bytes)) (columns-lawful (line .start) (line .bytes) l) g
+pub column-legal : (line : Text) (j k : ℕ) → j ≤ k → every legal (line .bytes) ≡ true → given (trim (column (columns line) k .after)) ≡ true → LegalColumn (column (columns line) j)
+column-legal line j k h l g = there (columns line) j k h (columns-solid (line .start) (line .bytes)) (columns-lawful (line .start) (line .bytes) l) g
 
 -- ---- the text up to the line's end
 

@@ -17,7 +17,7 @@ use Rattle.rules.specs.GrammarLines.{In}
 use Rattle.rules.specs.GrammarContent.{RowContent}
 use Rattle.rules.specs.GrammarSurvey.{rowRead}
 use Rattle.rules.specs.GrammarRows.{RowLine, rowSays, ids1, firsts}
-use Rattle.rules.specs.GrammarTables.{InOrder}
+use Rattle.rules.specs.GrammarTables.{IdsInOrder}
 use Rattle.rules.proofs.Elements.{map-append, map-map, maps-more}
 use Rattle.rules.proofs.SaidOfLists.{length-map}
 use Rattle.rules.proofs.TestsAsFacts.{has-id, has-tag, idsOf, firstsOf}
@@ -29,9 +29,9 @@ use Rattle.rules.proofs.IdsInOrder.{chained-more, chained-next, last-id
 abbrev pub AlikeRow : Row → RowLine → Type 0
 AlikeRow r row = rowRead r ≡ rowSays row
 
-pub same-row : {i j : ℕ} {x y u v : List ℕ} {f g : ℕ} → i ≡ j → x ≡ y → u ≡ v → f ≡ g
+pub content-equal : {i j : ℕ} {x y u v : List ℕ} {f g : ℕ} → i ≡ j → x ≡ y → u ≡ v → f ≡ g
     → _≡_ {A = RowContent} (record { id1 = i; first = x; second = u; flag = f }) (record { id1 = j; first = y; second = v; flag = g })
-same-row p q s t = cc
+content-equal p q s t = cc
 
 abbrev pub Alike : List Row → List RowLine → Type 0
 Alike rs rows = map rowRead rs ≡ map rowSays rows
@@ -65,13 +65,13 @@ module _ (rs : List Row) (rows : List RowLine) (a : Alike rs rows) where
   pub next-room : (row : RowLine) (more : List RowLine) → length (rows ++ (row ∷ more)) ≤ rowLimit → ltb (length rs) rowLimit ≡ true
   next-room row more h = lt-ltb (length rs) rowLimit (omega (arith, alike-length rs rows a, length-append rows (row ∷ more)))
 
-  pub next-in-order : (i : ℕ) (row : RowLine) → row .id1 ≡ i → InOrder (ids1 rows) → follows (lastId rs) i ≡ true → InOrder (ids1 (rows ++ (row ∷ [])))
+  pub next-in-order : (i : ℕ) (row : RowLine) → row .id1 ≡ i → IdsInOrder (ids1 rows) → follows (lastId rs) i ≡ true → IdsInOrder (ids1 (rows ++ (row ∷ [])))
   next-in-order i row e o h =
       let last : lastOf none (ids1 rows) ≡ lastId rs = ap (lastOf none) (sym (alike-ids rs rows a)) ∙ last-id rs in
       rw (map-append (λ (r : RowLine). r .id1) rows (row ∷ []), e)
       (chained-ordered (ids1 rows ++ (i ∷ [])) (chained-more none (ids1 rows) i (ordered-chained (ids1 rows) o) (rw last h)))
 
-  pub in-order-next : (row : RowLine) (more : List RowLine) → InOrder (ids1 (rows ++ (row ∷ more))) → follows (lastId rs) (row .id1) ≡ true
+  pub in-order-next : (row : RowLine) (more : List RowLine) → IdsInOrder (ids1 (rows ++ (row ∷ more))) → follows (lastId rs) (row .id1) ≡ true
   in-order-next row more o =
       let last : lastOf none (ids1 rows) ≡ lastId rs = ap (lastOf none) (sym (alike-ids rs rows a)) ∙ last-id rs in
       rw (← last)

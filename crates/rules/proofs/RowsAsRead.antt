@@ -1,6 +1,6 @@
 -- A row's line as the reading takes it apart, by the places of its columns, and as the grammar says it: the two say the same.
 -- By the columns' laws.
-use Prim.Native.Nat.{ℕ, suc, _+_, _≤_, _<_}
+use Prim.Native.Nat.{ℕ, suc, _≤_, _<_}
 use native.Mathlib.Omega.{arith}
 use mathlib.Core.Path.{_≡_, refl, sym, ap, _∙_, subst}
 use mathlib.Core.Logic.{inl, inr}

@@ -25,8 +25,8 @@ use Rattle.rules.proofs.SaidOfLists.{differ-map-next, and-both-ways}
 use Rattle.rules.proofs.TestsAsFacts.{reads-are, given-are, leb-is, some-good, some-value, not-is}
 use Rattle.rules.proofs.LineByLine.{Through, held-through}
 use Rattle.rules.proofs.RowsAsRead.{OriginRead, said-origin, EditorRead, said-editor, TagRead, said-tag}
-use Rattle.rules.proofs.RowsAlike.{Alike, AlikeRow, same-row, has-id-alike, has-tag-alike, next-room, in-order-next}
-use Rattle.rules.proofs.RowTests.{carries-own, flag-held, flag-is, described, tags-row}
+use Rattle.rules.proofs.RowsAlike.{Alike, AlikeRow, content-equal, has-id-alike, has-tag-alike, next-room, in-order-next}
+use Rattle.rules.proofs.RowTests.{carries-own, flag-held, flag-is, description-there, tags-row}
 
 module _ (rs : List Row) (rows : List RowLine) (a : Alike rs rows) (K : Phase → List Sentence → Type 0) (out : List Sentence) (f : Row → Answer) (line : Text) where
   module _ (row : RowLine) (more : List RowLine) (its-line : row .line ≡ line .bytes) (few : length (rows ++ (row ∷ more)) ≤ rowLimit)
@@ -65,7 +65,7 @@ module _ (rs : List Row) (rows : List RowLine) (a : Alike rs rows) (K : Phase �
             ),
           ),
         )
-        (goes-on _ (same-row same-id same-name same-note (sym (one .no-flag))))
+        (goes-on _ (content-equal same-id same-name same-note (sym (one .no-flag))))
 
     pub editor-grants : EditorTable (rows ++ (row ∷ more)) → Through K out (next f (editorRow rs line))
     unfolding editorRow
@@ -95,7 +95,7 @@ module _ (rs : List Row) (rows : List RowLine) (a : Alike rs rows) (K : Phase �
             ),
           ),
         )
-        (goes-on _ (same-row same-id same-login same-full (sym (one .no-flag))))
+        (goes-on _ (content-equal same-id same-login same-full (sym (one .no-flag))))
 
     pub tag-grants : (n : ℕ) → TagTable n (rows ++ (row ∷ more)) → Through K out (next f (tagRow n rs line))
     unfolding tagRow
@@ -109,7 +109,7 @@ module _ (rs : List Row) (rows : List RowLine) (a : Alike rs rows) (K : Phase �
         let same-tag : tag .bytes ≡ row .first = at-column 1 ∙ sym (one .tag-is) in
         let flag = column (columns line) 2 .text in
         let behindAll = trim (pick (eqb n wordTags) (column (columns line) 2) (column (columns line) 1) .after) in
-        let same-text : behindAll .bytes ≡ row .second = described line n ∙ ap (textBehind (pick (eqb n wordTags) 2 1)) (sym its-line) ∙ sym (one .description-is) in
+        let same-text : behindAll .bytes ≡ row .second = description-there line n ∙ ap (textBehind (pick (eqb n wordTags) 2 1)) (sym its-line) ∙ sym (one .description-is) in
         let its-flag : n ≡ wordTags → YesOrNo (flag .bytes ∷ []) (row .flag) = rw (at-column 2) (one .flag) in
         held-through K out f _ _ (
           given-are behindAll .1 (rw same-text (one .description .0)),
@@ -138,7 +138,7 @@ module _ (rs : List Row) (rows : List RowLine) (a : Alike rs rows) (K : Phase �
             ),
           ),
         )
-        (goes-on _ (same-row same-id same-tag same-text (flag-is n flag (row .flag) its-flag (one .no-flag))))
+        (goes-on _ (content-equal same-id same-tag same-text (flag-is n flag (row .flag) its-flag (one .no-flag))))
 
     pub row-grants : (n : ℕ) → RowsFit n (rows ++ (row ∷ more)) → Through K out (next f (rowOf n rs line))
     row-grants zero t = origin-grants (t .of-origins refl)

@@ -24,7 +24,7 @@ use Rattle.rules.proofs.TestsAsFacts.{reads-are, given-are, leb-is, goo
 use Rattle.rules.proofs.LineByLine.{Through, through-held}
 use Rattle.rules.proofs.RowsAsRead.{OriginRead, origin-said, EditorRead, editor-said, TagRead, tag-said}
 use Rattle.rules.proofs.RowsAlike.{Alike, AlikeRow, has-id-alike, has-tag-alike, room-next, next-in-order}
-use Rattle.rules.proofs.RowTests.{own-carries, flagRead, flagged, unflagged, described, tags-row, rows-of-origins, rows-of-editors, rows-of-tags}
+use Rattle.rules.proofs.RowTests.{own-carries, flagRead, flag-said, unflagged, description-there, tags-row, rows-of-origins, rows-of-editors, rows-of-tags}
 
 module _ (rs : List Row) (rows : List RowLine) (a : Alike rs rows) where
   module _ (K : Phase → List Sentence → Type 0) (out : List Sentence) (f : Row → Answer) (line : Text) where
@@ -123,9 +123,9 @@ module _ (rs : List Row) (rows : List RowLine) (a : Alike rs rows) where
           tag-is = column-there line 1;
           tag = leb-is (length (tag .bytes)) (tagLimit n) .0 (short .0);
           no-comment-sign = not-is (reads percents tag) (reads-are percents tag) .0 (short .1);
-          flag = λ e. subst (λ (x : List ℕ). YesOrNo (x ∷ []) (flagRead n flag)) (column-there line 2) (flagged n flag e (h .0 .1 .1 .1 .0));
+          flag = λ e. subst (λ (x : List ℕ). YesOrNo (x ∷ []) (flagRead n flag)) (column-there line 2) (flag-said n flag e (h .0 .1 .1 .1 .0));
           no-flag = λ e. unflagged n flag e;
-          description-is = described line n;
+          description-is = description-there line n;
           description = (given-are behindAll .0 (h .0 .0), leb-is (length (behindAll .bytes)) 80 .0 (h .0 .1 .1 .1 .1 .0));
         } in
         record {

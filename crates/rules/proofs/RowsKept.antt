@@ -45,18 +45,19 @@ rows-last n done (q ∷ rs) r k l =
 
 -- ---- sorted by id
 
-module _ (n : ℕ) (differ : (done : List Row) (r : Row) → RowNew n done r → hasId (r .id1) done ≡ false)
-    (enough : (done : List Row) (r : Row) → hasId (r .id1) done ≡ false → RowNew n done r) where
-  all-own : (done rs : List Row) → RowsKept n done rs → Each (RowOwn n) rs
-  all-own done [] k = tt
-  all-own done (r ∷ rs) k = (k .0 .own, all-own (done ++ (r ∷ [])) rs (k .1))
-
-  distinct-rows : (done rs : List Row) → Distinct rowId done → RowsKept n done rs → Distinct rowId (done ++ rs)
+module _ (n : ℕ) (differ : (done : List Row) (r : Row) → RowNew n done r → hasId (r .id1) done ≡ false) where
+  pub distinct-rows : (done rs : List Row) → Distinct rowId done → RowsKept n done rs → Distinct rowId (done ++ rs)
   unfolding hasId
   distinct-rows done [] d k = subst (Distinct rowId) (sym (append-nil done)) d
   distinct-rows done (r ∷ rs) d k =
       subst (Distinct rowId) (append-assoc done (r ∷ []) rs)
       (distinct-rows (done ++ (r ∷ [])) rs (distinct-last rowId done r d (differ done r (k .0 .new))) (k .1))
+
+module _ (n : ℕ) (differ : (done : List Row) (r : Row) → RowNew n done r → hasId (r .id1) done ≡ false)
+    (enough : (done : List Row) (r : Row) → hasId (r .id1) done ≡ false → RowNew n done r) where
+  all-own : (done rs : List Row) → RowsKept n done rs → Each (RowOwn n) rs
+  all-own done [] k = tt
+  all-own done (r ∷ rs) k = (k .0 .own, all-own (done ++ (r ∷ [])) rs (k .1))
 
   few-rows : (done rs : List Row) → length done ≤ rowLimit → RowsKept n done rs → length done + length rs ≤ rowLimit
   few-rows done [] h k = omega arith
@@ -77,7 +78,7 @@ module _ (n : ℕ) (differ : (done : List Row) (r : Row) → RowNew n done r →
 
   sorted-kept : (rs : List Row) → RowsKept n [] rs → RowsKept n [] (sorted rowId rs)
   sorted-kept rs k =
-      rising-rows 0 [] (sorted rowId rs) tt (rising-from-zero rowId rs (distinct-rows [] rs tt k))
+      rising-rows 0 [] (sorted rowId rs) tt (rising-from-zero rowId rs (distinct-rows n differ [] rs tt k))
       (all-sorted rowId (RowOwn n) rs (all-own [] rs k)) (omega (arith, length-sorted rowId rs, few-rows [] rs (omega arith) k))
 
 pub origins-sorted : (rs : List Row) → RowsKept 0 [] rs → RowsKept 0 [] (sorted rowId rs)

@@ -19,13 +19,13 @@ use Rattle.rules.specs.Rows.{originRow, editorRow, yes, isFlag, tagRow, 
 use Rattle.rules.specs.Phases.{Answer, refuse, next}
 use Rattle.rules.specs.Tidy.{idDigits}
 use Rattle.rules.specs.GrammarColumns.{Begins}
-use Rattle.rules.specs.AsWritten.{OriginSaid, FlagSaid, TagSaid, RowSaid}
+use Rattle.rules.specs.AsWritten.{OriginSaid, FlagSaid, TagSaid, TableRowSaid}
 use Rattle.rules.proofs.RuleLaws.{none-broken}
 use Rattle.rules.proofs.RulesHeld.{Held, held}
 use Rattle.rules.proofs.SaidOfLists.{never-both}
-use Rattle.rules.proofs.TestsAsFacts.{reads-are}
+use Rattle.rules.proofs.TestsAsFacts.{reads-are, good-some}
 use Rattle.rules.proofs.Decimal.{id-one-writing}
-use Rattle.rules.proofs.NumbersAgain.{good-some, number-again}
+use Rattle.rules.proofs.NumbersAgain.{number-again}
 use Rattle.rules.proofs.PlaceFree.{column-there, rest-there, count-columns}
 use Rattle.rules.proofs.NamesAndNotes.{note-said}
 use Rattle.rules.proofs.StrippedTexts.{stripped-said}
@@ -152,7 +152,7 @@ module _ (line : Text) where
               description = stripped-said (column (columns line) 1 .after);
             }
 
-    pub row-said : (n : ℕ) (rs : List Row) → ((r : Row) → RowSaid n r (line .bytes) → P (f r)) → P (next f (rowOf n rs line))
+    pub row-said : (n : ℕ) (rs : List Row) → ((r : Row) → TableRowSaid n r (line .bytes) → P (f r)) → P (next f (rowOf n rs line))
     row-said zero rs good = origin-said rs good
     row-said (suc zero) rs good = editor-said rs good
     row-said (suc (suc n)) rs good = rw (ne-eqb (suc (suc n)) 0 (λ e. omega arith), ne-eqb (suc (suc n)) 1 (λ e. omega arith)) (tag-said (suc (suc n)) rs good)

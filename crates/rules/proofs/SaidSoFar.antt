@@ -1,7 +1,7 @@
 -- A sentence that is being read is what is written since its start: a line that is taken in it is one more of its lines, and
 -- so is one that is ignored.
-use Prim.Native.Nat.{ℕ, zero, suc, _+_}
-use native.Mathlib.Nat.{add-suc, suc-add, add-zero, zero-add}
+use Prim.Native.Nat.{ℕ, suc, _+_}
+use native.Mathlib.Nat.{zero-add}
 use native.Mathlib.Omega.{arith}
 use mathlib.Core.Path.{_≡_, refl, sym, ap, _∙_, subst}
 use mathlib.Core.Bool.{true, false≢true}
@@ -16,6 +16,7 @@ use Rattle.rules.specs.GrammarLines.{Ignored, linesWritten, Heeded, no-l
 use Rattle.rules.specs.Tidy.{digitsOf}
 use Rattle.rules.specs.GrammarColumns.{Columns}
 use Rattle.rules.specs.AsWritten.{HeadSaid, WordSaid, PhraseSaid, EachWith, SentenceSaid}
+use Rattle.rules.proofs.Counting.{counting-more}
 use Rattle.rules.proofs.EachElement.{each-more}
 use Rattle.rules.proofs.Elements.{map-append, joined-append}
 
@@ -48,10 +49,6 @@ none-with P [] [] e k = refl
 none-with P [] (y ∷ ys) e k = absurd k
 none-with P (x ∷ xs) ys e k = absurd (false≢true e)
 
-counting-more : (from count : ℕ) → counting from count ++ ((from + count) ∷ []) ≡ counting from (suc count)
-counting-more from zero = ap (λ (n : ℕ). n ∷ []) (add-zero from)
-counting-more from (suc count) = ap (λ (l : List ℕ). from ∷ l) (ap (λ (n : ℕ). counting (suc from) count ++ (n ∷ [])) (add-suc from count ∙ sym (suc-add from count)) ∙ counting-more (suc from) count)
-
 -- ---- a sentence that is being read, behind these bytes
 
 pub record SaidSoFar (done : List ℕ) (s : Sentence) : Type 0 where
@@ -69,12 +66,12 @@ pub record SaidSoFar (done : List ℕ) (s : Sentence) : Type 0 where
   pub counted : map (λ (n : Node). n .number) (s .words) ≡ counting 0 (length (s .words))
   pub its-phrases : EachWith PhraseSaid (s .phrases) phrases
 
-abbrev pub Stands : List ℕ → Phase → Type 0
-Stands done start = Unit {0}
-Stands done (top p) = Unit {0}
-Stands done (inTable p n rs) = Unit {0}
-Stands done (inSentence p s) = SaidSoFar done s
-Stands done (behindSentence p) = Unit {0}
+abbrev pub SaidAt : List ℕ → Phase → Type 0
+SaidAt done start = Unit {0}
+SaidAt done (top p) = Unit {0}
+SaidAt done (inTable p n rs) = Unit {0}
+SaidAt done (inSentence p s) = SaidSoFar done s
+SaidAt done (behindSentence p) = Unit {0}
 
 module _ (done l : List ℕ) (plain : OneLine l) (s : Sentence) (k : SaidSoFar done s) where
   each-line-more : Each OneLine (k .lines ++ (l ∷ []))

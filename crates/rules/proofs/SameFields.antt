@@ -10,7 +10,7 @@ use Rattle.rules.specs.Meaning.{bareRow, bareEdge, bareNode, nodeNumber,
 use Rattle.rules.specs.Same.{InOrder, InAnyOrder, SameRow, SameEdge, SameNode, SameSentence}
 use Rattle.rules.proofs.EachElement.{each-of}
 use Rattle.rules.proofs.Sorting.{Distinct}
-use Rattle.rules.proofs.AlikeLists.{in-order, in-any-order}
+use Rattle.rules.proofs.AlikeLists.{alike-in-order, alike-in-any-order}
 
 -- no more is asked of an element
 abbrev pub Any : {A : Type 0} → A → Type 0
@@ -45,7 +45,7 @@ bare-edge : (e d : Edge) → bareEdge e ≡ bareEdge d → SameEdge e d
 bare-edge e d q = record { label = ap (λ (x : Edge). x .label .bytes) q; parent = ap (λ (x : Edge). x .parent) q }
 
 pub same-edges : (es ds : List Edge) → (map bareEdge es ≡ map bareEdge ds) ↔ InOrder SameEdge es ds
-same-edges es ds = in-order bareEdge Any SameEdge (λ e d a b. (bare-edge e d, edge-bare e d)) es ds (each-any es) (each-any ds)
+same-edges es ds = alike-in-order bareEdge Any SameEdge (λ e d a b. (bare-edge e d, edge-bare e d)) es ds (each-any es) (each-any ds)
 
 node-bare : (n m : Node) → SameNode n m → bareNode n ≡ bareNode m
 node-bare n m s = cc (same-edges (n .secondary) (m .secondary) .1 (s .secondary))
@@ -73,11 +73,11 @@ PhrasesDiffer s = Distinct nodeNumber (s .phrases)
 
 module _ (s t : Sentence) (d : PhrasesDiffer s) (c : PhrasesDiffer t) where
   same-words : (map bareNode (s .words) ≡ map bareNode (t .words)) ↔ InOrder SameNode (s .words) (t .words)
-  same-words = in-order bareNode Any SameNode same-node (s .words) (t .words) (each-any (s .words)) (each-any (t .words))
+  same-words = alike-in-order bareNode Any SameNode same-node (s .words) (t .words) (each-any (s .words)) (each-any (t .words))
 
   same-phrases : (map bareNode (sorted nodeNumber (s .phrases)) ≡ map bareNode (sorted nodeNumber (t .phrases))) ↔ InAnyOrder SameNode (s .phrases) (t .phrases)
   same-phrases =
-      in-any-order bareNode Any SameNode same-node nodeNumber nodeNumber (λ n. refl) (s .phrases) (t .phrases) (each-any (s .phrases)) (each-any (t .phrases)) d c
+      alike-in-any-order bareNode Any SameNode same-node nodeNumber nodeNumber (λ n. refl) (s .phrases) (t .phrases) (each-any (s .phrases)) (each-any (t .phrases)) d c
 
   sentence-bare : SameSentence s t → meantSentence s ≡ meantSentence t
   sentence-bare e = cc (same-words .1 (e .words), same-phrases .1 (e .phrases))

@@ -12,10 +12,12 @@ use Rattle.rules.specs.Sheets.{weighed, seenByte, seenSetSize, seenSet}
 use Rattle.rules.specs.Layout.{SeenLaid}
 use Rattle.rules.proofs.Counting.{length-counting, at-counting}
 
-abbrev weighs : Bool → ℕ
+-- ---- a first bit, and the others behind it at twice their weight
+
+abbrev pub weighs : Bool → ℕ
 weighs b = pick b 1 0
 
-first-bit : (b : Bool) (others : ℕ) → (weighs b + 2 * others) / 2 ^ 0 % 2 ≡ weighs b
+pub first-bit : (b : Bool) (others : ℕ) → (weighs b + 2 * others) / 2 ^ 0 % 2 ≡ weighs b
 first-bit true others = omega arith
 first-bit false others = omega arith
 
@@ -23,7 +25,7 @@ halved : (b : Bool) (others : ℕ) → (weighs b + 2 * others) / 2 ≡ others
 halved true others = omega arith
 halved false others = omega arith
 
-other-bit : (b : Bool) (others k : ℕ) → (weighs b + 2 * others) / 2 ^ suc k % 2 ≡ others / 2 ^ k % 2
+pub other-bit : (b : Bool) (others k : ℕ) → (weighs b + 2 * others) / 2 ^ suc k % 2 ≡ others / 2 ^ k % 2
 other-bit b others k =
     ap (λ (m : ℕ). (weighs b + 2 * others) / m % 2) (pow-suc 2 k ∙ mul-comm (2 ^ k) 2)
     ∙ ap (λ (q : ℕ). q % 2) (sym (div-div-eq-div-mul (weighs b + 2 * others) 2 (2 ^ k)))

@@ -20,9 +20,9 @@ use Rattle.rules.proofs.EachElement.{each-then, each-both, each-of}
 use Rattle.rules.proofs.Counting.{length-counting}
 use Rattle.rules.proofs.Elements.{map-append}
 use Rattle.rules.proofs.SaidOfLists.{never-both}
-use Rattle.rules.proofs.Sorting.{Distinct, has}
+use Rattle.rules.proofs.Sorting.{Distinct}
 use Rattle.rules.proofs.SentencesKept.{edges-append}
-use Rattle.rules.proofs.NodeNumbers.{InRoom}
+use Rattle.rules.proofs.NodeNumbers.{InRoom, each-own}
 use Rattle.rules.proofs.ParentsOnSheet.{at-joined, record-wide}
 use Rattle.rules.proofs.Rooms.{behind-at, joined-around, length-joined}
 
@@ -35,18 +35,8 @@ no-record (n ∷ ns) k e =
     let other : eqb (n .number) k ≡ false = ne-eqb (n .number) k (λ z. absurd (never-both (eqb k (n .number)) (eq-eqb k (n .number) (sym z)) (or-left (eqb k (n .number)) (listed ns k) e))) in
     rw other (no-record ns k (or-right (eqb k (n .number)) (listed ns k) e))
 
-abbrev Own : List Node → Node → Type 0
-Own ns n = recordAt ns (n .number) ≡ nodeNumbers n
-
-others-own : (m : Node) (ms ns : List Node) → has nodeNumber (m .number) ns ≡ false → Each (Own ms) ns → Each (Own (m ∷ ms)) ns
-others-own m ms [] e a = tt
-others-own m ms (n ∷ ns) e a =
-    let differ = or-left (eqb (m .number) (n .number)) (has nodeNumber (m .number) ns) e in
-    (rw differ (a .0), others-own m ms ns (or-right (eqb (m .number) (n .number)) (has nodeNumber (m .number) ns) e) (a .1))
-
-each-own : (ns : List Node) → Distinct nodeNumber ns → Each (Own ns) ns
-each-own [] d = tt
-each-own (n ∷ ns) d = (rw (eq-eqb (n .number) (n .number) refl), others-own n ns ns (d .0) (each-own ns (d .1)))
+abbrev HasRecord : List Node → Node → Type 0
+HasRecord ns n = recordAt ns (n .number) ≡ nodeNumbers n
 
 -- ---- the nodes' records
 
@@ -74,7 +64,7 @@ module _ (s : Sentence) where
       ∙ at-joined (recordAt ns) 11 (record-wide ns) 0 1000 k j h l
       ∙ ap (λ (m : ℕ). getD (recordAt ns m) j 0) (zero-add k)
 
-  node-laid : (n : Node) → Own ns n → InRoom n → NodeLaid (sentenceSheet s) (9 + 11 * n .number) n
+  node-laid : (n : Node) → HasRecord ns n → InRoom n → NodeLaid (sentenceSheet s) (9 + 11 * n .number) n
   node-laid n own room =
       record {
         word-start = at 0 (omega arith);
@@ -175,8 +165,8 @@ sentence-laid s distinct room few =
       phrases = refl;
       edges = counted;
       nodes =
-          each-then (λ (n : Node). Own ms n × InRoom n) (λ (n : Node). NodeLaid (sentenceSheet s) (9 + 11 * n .number) n) (λ n k. node-laid s n (k .0) (k .1)) ms
-          (each-both (Own ms) InRoom ms (each-own ms distinct) room);
+          each-then (λ (n : Node). HasRecord ms n × InRoom n) (λ (n : Node). NodeLaid (sentenceSheet s) (9 + 11 * n .number) n) (λ n k. node-laid s n (k .0) (k .1)) ms
+          (each-both (HasRecord ms) InRoom ms (each-own recordAt nodeNumbers (λ m us k. refl) ms distinct) room);
       no-node = λ k j h l e. field-at s k j h l ∙ ap (λ (r : List ℕ). getD r j 0) (no-record ms k e) ∙ getD-replicate {A = ℕ} 11 j 0 0 l;
       list-size = list-size s (omega (arith, counted));
       edge =

@@ -16,7 +16,7 @@ use Rattle.rules.proofs.Conjunctions.{or-left, or-right}
 use Rattle.rules.proofs.EachElement.{each-then, each-both}
 use Rattle.rules.proofs.Sorting.{has, Distinct, map-sorted}
 use Rattle.rules.proofs.SameLists.{some-then, each-some, each-itself}
-use Rattle.rules.proofs.AlikeLists.{bare-by-number, in-any-order}
+use Rattle.rules.proofs.AlikeLists.{bare-by-number, alike-in-any-order}
 use Rattle.rules.proofs.SameFields.{PhrasesDiffer, same-sentence}
 
 -- ---- said of lists
@@ -81,7 +81,7 @@ like-of-each P hs gs occurs a =
 module _ (hs gs : List Handed) (sound : Each Sound hs) (sound' : Each Sound gs) (d : Distinct handedNumber hs) (c : Distinct handedNumber gs) where
   meant-agree : meantSentences hs ≡ meantSentences gs → SentencesAgree hs gs
   meant-agree e =
-      let a = in-any-order meant Sound Alike exactly handedNumber sentenceNumberOf (λ h. refl) hs gs sound sound' d c .0 (by-number hs ∙ e ∙ sym (by-number gs)) in
+      let a = alike-in-any-order meant Sound Alike exactly handedNumber sentenceNumberOf (λ h. refl) hs gs sound sound' d c .0 (by-number hs ∙ e ∙ sym (by-number gs)) in
       record {
         numbers =
             λ n. (

@@ -27,10 +27,10 @@ use Rattle.rules.proofs.Headings.{headingColumns, printedHeading, Headi
 use Rattle.rules.proofs.LineFit.{LineFit}
 use Rattle.rules.proofs.NodesKept.{printedNode, WordKept, PhraseKept}
 use Rattle.rules.proofs.NodesBack.{node-printed, NodeBack, word-back, phrase-back}
-use Rattle.rules.proofs.SentencesKept.{bareSentence, Counted, SentenceKept, edges-append, edges-bare, listed-bare, gapless-bare, parents-bare}
+use Rattle.rules.proofs.SentencesKept.{bareSentence, CountedFrom, SentenceKept, edges-append, edges-bare, listed-bare, gapless-bare, parents-bare}
 use Rattle.rules.proofs.Kept.{means}
 use Rattle.rules.proofs.KeptReading.{used-same}
-use Rattle.rules.proofs.Stands.{Stands, lineOf, line-go, line-hand, step-printed}
+use Rattle.rules.proofs.Stands.{Stands, nextLine, line-go, line-hand, step-printed}
 
 -- in a sentence that is this one without places
 pub record PartRead (p : Preamble) (s : Sentence) (ss : List Sentence) (x : Reading) : Type 0 where
@@ -75,13 +75,13 @@ module _ (p : Preamble) (ss : List Sentence) (h : Heading) where
         stands = node-read s (withWord s) n x b (k .node .fit) (r .stands);
       }
 
-  words-read : (todo done : List Node) (x : Reading) → Each (WordKept (p .format) (means p)) todo → Counted (length done) todo → length done + length todo ≤ wordLimit
+  words-read : (todo done : List Node) (x : Reading) → Each (WordKept (p .format) (means p)) todo → CountedFrom (length done) todo → length done + length todo ≤ wordLimit
       → edgeCount done + edgeCount todo ≤ edgeLimit → PartRead p (made h done []) ss x → PartRead p (made h (done ++ todo) []) ss (read x (joined (map nodeLine todo)))
   words-read [] done x k c few room r = subst (λ (ws : List Node). PartRead p (made h ws []) ss x) (sym (append-nil done)) r
   words-read (n ∷ todo) done x k c few room r =
       let one = word-read n done x (k .0) (c .0) (omega arith) (omega arith) r in
       let longer = length-append done (n ∷ []) in
-      let counted : Counted (length (done ++ (n ∷ []))) todo = subst (λ (i : ℕ). Counted i todo) (omega (arith, longer)) (c .1) in
+      let counted : CountedFrom (length (done ++ (n ∷ []))) todo = subst (λ (i : ℕ). CountedFrom i todo) (omega (arith, longer)) (c .1) in
       let all = words-read todo (done ++ (n ∷ [])) (read x (nodeLine n)) (k .1) counted (omega (arith, longer)) (omega (arith, edges-append done (n ∷ []))) one in
       subst (λ (y : Reading). PartRead p (made h (done ++ (n ∷ todo)) []) ss y) (sym (read-append x (nodeLine n) (joined (map nodeLine todo))))
       (subst (λ (ws : List Node). PartRead p (made h ws []) ss (read (read x (nodeLine n)) (joined (map nodeLine todo)))) (append-assoc done (n ∷ []) todo) all)
@@ -138,7 +138,7 @@ module _ (p : Preamble) (ss : List Sentence) where
       let q = inSentence p (begun (x .lineStart) (b .read)) in
       let e =
       step-printed space refl (front t p) used (x .lineStart) (bytes "#BOS") (headingColumns h) (h .comment .bytes) refl (k .fit)
-      ∙ begins t used (lineOf x (printedHeading h)) (x .lineStart) (b .read) (b .answer) in
+      ∙ begins t used (nextLine x (printedHeading h)) (x .lineStart) (b .read) (b .answer) in
       record {
         sentence = begun (x .lineStart) (b .read);
         same = ap (λ (g : Heading). made g [] []) (b .same);
@@ -170,12 +170,12 @@ module _ (p : Preamble) (ss : List Sentence) where
       ∙ ap (λ (u : Sentence). every (parented (u .phrases)) (u .words ++ u .phrases)) (r .same) ∙ k .parents in
       let line = keyed (bytes "#EOS") (digitsOf n) in
       let fit = keyed-number-fit (bytes "#EOS") n refl eos-seen refl (omega arith) (omega (arith, range .1)) in
-      let grant : endOf (soFar t) (lineOf x line) ≡ granted (t .heading .number) =
-      ap (λ (i : ℕ). endOf (soFar t) (lineOf x (keyed (bytes "#EOS") (digitsOf i)))) (sym number)
+      let grant : endOf (soFar t) (nextLine x line) ≡ granted (t .heading .number) =
+      ap (λ (i : ℕ). endOf (soFar t) (nextLine x (keyed (bytes "#EOS") (digitsOf i)))) (sym number)
       ∙ end-passes t (x .lineStart) (omega (arith, number, range .0)) (omega (arith, number, range .1)) whole parents in
       let e =
       step-printed space refl (inSentence p t) (numbers (x .handed)) (x .lineStart) (bytes "#EOS") (digitsOf n ∷ []) [] refl fit
-      ∙ hands t (numbers (x .handed)) (lineOf x line) (x .lineStart) grant in
+      ∙ hands t (numbers (x .handed)) (nextLine x line) (x .lineStart) grant in
       subst (λ (u : Sentence). Stands (behindSentence p) (ss ++ (u ∷ [])) (read x (keywordLine (bytes "#EOS" ∷ digitsOf n ∷ [])))) (r .same)
       (subst (λ (l : List ℕ). Stands (behindSentence p) (ss ++ (bareSentence t ∷ [])) (read x l)) (sym (parted-plain space (bytes "#EOS") (digitsOf n ∷ [])))
       (line-hand (inSentence p t) ss x line (r .stands) fit p t e))

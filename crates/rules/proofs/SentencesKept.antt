@@ -29,16 +29,16 @@ abbrev pub byNumber : Sentence → Sentence
 byNumber s = record { start = s .start; heading = s .heading; words = s .words; phrases = sorted nodeNumber (s .phrases) }
 
 -- words count from k
-abbrev pub Counted : ℕ → List Node → Type 0
-Counted k [] = Unit {0}
-Counted k (n ∷ ns) = (n .number ≡ k) × Counted (suc k) ns
+abbrev pub CountedFrom : ℕ → List Node → Type 0
+CountedFrom k [] = Unit {0}
+CountedFrom k (n ∷ ns) = (n .number ≡ k) × CountedFrom (suc k) ns
 
 -- a sentence that is being read
 pub record PartKept (format : ℕ) (ts : Tables) (s : Sentence) : Type 0 where
   pub placeless : s .start ≡ 0
   pub heading : HeadingKept ts (s .heading)
   pub words : Each (WordKept format ts) (s .words)
-  pub counted : Counted 0 (s .words)
+  pub counted : CountedFrom 0 (s .words)
   pub few : length (s .words) ≤ wordLimit
   pub phrases : Each (PhraseKept format ts) (s .phrases)
   pub distinct : Distinct nodeNumber (s .phrases)
@@ -52,7 +52,7 @@ pub record SentenceKept (format : ℕ) (ts : Tables) (s : Sentence) : Type 0 whe
 
 -- ---- one more word, one more phrase
 
-counted-last : (k : ℕ) (ns : List Node) (n : Node) → Counted k ns → n .number ≡ k + length ns → Counted k (ns ++ (n ∷ []))
+counted-last : (k : ℕ) (ns : List Node) (n : Node) → CountedFrom k ns → n .number ≡ k + length ns → CountedFrom k (ns ++ (n ∷ []))
 counted-last k [] n c e = (e ∙ add-zero k, tt)
 counted-last k (m ∷ ms) n c e = (c .0, counted-last (suc k) ms n (c .1) (omega (arith, e)))
 

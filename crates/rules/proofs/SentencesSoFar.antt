@@ -33,7 +33,7 @@ use Rattle.rules.proofs.LineKinds.{WordStart, starts-word, phrase-sign}
 use Rattle.rules.proofs.WordsAndPhrases.{word-granted, phrase-granted}
 use Rattle.rules.proofs.SentenceEnds.{end-granted, its-number, phrase-numbers, edges-both, words-count, given-before}
 use Rattle.rules.proofs.WhatWasRead.{priorLines, InSentence, joined-more, preLines}
-use Rattle.rules.proofs.ReadSoFar.{Onward, keyword, row-given}
+use Rattle.rules.proofs.ReadSoFar.{Onward, keyword, row-first-given}
 use Rattle.rules.proofs.LineByLine.{Through}
 
 -- ---- one more of each
@@ -185,7 +185,7 @@ module _ (K : Phase → List Sentence → Type 0) (out : List Sentence) (done : 
     where
       either : (reads (bytes "#") (firstColumn line) ≡ true) ⊎ (startsRow (firstColumn line) ≡ true) → 1 ≤ length (firstColumn line .bytes)
       either (inl h) = omega (arith, ap length (reads-are (bytes "#") (firstColumn line) .0 h))
-      either (inr h) = row-given K out done line h
+      either (inr h) = row-first-given K out done line h
 
   with-word : startsWord (firstColumn line) ≡ true → Through K out (next (goWord p s) (wordOf (p .format) (p .tables) (soFar s) line)) → Onward K out done line
   with-word e g =

@@ -20,7 +20,7 @@ module _ (tables seen : List ℕ) where
   pub sheets-fit : SheetsSized tables seen → sheetsFit tables seen ≡ true
   sheets-fit s = ap₂ _&&_ (eq-eqb (length tables) 10759 (s .table-sheet)) (eq-eqb (length seen) 8192 (s .seen-set))
 
-  fit-sheets : sheetsFit tables seen ≡ true → SheetsSized tables seen
+  pub fit-sheets : sheetsFit tables seen ≡ true → SheetsSized tables seen
   fit-sheets e =
       record {
         table-sheet = eqb-true (length tables) 10759 (and-left (eqb (length tables) 10759) (eqb (length seen) 8192) e);

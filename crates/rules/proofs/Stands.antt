@@ -6,7 +6,7 @@ use mathlib.Core.Option.{none}
 use mathlib.Core.List.{List, [], _∷_, _++_, reverse}
 use lib.ListN.{length}
 use borrow.Author.Tests.{ne-eqb}
-use Rattle.rules.specs.Lists.{every, bytes}
+use Rattle.rules.specs.Lists.{every}
 use Rattle.rules.specs.Bytes.{newline, white, legal}
 use Rattle.rules.specs.Texts.{Text}
 use Rattle.rules.specs.Sentences.{Sentence}
@@ -34,8 +34,8 @@ no-newline (b ∷ bs) e =
     rw (ne-eqb b newline (λ q. false≢true (sym (ap legal q) ∙ and-left (legal b) (every legal bs) e))) (no-newline bs (and-right (legal b) (every legal bs) e))
 
 -- the line that is read next
-abbrev pub lineOf : Reading → List ℕ → Text
-lineOf r l = record { start = r .lineStart; bytes = l }
+abbrev pub nextLine : Reading → List ℕ → Text
+nextLine r l = record { start = r .lineStart; bytes = l }
 
 module _ (phase : Phase) (ss : List Sentence) (r : Reading) (l : List ℕ) (s : Stands phase ss r) (f : LineFit l) where
   abbrev behindBytes : Reading
@@ -49,15 +49,15 @@ module _ (phase : Phase) (ss : List Sentence) (r : Reading) (l : List ℕ) (s : 
         fault = none;
       }
 
-  line-ended : (a : Answer) → step phase (numbers (r .handed)) (lineOf r l) ≡ a → read r (l ++ (newline ∷ [])) ≡ ended behindBytes a
+  line-ended : (a : Answer) → step phase (numbers (r .handed)) (nextLine r l) ≡ a → read r (l ++ (newline ∷ [])) ≡ ended behindBytes a
   line-ended a e =
       read-line r l [] (s .sound) (s .unbegun) (no-newline l (f .lawful))
-      ∙ ap (ended behindBytes) (ap (λ (q : Phase). step q (numbers (r .handed)) (lineOf r l)) (s .phase) ∙ e)
+      ∙ ap (ended behindBytes) (ap (λ (q : Phase). step q (numbers (r .handed)) (nextLine r l)) (s .phase) ∙ e)
 
-  pub line-go : (q : Phase) → step phase (numbers (r .handed)) (lineOf r l) ≡ go q → Stands q ss (read r (l ++ (newline ∷ [])))
+  pub line-go : (q : Phase) → step phase (numbers (r .handed)) (nextLine r l) ≡ go q → Stands q ss (read r (l ++ (newline ∷ [])))
   line-go q e = subst (Stands q ss) (sym (line-ended (go q) e)) (record { sound = refl; unbegun = refl; phase = refl; handed = s .handed })
 
-  pub line-hand : (p : Preamble) (t : Sentence) → step phase (numbers (r .handed)) (lineOf r l) ≡ hand p t
+  pub line-hand : (p : Preamble) (t : Sentence) → step phase (numbers (r .handed)) (nextLine r l) ≡ hand p t
       → Stands (behindSentence p) (ss ++ (bareSentence t ∷ [])) (read r (l ++ (newline ∷ [])))
   line-hand p t e =
       subst (Stands (behindSentence p) (ss ++ (bareSentence t ∷ []))) (sym (line-ended (hand p t) e))

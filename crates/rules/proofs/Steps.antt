@@ -14,7 +14,7 @@ use Rattle.rules.specs.Bytes.{white, legal, percents, ignored}
 use Rattle.rules.specs.Texts.{Text, noText, given}
 use Rattle.rules.specs.Numbers.{lineLimit}
 use Rattle.rules.specs.Columns.{Column, goesOn, columnsFrom, columns, written, fields}
-use Rattle.rules.specs.Rules.{Rule, broken, unless, checked}
+use Rattle.rules.specs.Rules.{Rule, Verdict, refused, granted, broken, unless, checked}
 use Rattle.rules.specs.Keywords.{leadingWhite, firstColumn}
 use Rattle.rules.specs.Phases.{Phase, Answer, refuse, go, next, step}
 use Rattle.rules.proofs.Takings.{answerAt, answerTo, lineRules, step-answers}
@@ -32,6 +32,11 @@ pick-true t x y e = rw e
 
 pub pick-false : (t : Bool) (x y : Answer) → t ≡ false → pick t x y ≡ y
 pick-false t x y e = rw e
+
+-- refused, or granted as whatever
+pub next-any : (P : Answer → Type 0) → ((r : Rule) → P (refuse r)) → {A : Type 0} (f : A → Answer) → ((a : A) → P (f a)) → (v : Verdict A) → P (next f v)
+next-any P bad f k (refused r) = bad r
+next-any P bad f k (granted a) = k a
 
 module _ (P : Answer → Type 0) where
   pub either : (t : Bool) (a b : Answer) → (t ≡ true → P a) → (t ≡ false → P b) → P (pick t a b)
@@ -77,7 +82,7 @@ step-fit phase used line f =
 
 -- ---- a line that has a first column
 
-pub record Opened (line : Text) : Type 0 where
+pub record FirstThere (line : Text) : Type 0 where
   pub starts : goesOn (line .bytes) ≡ true
   pub first : Column
   pub others : List Column
@@ -95,7 +100,7 @@ percents-ignored c i = by (same c percents) refl
     by true e = absurd (false≢true (sym i ∙ ap ignored (same-eq c percents e)))
     by false e = refl
 
-first-goes : (at : ℕ) (bs : List ℕ) → given (pick (leadingWhite bs) noText (written (columnsFrom at bs) 0)) ≡ true → goesOn bs ≡ true
+pub first-goes : (at : ℕ) (bs : List ℕ) → given (pick (leadingWhite bs) noText (written (columnsFrom at bs) 0)) ≡ true → goesOn bs ≡ true
 unfolding columnsFrom
 first-goes at [] e = absurd (false≢true e)
 first-goes at (b ∷ bs) e = by (white b) refl e
@@ -104,13 +109,13 @@ first-goes at (b ∷ bs) e = by (white b) refl e
     by true w q = absurd (false≢true q)
     by false w q = refl
 
-goes-black : (bs : List ℕ) → goesOn bs ≡ true → leadingWhite bs ≡ false
+pub goes-black : (bs : List ℕ) → goesOn bs ≡ true → leadingWhite bs ≡ false
 goes-black [] g = refl
 goes-black (b ∷ bs) g = not-true (white b) g
 
-pub opened : (line : Text) → LineFit (line .bytes) → given (firstColumn line) ≡ true → Opened line
+pub first-there : (line : Text) → LineFit (line .bytes) → given (firstColumn line) ≡ true → FirstThere line
 unfolding firstColumn
-opened line f g =
+first-there line f g =
     let starts = first-goes (line .start) (line .bytes) g in
     let b = begun-by (line .start) (line .bytes) starts in
     let c = b .first .text .bytes in

@@ -16,8 +16,8 @@ use Rattle.rules.proofs.Rooms.{behind-at, length-joined, at-around, eac
 
 -- ---- the room of one table
 
-abbrev pub RowsFit : Option (List Row) → Type 0
-RowsFit t = length (rowsOf t) ≤ 256
+abbrev pub FewRows : Option (List Row) → Type 0
+FewRows t = length (rowsOf t) ≤ 256
 
 length-rows : (rs : List Row) → length (joined (map rowNumbers rs)) ≡ 6 * length rs
 length-rows rs = length-joined rowNumbers 6 rs (each-of (λ (r : Row). length (rowNumbers r) ≡ 6) (λ r. refl) rs)
@@ -57,9 +57,9 @@ roomOf t = rowsRoom (rowsOf t)
 abbrev Room : Option (List Row) → Type 0
 Room t = length (roomOf t) ≡ 1536
 
-module _ (ts : Tables) (seven : length ts ≡ 7) (fit : Each RowsFit ts) where
+module _ (ts : Tables) (seven : length ts ≡ 7) (fit : Each FewRows ts) where
   wide : Each Room ts
-  wide = each-then RowsFit Room (λ t h. length-room (rowsOf t) h) ts fit
+  wide = each-then FewRows Room (λ t h. length-room (rowsOf t) h) ts fit
 
   counts : length (map count ts) ≡ 7
   counts = length-map ts count ∙ seven
@@ -101,7 +101,7 @@ module _ (ts : Tables) (seven : length ts ≡ 7) (fit : Each RowsFit ts) where
         record { id = at 0 (omega arith); first-start = at 1 (omega arith); first-length = at 2 (omega arith); second-start = at 3 (omega arith); second-length = at 4 (omega arith); flag = at 5 (omega arith) }
       where
         fits : length (rowsOf (table n ts)) ≤ 256
-        fits = each-at RowsFit ts n none fit (omega (arith, seven))
+        fits = each-at FewRows ts n none fit (omega (arith, seven))
 
         at : (j : ℕ) → j < 6
             → getD (tableSheet ts) (7 + 1536 * n + 6 * length front + j) 0
@@ -127,5 +127,5 @@ module _ (ts : Tables) (seven : length ts ≡ 7) (fit : Each RowsFit ts) where
               ∙ unused-in-room (rowsOf (table n ts)) (6 * k + j) (omega arith) (omega arith);
         }
 
-pub tables-laid : (ts : Tables) → length ts ≡ 7 → Each RowsFit ts → TablesLaid ts
+pub tables-laid : (ts : Tables) → length ts ≡ 7 → Each FewRows ts → TablesLaid ts
 tables-laid ts seven fit = record { size = sheet-size ts seven fit; each = table-laid ts seven fit }

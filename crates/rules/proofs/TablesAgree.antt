@@ -12,7 +12,7 @@ use Rattle.rules.specs.Lists.{sorted}
 use Rattle.rules.specs.Tables.{Tables, Row, table, origins, editors}
 use Rattle.rules.specs.Meaning.{bareRow, rowId, meantRows, byId, meantTables}
 use Rattle.rules.specs.Same.{InOrder, InAnyOrder, SameRow, Present, TablesAgree}
-use Rattle.rules.proofs.AlikeLists.{in-order, in-any-order}
+use Rattle.rules.proofs.AlikeLists.{alike-in-order, alike-in-any-order}
 use Rattle.rules.proofs.SameFields.{Any, each-any, same-row}
 use Rattle.rules.proofs.NumbersDiffer.{IdsDiffer, TablesDiffer}
 
@@ -30,7 +30,7 @@ tag-table none none = ((λ e. tt), (λ a. refl))
 tag-table none (some qs) = (unlike (map bareRow qs), (λ a. absurd a))
 tag-table (some rs) none = ((λ e. unlike (map bareRow rs) (sym e)), (λ a. absurd a))
 tag-table (some rs) (some qs) =
-    both-present (InOrder SameRow) rs qs (map bareRow rs) (map bareRow qs) (in-order bareRow Any SameRow same-row rs qs (each-any rs) (each-any qs))
+    both-present (InOrder SameRow) rs qs (map bareRow rs) (map bareRow qs) (alike-in-order bareRow Any SameRow same-row rs qs (each-any rs) (each-any qs))
 
 -- rows in any order
 id-table : (o p : Option (List Row)) → IdsDiffer o → IdsDiffer p → (meantRows (byId o) ≡ meantRows (byId p)) ↔ Present (InAnyOrder SameRow) o p
@@ -39,7 +39,7 @@ id-table none (some qs) d c = (unlike (map bareRow (sorted rowId qs)), (λ a. ab
 id-table (some rs) none d c = ((λ e. unlike (map bareRow (sorted rowId rs)) (sym e)), (λ a. absurd a))
 id-table (some rs) (some qs) d c =
     both-present (InAnyOrder SameRow) rs qs (map bareRow (sorted rowId rs)) (map bareRow (sorted rowId qs))
-    (in-any-order bareRow Any SameRow same-row rowId rowId (λ r. refl) rs qs (each-any rs) (each-any qs) d c)
+    (alike-in-any-order bareRow Any SameRow same-row rowId rowId (λ r. refl) rs qs (each-any rs) (each-any qs) d c)
 
 -- ---- each of the seven
 

@@ -8,7 +8,7 @@ use mathlib.Core.Option.{Option, none, some}
 use mathlib.Core.List.{List, [], _∷_, _++_, map, append-assoc, append-nil}
 use lib.ListN.{length, getD, set, length-append, List·getD-map}
 use lib.Seq.{getD-at, set-at}
-use Rattle.rules.specs.Lists.{same, bytes, joined}
+use Rattle.rules.specs.Lists.{bytes, joined}
 use Rattle.rules.specs.Bytes.{ignored}
 use Rattle.rules.specs.Texts.{Text}
 use Rattle.rules.specs.Rules.{granted}
@@ -31,7 +31,7 @@ use Rattle.rules.proofs.KeywordLines.{keyed, table-opened, table-ended,
 use Rattle.rules.proofs.RowsKept.{RowsKept, RowKept, origins-sorted, editors-sorted}
 use Rattle.rules.proofs.RowLines.{printedRow, row-printed, row-fit, id-begins, row-back}
 use Rattle.rules.proofs.Kept.{TableKept, TablesKept}
-use Rattle.rules.proofs.Stands.{Stands, lineOf, line-go, step-printed}
+use Rattle.rules.proofs.Stands.{Stands, nextLine, line-go, step-printed}
 
 -- ---- rows
 
@@ -62,7 +62,7 @@ module _ (p : Preamble) (n : ℕ) (ss : List Sentence) where
       let rs = s .rows in
       let b = row-back n rs r (x .lineStart) (subst (λ (d : List Row). RowKept n d r) (sym (s .same)) k) in
       let f = row-fit n r (k .own) in
-      let e = row-step p n rs (numbers (x .handed)) (x .lineStart) r f ∙ among-row p n rs (numbers (x .handed)) (lineOf x (printedRow n r)) (x .lineStart) (r .id1) (b .read) (b .granted) in
+      let e = row-step p n rs (numbers (x .handed)) (x .lineStart) r f ∙ among-row p n rs (numbers (x .handed)) (nextLine x (printedRow n r)) (x .lineStart) (r .id1) (b .read) (b .granted) in
       record {
         rows = rs ++ (b .read ∷ []);
         same = map-append bareRow rs (b .read ∷ []) ∙ ap₂ (λ (d : List Row) (q : Row). d ++ (q ∷ [])) (s .same) (b .same);

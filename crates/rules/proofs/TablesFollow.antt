@@ -1,6 +1,6 @@
 -- Lines that are as the grammar says are taken, whatever their places: the format line, rows and tables. By one step along
 -- the rows and the tables, with what follows them handed in.
-use Prim.Native.Nat.{ℕ, zero, suc, _+_}
+use Prim.Native.Nat.{ℕ, zero, suc}
 use native.Mathlib.Omega.{arith}
 use mathlib.Core.Path.{_≡_, refl, sym, ap, _∙_, subst}
 use mathlib.Core.Bool.{Bool, true, false}
@@ -17,6 +17,7 @@ use Rattle.rules.specs.Phases.{Preamble, Phase, start, top, inTable, go,
 use Rattle.rules.specs.GrammarLines.{In, Differ}
 use Rattle.rules.proofs.Takings.{goClosed, goRow, refuseSix, answerStart, answerBehind, answerTop, answerRows, answerAt}
 use Rattle.rules.proofs.Conjunctions.{false-if-never}
+use Rattle.rules.proofs.AnyLine.{bytesOf}
 use Rattle.rules.proofs.EachElement.{each-back}
 use Rattle.rules.proofs.BareColumns.{columnAt}
 use Rattle.rules.specs.GrammarRows.{RowLine, OriginRow, EditorRow, TagRow}
@@ -32,7 +33,7 @@ use Rattle.rules.proofs.TablesAsSaid.{Stand, stand-more, is-there}
 use Rattle.rules.proofs.KeywordsAsSaid.{starts-first, keyword-first, format-grants, opened-grants, ended-grants}
 use Rattle.rules.proofs.LineKinds.{number-row, id-row, row-no-keyword}
 use Rattle.rules.proofs.WhatWasRead.{rowLines}
-use Rattle.rules.proofs.LineByLine.{numbersIn, Through, through-then, Takes, bytesOf}
+use Rattle.rules.proofs.LineByLine.{numbersIn, Through, through-then, Takes}
 
 -- ---- what a line begins with
 

@@ -23,7 +23,7 @@ use Rattle.rules.specs.Survey.{answered, nothingRead, surveyOf, fileFits
 use Rattle.rules.specs.Refusals.{OneLine}
 use Rattle.rules.specs.GrammarLines.{Ignored, linesWritten, Heeded, heeded-line, no-line}
 use Rattle.rules.specs.GrammarTables.{Names}
-use Rattle.rules.specs.AsWritten.{RowSaid, EachWith, TableSaid, TablesSaid, AsWritten}
+use Rattle.rules.specs.AsWritten.{TableRowSaid, EachWith, TableSaid, TablesSaid, AsWritten}
 use Rattle.rules.proofs.EachElement.{each-more}
 use Rattle.rules.proofs.SaidOfLists.{never-both}
 use Rattle.rules.proofs.BytesAsSaid.{ignored-said}
@@ -35,7 +35,7 @@ use Rattle.rules.proofs.ReadSoFar.{first-is}
 use Rattle.rules.proofs.LineFit.{LineFit}
 use Rattle.rules.proofs.Takings.{goBegun, goClosed, goRow, goWord, goPhrase, refuseSix, answerStart, answerBehind, answerTop, answerRows, answerNodes, answerAt}
 use Rattle.rules.proofs.Steps.{either}
-use Rattle.rules.proofs.ByLines.{Answered, step-taken, Read, by-lines}
+use Rattle.rules.proofs.ByLines.{LineAnswered, step-taken, ReadByLines, by-lines}
 use Rattle.rules.proofs.RowsSaid.{row-said}
 use Rattle.rules.proofs.SaidSoFar.{lines-more, heeded-more, ignored-more, with-more}
 use Rattle.rules.proofs.AsWritten.{sentences-written}
@@ -51,7 +51,7 @@ record TableSoFar (done : List ℕ) (n : ℕ) (rs : List Row) : Type 0 where
   pub rows : List (List ℕ)
   pub heeded : Heeded lines (bot ∷ rows)
   pub its-bot : Names (bytes "#BOT") n bot
-  pub its-rows : EachWith (RowSaid n) rs rows
+  pub its-rows : EachWith (TableRowSaid n) rs rows
 
 abbrev Stands : List ℕ → List ℕ → Phase → Type 0
 Stands file done start = Unit {0}
@@ -93,7 +93,7 @@ module _ (done l : List ℕ) (plain : OneLine l) (n : ℕ) (rs : List Row) (k : 
         its-rows = k .its-rows;
       }
 
-  one-row : (r : Row) → (Ignored l → ⊥) → RowSaid n r l → TableSoFar (done ++ (l ++ (newline ∷ []))) n (rs ++ (r ∷ []))
+  one-row : (r : Row) → (Ignored l → ⊥) → TableRowSaid n r l → TableSoFar (done ++ (l ++ (newline ∷ []))) n (rs ++ (r ∷ []))
   one-row r seen w =
       record {
         front = k .front;
@@ -104,7 +104,7 @@ module _ (done l : List ℕ) (plain : OneLine l) (n : ℕ) (rs : List Row) (k : 
         rows = k .rows ++ (l ∷ []);
         heeded = heeded-more l (k .heeded) seen;
         its-bot = k .its-bot;
-        its-rows = with-more (RowSaid n) rs (k .rows) r l (k .its-rows) w;
+        its-rows = with-more (TableRowSaid n) rs (k .rows) r l (k .its-rows) w;
       }
 
   one-end : (file rest : List ℕ) → file ≡ done ++ (l ++ (newline ∷ rest)) → (Ignored l → ⊥) → Names (bytes "#EOT") n l → TableSaid file n rs
@@ -137,7 +137,7 @@ module _ (file done l rest : List ℕ) (whole : file ≡ done ++ (l ++ (newline 
   first = firstColumn (record { start = length done; bytes = l })
 
   abbrev Goes : Answer → Type 0
-  Goes a = Answered (Stands file) (λ (h : Handed). Unit {0}) done l a
+  Goes a = LineAnswered (Stands file) (λ (h : Handed). Unit {0}) done l a
 
   none-bad : (r : Rule) → Goes (refuse r)
   none-bad r = tt
@@ -223,7 +223,7 @@ module _ (file done l rest : List ℕ) (whole : file ≡ done ++ (l ++ (newline 
 -- ---- any file
 
 module _ (file : List ℕ) where
-  all-lines : Read file (Stands file) (λ (h : Handed). Unit {0}) (λ done l rest phase used whole o k. one-line file done l rest whole o phase used k)
+  all-lines : ReadByLines file (Stands file) (λ (h : Handed). Unit {0}) (λ done l rest phase used whole o k. one-line file done l rest whole o phase used k)
   all-lines = by-lines file (Stands file) (λ (h : Handed). Unit {0}) (λ done l rest phase used whole o k. one-line file done l rest whole o phase used k) tt
 
   phase-tables : (done : List ℕ) (phase : Phase) → Stands file done phase → TablesSaid file 0 (tablesAt phase)

@@ -25,12 +25,13 @@ use Rattle.rules.proofs.Conjunctions.{and-left, and-right, and-both, no
 use Rattle.rules.proofs.RuleLaws.{holds-granted}
 use Rattle.rules.proofs.RulesHeld.{Held, held, hold}
 use Rattle.rules.proofs.Decimal.{id-legal, id-read-back}
-use Rattle.rules.proofs.PrintedLines.{plain, solid, tailed, printed, printed-columns, tailed-columns}
+use Rattle.rules.proofs.PrintedLines.{unplaced, solid, tailed, printed, printed-columns, tailed-columns}
 use Rattle.rules.proofs.AnyLine.{room}
 use Rattle.rules.proofs.LineFit.{LineFit, printed-fit}
-use Rattle.rules.proofs.NumbersAgain.{good-some, id-range, id-five, id-solid}
-use Rattle.rules.proofs.RowTexts.{id-seen, Short, Legal, column-there, Described, described, last-text, RowBack}
+use Rattle.rules.proofs.NumbersAgain.{id-range, id-five, id-solid}
+use Rattle.rules.proofs.RowTexts.{id-seen, Short, LegalColumn, column-legal, Described, described, last-text, RowBack}
 use Rattle.rules.proofs.Steps.{next-checked}
+use Rattle.rules.proofs.TestsAsFacts.{good-some}
 
 pub record TagKept (n : ℕ) (r : Row) : Type 0 where
   pub id : r .id1 ≤ 65536
@@ -39,7 +40,7 @@ pub record TagKept (n : ℕ) (r : Row) : Type 0 where
   pub own : ownTag (r .id1) (r .first) ≡ true
   pub described : Described 80 (r .second .bytes)
   pub flag : pick (eqb n wordTags && same (flagText (r .flag)) yes) 1 0 ≡ r .flag
-  pub placeless : record { id1 = r .id1; first = plain (r .first .bytes); second = plain (r .second .bytes); flag = r .flag } ≡ r
+  pub placeless : record { id1 = r .id1; first = unplaced (r .first .bytes); second = unplaced (r .second .bytes); flag = r .flag } ≡ r
 
 -- the columns behind the id; a flag where the table has flags
 abbrev pub tagColumns : Bool → Row → List (List ℕ)
@@ -103,8 +104,8 @@ module _ (n : ℕ) (rs : List Row) (line : Text) where
   tag-kept l h =
       let k : ℕ = pick flags 2 1 in
       let there : given (trim (column (columns line) k .after)) ≡ true = sym (ap (λ (x : Column). given (trim (x .after))) (pick-column flags (columns line))) ∙ h .0 in
-      let legal-tag = column-there line 1 k (pick-one flags) l there in
-      let legal-last : Legal last = subst Legal (sym (pick-column flags (columns line))) (column-there line k k (le-refl k) l there) in
+      let legal-tag = column-legal line 1 k (pick-one flags) l there in
+      let legal-last : LegalColumn last = subst LegalColumn (sym (pick-column flags (columns line))) (column-legal line k k (le-refl k) l there) in
       let ten = h .1 .1 .0 in
       let eleven = h .1 .1 .1 .1 .1 .0 in
       let inOrder = follows (lastId rs) (value id) in
@@ -172,10 +173,10 @@ flag-solid f = by (eqb f 1)
     by true = refl
     by false = refl
 
-flag-is : (f : ℕ) → isFlag (plain (flagText f)) ≡ true
+flag-is : (f : ℕ) → isFlag (unplaced (flagText f)) ≡ true
 flag-is f = by (eqb f 1)
   where
-    by : (t : Bool) → isFlag (plain (pick t (bytes "Y") (bytes "N"))) ≡ true
+    by : (t : Bool) → isFlag (unplaced (pick t (bytes "Y") (bytes "N"))) ≡ true
     by true = refl
     by false = refl
 
@@ -212,8 +213,8 @@ flag-read : (t : Bool) (x y : List ℕ) → (t ≡ true → x ≡ y) → _≡_ {
 flag-read true x y e = ap (λ (l : List ℕ). pick {X = ℕ} (same l yes) 1 0) (e refl)
 flag-read false x y e = refl
 
-flag-holds : (t : Bool) (x : List ℕ) (f : ℕ) → (t ≡ true → x ≡ flagText f) → (not t || isFlag (plain x)) ≡ true
-flag-holds true x f e = ap (λ (l : List ℕ). isFlag (plain l)) (e refl) ∙ flag-is f
+flag-holds : (t : Bool) (x : List ℕ) (f : ℕ) → (t ≡ true → x ≡ flagText f) → (not t || isFlag (unplaced x)) ≡ true
+flag-holds true x f e = ap (λ (l : List ℕ). isFlag (unplaced l)) (e refl) ∙ flag-is f
 flag-holds false x f e = refl
 
 module _ (n : ℕ) (rs : List Row) (r : Row) (k : TagKept n r) (at : ℕ) where
@@ -247,7 +248,7 @@ module _ (n : ℕ) (rs : List Row) (r : Row) (k : TagKept n r) (at : ℕ) where
                     (
                       ap (λ (x : List ℕ). leb (length x) 80) e3 ∙ le-leb (length (r .second .bytes)) 80 (k .described .short),
                       (
-                        ap₂ (λ (o : Option ℕ) (x : List ℕ). follows (lastId rs) (value o) && ownTag (value o) (plain x) && not (hasTag (plain x) rs)) e1 e2
+                        ap₂ (λ (o : Option ℕ) (x : List ℕ). follows (lastId rs) (value o) && ownTag (value o) (unplaced x) && not (hasTag (unplaced x) rs)) e1 e2
                             ∙ and-both (follows (lastId rs) (r .id1) && ownTag (r .id1) (r .first)) (not (hasTag (r .first) rs))
                             (and-both (follows (lastId rs) (r .id1)) (ownTag (r .id1) (r .first)) order (k .own)) (ap not new),
                         (lt-ltb (length rs) rowLimit few, tt),

@@ -99,7 +99,7 @@ unless-length b [] = by (white b)
     by false = omega arith
 unless-length b (c ∷ cs) = omega arith
 
-right-length : (n : List ℕ) → length (rightTrim n) ≤ length n
+pub right-length : (n : List ℕ) → length (rightTrim n) ≤ length n
 unfolding rightTrim
 right-length [] = omega arith
 right-length (b ∷ bs) = omega (arith, unless-length b (rightTrim bs), right-length bs)

@@ -11,13 +11,13 @@ use lib.ListN.{length, drop}
 use lib.Dec.{ltb}
 use borrow.Author.Tests.{leb-true, le-leb, ltb-true, lt-ltb}
 use Rattle.rules.specs.Lists.{bytes, Each}
-use Rattle.rules.specs.Texts.{Text, noText}
+use Rattle.rules.specs.Texts.{Text, noText, behindHash}
 use Rattle.rules.specs.Columns.{columns, text, fields, comment}
 use Rattle.rules.specs.Numbers.{wordLimit, edgeLimit, phraseNumber, number, value}
 use Rattle.rules.specs.Rules.{Rule, rule}
 use Rattle.rules.specs.Tables.{Tables, wordTags, nodeTags}
 use Rattle.rules.specs.Sentences.{Node, SoFar, Sentence}
-use Rattle.rules.specs.Nodes.{Pair, secondaryParent, itsPairs, shaped, roomy, behindHash, wordOf, phraseOf}
+use Rattle.rules.specs.Nodes.{Pair, secondaryParent, itsPairs, shaped, roomy, wordOf, phraseOf}
 use Rattle.rules.specs.Phases.{Phase, Answer, next}
 use Rattle.rules.proofs.EachElement.{each-then}
 use Rattle.rules.proofs.ColumnsSaid.{said-front, front-comment}
@@ -32,7 +32,7 @@ use Rattle.rules.proofs.TestsAsFacts.{good-some, some-good, some-value}
 use Rattle.rules.proofs.NumeralsAsSaid.{number-said}
 use Rattle.rules.proofs.TablesAsSaid.{Stand}
 use Rattle.rules.proofs.NodeColumns.{saidPair, PairsAre, shaped-columns, columns-shaped}
-use Rattle.rules.proofs.NodesAsSaid.{own-held, node-held, held-node, nodeSaid, held-said, said-held, same-node, node-said}
+use Rattle.rules.proofs.NodesAsSaid.{own-held, node-held, held-node, nodeAsSaid, held-said, said-held, same-node, node-said}
 use Rattle.rules.proofs.LineKinds.{WordStart}
 use Rattle.rules.proofs.LineByLine.{Through, through-held, held-through}
 
@@ -46,7 +46,7 @@ module _ (format : ℕ) (T : Tables) (ts : List TableLines) (s : Stand T ts) (K 
   abbrev fs : List Text
   fs = fields (columns line)
 
-  node-front : shaped format fs ≡ true → (n : ℕ) (tags : ℕ) → frontColumns (line .bytes) ≡ nodeColumns format (nodeSaid format T ts s (line .bytes) fs tags n)
+  node-front : shaped format fs ≡ true → (n : ℕ) (tags : ℕ) → frontColumns (line .bytes) ≡ nodeColumns format (nodeAsSaid format T ts s (line .bytes) fs tags n)
   node-front h n tags = sym (front-columns line) ∙ shaped-columns format fs h
 
   room-said : roomy format (so .edges) fs ≡ true → so .edges + length (map saidPair (itsPairs format fs)) ≤ edgeLimit
@@ -80,7 +80,7 @@ module _ (format : ℕ) (T : Tables) (ts : List TableLines) (s : Stand T ts) (K 
       let sixteen = and-both-ways (ltb (so .words) wordLimit) (roomy format (so .edges) fs) .0 (own-held format T fs wordTags (so .words) own-word (h .0 .1 .1) .0) in
       let front = node-front (h .0 .1 .0) (so .words) wordTags in
       record {
-        node = nodeSaid format T ts s (line .bytes) fs wordTags (so .words);
+        node = nodeAsSaid format T ts s (line .bytes) fs wordTags (so .words);
         its-line = refl;
         fit = λ w. record { node = held-said format T ts s (line .bytes) fs wordTags (so .words) held front; word = w };
         front = front;
@@ -147,7 +147,7 @@ module _ (format : ℕ) (T : Tables) (ts : List TableLines) (s : Stand T ts) (K 
       let own = own-held format T fs nodeTags n (own-phrase n) (h .0 .1 .1) in
       let front = node-front (h .0 .0) n nodeTags in
       record {
-        phrase = record { node = nodeSaid format T ts s (line .bytes) fs nodeTags n; number = n };
+        phrase = record { node = nodeAsSaid format T ts s (line .bytes) fs nodeTags n; number = n };
         its-line = refl;
         fit =
             λ q. record {

@@ -104,9 +104,9 @@ pub record TagSaid (n : ℕ) (r : Row) (l : List ℕ) : Type 0 where
   pub description : Stripped rest (r .second .bytes)
 
 -- of the n-th table
-abbrev pub RowSaid : ℕ → Row → List ℕ → Type 0
-RowSaid zero r l = OriginSaid r l
-RowSaid (suc n) r l = TagSaid (suc n) r l
+abbrev pub TableRowSaid : ℕ → Row → List ℕ → Type 0
+TableRowSaid zero r l = OriginSaid r l
+TableRowSaid (suc n) r l = TagSaid (suc n) r l
 
 -- the table's lines that are not ignored are #BOT and its name, its rows, #EOT and its name
 pub record TableSaid (file : List ℕ) (n : ℕ) (rs : List Row) : Type 0 where
@@ -120,7 +120,7 @@ pub record TableSaid (file : List ℕ) (n : ℕ) (rs : List Row) : Type 0 where
   pub eot : List ℕ
   pub heeded : Heeded lines ((bot ∷ rows) ++ (eot ∷ []))
   pub its-bot : Names (bytes "#BOT") n bot
-  pub its-rows : EachWith (RowSaid n) rs rows
+  pub its-rows : EachWith (TableRowSaid n) rs rows
   pub its-eot : Names (bytes "#EOT") n eot
 
 -- the tables from the n-th on

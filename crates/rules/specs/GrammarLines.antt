@@ -7,7 +7,7 @@ use mathlib.Core.List.{List, [], _∷_, _++_, map}
 use lib.ListN.{length}
 use Rattle.rules.specs.Lists.{Each, joined}
 use Rattle.rules.specs.GrammarNumbers.{lineBytes}
-use Rattle.rules.specs.GrammarNames.{lineEnd, commentSign}
+use Rattle.rules.specs.GrammarNames.{endOfLine, commentSign}
 
 -- ---- said of lists
 
@@ -33,7 +33,7 @@ pub record LineFits (l : List ℕ) : Type 0 where
 
 -- every line with the newline that ends it
 abbrev pub linesWritten : List (List ℕ) → List ℕ
-linesWritten ls = joined (map (λ (l : List ℕ). l ++ (lineEnd ∷ [])) ls)
+linesWritten ls = joined (map (λ (l : List ℕ). l ++ (endOfLine ∷ [])) ls)
 
 -- white is 9 and 32 only
 abbrev pub White : ℕ → Type 0

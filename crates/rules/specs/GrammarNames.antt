@@ -5,8 +5,8 @@ use mathlib.Core.List.{List, [], _∷_}
 use Rattle.rules.specs.Lists.{bytes}
 
 -- a line ends with byte 10
-abbrev pub lineEnd : ℕ
-lineEnd = 10
+abbrev pub endOfLine : ℕ
+endOfLine = 10
 
 abbrev pub commentSign : List ℕ
 commentSign = bytes "%%"

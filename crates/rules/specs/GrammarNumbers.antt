@@ -49,8 +49,8 @@ abbrev pub phraseRange : Range
 phraseRange = record { least = 500; most = 999 }
 
 -- an editor's or a tag row's id is -1 to 65,535; i is one more than the id
-abbrev pub IdWritten : List ℕ → ℕ → Type 0
-IdWritten xs i = ((xs ≡ bytes "-1") × (i ≡ 0)) ⊎ ((id : ℕ) × NumberIn (record { least = 0; most = 65535 }) xs id × (i ≡ suc id))
+abbrev pub IdIn : List ℕ → ℕ → Type 0
+IdIn xs i = ((xs ≡ bytes "-1") × (i ≡ 0)) ⊎ ((id : ℕ) × NumberIn (record { least = 0; most = 65535 }) xs id × (i ≡ suc id))
 
 -- a parent is 0 or 500 to 999
 abbrev pub ParentWritten : List ℕ → ℕ → Type 0

@@ -7,7 +7,7 @@ use mathlib.Core.Logic.{_⊎_}
 use mathlib.Core.List.{List, [], _∷_, map}
 use lib.ListN.{length}
 use Rattle.rules.specs.Lists.{bytes}
-use Rattle.rules.specs.GrammarNumbers.{NumberIn, originRange, IdWritten, tagBytes}
+use Rattle.rules.specs.GrammarNumbers.{NumberIn, originRange, IdIn, tagBytes}
 use Rattle.rules.specs.GrammarNames.{commentSign, ofWordtag}
 use Rattle.rules.specs.GrammarContent.{RowContent}
 use Rattle.rules.specs.GrammarColumns.{Begins, Stripped, NameAndNote, GivenUpTo}
@@ -52,7 +52,7 @@ pub record EditorRow (r : RowLine) : Type 0 where
   pub idText : List ℕ
   pub rest : List ℕ
   pub columns : Begins (r .line) (idText ∷ r .first ∷ []) rest
-  pub id-written : IdWritten idText (r .id1)
+  pub id-written : IdIn idText (r .id1)
   pub login : length (r .first) ≤ 16
   pub full-name-is : Stripped rest (r .second)
   pub full-name : GivenUpTo 40 (r .second)
@@ -73,7 +73,7 @@ pub record TagRow (which : ℕ) (r : RowLine) : Type 0 where
   pub flags : List (List ℕ)
   pub rest : List ℕ
   pub columns : Begins (r .line) (idText ∷ r .first ∷ flags) rest
-  pub id-written : IdWritten idText (r .id1)
+  pub id-written : IdIn idText (r .id1)
   pub tag : length (r .first) ≤ tagBytes which
   pub no-comment-sign : r .first ≡ commentSign → ⊥
   pub flag : Flagged which flags (r .flag)

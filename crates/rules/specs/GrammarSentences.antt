@@ -6,7 +6,7 @@ use mathlib.Core.Logic.{_⊎_, _↔_}
 use mathlib.Core.List.{List, [], _∷_, _++_, map}
 use lib.ListN.{length}
 use Rattle.rules.specs.Lists.{bytes, joined, Each}
-use Rattle.rules.specs.GrammarNumbers.{Range, NumberIn, IdWritten, originRange, dateRange, sentenceWords, sentenceEdges}
+use Rattle.rules.specs.GrammarNumbers.{Range, NumberIn, IdIn, originRange, dateRange, sentenceWords, sentenceEdges}
 use Rattle.rules.specs.GrammarNames.{ofOrigin, ofEditor}
 use Rattle.rules.specs.GrammarContent.{HeadContent, SentenceContent}
 use Rattle.rules.specs.GrammarLines.{In, Differ}
@@ -37,7 +37,7 @@ pub record HeadFits (numbers : Range) (ts : List TableLines) (h : HeadLine) : Ty
   pub originText : List ℕ
   pub columns : Front (h .line) (bytes "#BOS" ∷ numberText ∷ editorText ∷ dateText ∷ originText ∷ []) (h .comment)
   pub number-written : NumberIn numbers numberText (h .number)
-  pub editor-written : IdWritten editorText (h .editor1)
+  pub editor-written : IdIn editorText (h .editor1)
   pub date-written : NumberIn dateRange dateText (h .date)
   pub origin-written : NumberIn originRange originText (h .origin)
   pub editor-known : (h .editor1 ≤ 1) ⊎ HasRow ts ofEditor (h .editor1)

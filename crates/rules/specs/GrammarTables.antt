@@ -26,7 +26,7 @@ pub record TableLines : Type 0 where
 -- ---- a table's rows together
 
 -- ids stand in order: -1 if given, 0 if given, then 1, 2, 3 without a gap (each here with one added)
-pub record InOrder (ids : List ℕ) : Type 0 where
+pub record IdsInOrder (ids : List ℕ) : Type 0 where
   pub minus-given : Bool
   pub zero-given : Bool
   pub others : ℕ
@@ -39,7 +39,7 @@ pub record Carries (r : RowLine) : Type 0 where
 
 pub record TagTable (which : ℕ) (rows : List RowLine) : Type 0 where
   pub each-row : Each (TagRow which) rows
-  pub in-order : InOrder (ids1 rows)
+  pub in-order : IdsInOrder (ids1 rows)
   pub carried : Each Carries rows
   pub tags-differ : Differ (firsts rows)
 

@@ -102,7 +102,7 @@ pub record LaidOut (v : Survey) : Type 0 where
 -- ---- where sentences begin: one more than the place of the sentence's first line, 0 for a number that no sentence has
 
 pub record BeginningsLaid (size : ℕ) (hs : List Handed) : Type 0 where
-  pub count : length (beginnings size hs) ≡ size
+  pub count : length (beginnings 0 size hs) ≡ size
   pub its : (front : List Handed) (h : Handed) (back : List Handed) → hs ≡ front ++ (h ∷ back) → h .sentence .heading .number < size
-      → getD (beginnings size hs) (h .sentence .heading .number) 0 ≡ h .sentence .start + 1
-  pub no-other : (n : ℕ) → n < size → member n (numbers hs) ≡ false → getD (beginnings size hs) n 0 ≡ 0
+      → getD (beginnings 0 size hs) (h .sentence .heading .number) 0 ≡ h .sentence .start + 1
+  pub no-other : (n : ℕ) → n < size → member n (numbers hs) ≡ false → getD (beginnings 0 size hs) n 0 ≡ 0

@@ -16,6 +16,7 @@ pub mod Reading
 pub mod Sheets
 pub mod Survey
 pub mod Index
+pub mod SentenceFrom
 pub mod Climbing
 pub mod Opening
 pub mod Meaning
@@ -37,6 +38,9 @@ pub mod Cutting
 pub mod Layout
 pub mod Places
 pub mod LentBuffers
+pub mod IndexRules
 pub mod WritingRule
 pub mod Refusals
 pub mod AsWritten
+pub mod BeginsThere
+pub mod BrokenNumbers

@@ -4,8 +4,8 @@ use Prim.Native.Nat.{ℕ}
 use mathlib.Core.Option.{Option, none, some}
 use mathlib.Core.List.{List, [], _∷_, map}
 use Rattle.rules.specs.Lists.{sorted}
-use Rattle.rules.specs.Texts.{Text, bare}
-use Rattle.rules.specs.Tables.{Tables, Row, origins, editors, table}
+use Rattle.rules.specs.Texts.{bare}
+use Rattle.rules.specs.Tables.{Tables, Row}
 use Rattle.rules.specs.Sentences.{Edge, Node, Heading, Sentence}
 use Rattle.rules.specs.Reading.{Handed}
 use Rattle.rules.specs.Survey.{Survey}

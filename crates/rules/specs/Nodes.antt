@@ -6,7 +6,7 @@ use mathlib.Core.List.{List, [], _∷_, _++_, map}
 use lib.ListN.{length, drop}
 use lib.Dec.{leb, ltb, eqb}
 use Rattle.rules.specs.Lists.{pick}
-use Rattle.rules.specs.Texts.{Text, noText, reads, atMost}
+use Rattle.rules.specs.Texts.{Text, noText, reads, atMost, behindHash}
 use Rattle.rules.specs.Columns.{columns, text, fields, comment}
 use Rattle.rules.specs.Numbers.{wordLimit, edgeLimit, phraseNumber, number, parentNumber, good, value}
 use Rattle.rules.specs.Rules.{Rule, rule, Verdict, checked}
@@ -132,10 +132,6 @@ wordOf format ts s line =
     ++ (rule 16 line (ltb (s .words) wordLimit && roomy format (s .edges) fs) ∷ tagsKnown format fs ts wordTags)
     ++ parentsRise format fs (s .words))
     (nodeOf format fs (s .words) (text fs 0) (comment (columns line)))
-
--- the digits behind a phrase line's #
-abbrev pub behindHash : Text → Text
-behindHash t = record { start = suc (t .start); bytes = drop 1 (t .bytes) }
 
 -- phrases are numbered from 500 and come in any order
 unfoldable pub phraseOf : ℕ → Tables → SoFar → Text → Verdict Node

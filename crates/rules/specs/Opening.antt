@@ -12,6 +12,7 @@ use Rattle.rules.specs.Sentences.{Sentence}
 use Rattle.rules.specs.Reading.{Handed, numbers}
 use Rattle.rules.specs.Sheets.{tableSheet, seenSet, sentenceSheetSize, sentenceSheet, EdgeRecord, noEdge, edgeList}
 use Rattle.rules.specs.Survey.{Survey, surveyOf, sheetsFit, fileFits}
+use Rattle.rules.specs.SentenceFrom.{sentenceFrom}
 
 -- the sentence of a number among those handed out
 abbrev pub sentenceOf : ℕ → List Handed → Option Sentence
@@ -33,7 +34,11 @@ noSheet = replicate sentenceSheetSize 0
 abbrev pub noEdges : List EdgeRecord
 noEdges = replicate edgeLimit noEdge
 
--- all four lent buffers have their fixed sizes
+-- the sentence sheet and the edge list have their fixed sizes
+abbrev pub sentenceFits : List ℕ → List EdgeRecord → Bool
+sentenceFits sheet edges = eqb (length sheet) sentenceSheetSize && eqb (length edges) edgeLimit
+
+-- all four lent buffers have them
 abbrev pub allFit : List ℕ → List ℕ → List ℕ → List EdgeRecord → Bool
 allFit tables seen sheet edges = sheetsFit tables seen && eqb (length sheet) sentenceSheetSize && eqb (length edges) edgeLimit
 
@@ -56,3 +61,20 @@ afterOpening file n tables seen sheet edges =
     (opened (surveyOf file) (sentenceOf n (surveyOf file .handed)))
     (record { answer = 2; tables = tables; seen = seen; sheet = sheet; edges = edges }))
     (record { answer = 1; tables = tables; seen = seen; sheet = sheet; edges = edges })
+
+-- ---- the opening of the sentence that begins at a place
+
+pub record OpenedAt : Type 0 where
+  pub answer : ℕ
+  pub sheet : List ℕ
+  pub edges : List EdgeRecord
+
+abbrev pub openedAs : Option Sentence → OpenedAt
+openedAs none = record { answer = 24; sheet = noSheet; edges = noEdges }
+openedAs (some s) = record { answer = 0; sheet = sentenceSheet s; edges = edgeList s }
+
+unfoldable pub afterOpeningAt : List ℕ → ℕ → List ℕ → List EdgeRecord → OpenedAt
+afterOpeningAt file at sheet edges =
+    pick (sentenceFits sheet edges)
+    (pick (fileFits file) (openedAs (sentenceFrom file at)) (record { answer = 2; sheet = sheet; edges = edges }))
+    (record { answer = 1; sheet = sheet; edges = edges })

@@ -1,7 +1,7 @@
 -- Document 01, "The file from top to bottom" and "The numbers of refusal": where a reading stands, what a line does there, and
 -- what the file's end says.
 use Prim.Native.Nat.{ℕ}
-use mathlib.Core.Bool.{Bool, _&&_}
+use mathlib.Core.Bool.{_&&_}
 use mathlib.Core.List.{List, [], _∷_, _++_}
 use lib.ListN.{length}
 use lib.Dec.{leb}

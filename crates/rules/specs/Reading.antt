@@ -7,7 +7,7 @@ use lib.Dec.{eqb}
 use Rattle.rules.specs.Lists.{pick}
 use Rattle.rules.specs.Bytes.{newline}
 use Rattle.rules.specs.Texts.{Text}
-use Rattle.rules.specs.Rules.{Rule, Fault, faultOf}
+use Rattle.rules.specs.Rules.{Fault, faultOf}
 use Rattle.rules.specs.Sentences.{Sentence}
 use Rattle.rules.specs.Phases.{Phase, start, behindSentence, Answer, refuse, go, hand, step, atEnd}
 

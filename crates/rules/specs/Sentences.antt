@@ -50,32 +50,42 @@ knownEditor ts i = ltb i 2 || hasId i (rowsOf (table editors ts))
 abbrev pub knownOrigin : Tables → ℕ → Bool
 knownOrigin ts n = hasId (suc n) (rowsOf (table origins ts))
 
+-- 7, 8: five columns, four of them numbers, and behind them nothing or a comment
+abbrev pub headingWritten : Text → List Rule
+headingWritten line =
+    let cs = columns line in
+    rule 7 line (ltb 4 (length cs) && empty (fields (drop 5 cs)))
+    ∷ rule 8 (written cs 1) (good (number sentenceNumber (written cs 1 .bytes)))
+    ∷ rule 8 (written cs 2) (good (signedId (written cs 2 .bytes)))
+    ∷ rule 8 (written cs 3) (good (number date (written cs 3 .bytes)))
+    ∷ rule 8 (written cs 4) (good (number originId (written cs 4 .bytes)))
+    ∷ []
+
+abbrev pub headingIn : Text → Heading
+headingIn line =
+    let cs = columns line in
+    record {
+      number = value (number sentenceNumber (written cs 1 .bytes));
+      editor1 = value (signedId (written cs 2 .bytes));
+      date = value (number date (written cs 3 .bytes));
+      origin = value (number originId (written cs 4 .bytes));
+      comment = comment (drop 5 cs);
+    }
+
+-- 13, 14, 15: the tables are there, the number is new, editor and origin are known
+abbrev pub headingCites : Tables → (ℕ → Bool) → Text → List Rule
+headingCites ts used line =
+    let cs = columns line in
+    let h = headingIn line in
+    rule 13 line (present origins ts && present editors ts)
+    ∷ rule 14 line (not (used (h .number)))
+    ∷ rule 15 (written cs 2) (knownEditor ts (h .editor1))
+    ∷ rule 15 (written cs 4) (knownOrigin ts (h .origin))
+    ∷ []
+
 unfoldable pub headingOf : Tables → (ℕ → Bool) → Text → Verdict Heading
 unfolding hasId
-headingOf ts used line =
-    let cs = columns line in
-    let its-number = number sentenceNumber (written cs 1 .bytes) in
-    let editor = signedId (written cs 2 .bytes) in
-    let when = number date (written cs 3 .bytes) in
-    let origin = number originId (written cs 4 .bytes) in
-    checked
-    (rule 7 line (ltb 4 (length cs) && empty (fields (drop 5 cs)))
-    ∷ rule 8 (written cs 1) (good its-number)
-    ∷ rule 8 (written cs 2) (good editor)
-    ∷ rule 8 (written cs 3) (good when)
-    ∷ rule 8 (written cs 4) (good origin)
-    ∷ rule 13 line (present origins ts && present editors ts)
-    ∷ rule 14 line (not (used (value its-number)))
-    ∷ rule 15 (written cs 2) (knownEditor ts (value editor))
-    ∷ rule 15 (written cs 4) (knownOrigin ts (value origin))
-    ∷ [])
-    (record {
-      number = value its-number;
-      editor1 = value editor;
-      date = value when;
-      origin = value origin;
-      comment = comment (drop 5 cs);
-    })
+headingOf ts used line = checked (headingWritten line ++ headingCites ts used line) (headingIn line)
 
 abbrev pub edgeCount : List Node → ℕ
 edgeCount [] = 0

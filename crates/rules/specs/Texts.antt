@@ -1,9 +1,9 @@
 -- A text of the file: its place and its bytes. Document 01, "The file from top to bottom": names, comments and
 -- descriptions lose white bytes at both ends; "The sheets": an absent text is 0, 0.
 use Prim.Native.Nat.{ℕ, suc}
-use mathlib.Core.Bool.{Bool, not, _&&_}
+use mathlib.Core.Bool.{Bool, not}
 use mathlib.Core.List.{List, [], _∷_}
-use lib.ListN.{length}
+use lib.ListN.{length, drop}
 use lib.Dec.{leb}
 use Rattle.rules.specs.Lists.{pick, empty, same}
 use Rattle.rules.specs.Bytes.{white, percents}
@@ -31,6 +31,10 @@ atMost n t = leb (length (t .bytes)) n
 -- places don't count
 abbrev pub bare : Text → Text
 bare t = record { start = 0; bytes = t .bytes }
+
+-- the digits behind a phrase line's #
+abbrev pub behindHash : Text → Text
+behindHash t = record { start = suc (t .start); bytes = drop 1 (t .bytes) }
 
 -- ---- white bytes lost at both ends
 

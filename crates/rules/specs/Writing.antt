@@ -1,15 +1,15 @@
 -- Document 01, "The numbers of refusal": what a writing answers, and what the buffers lent to it then hold: a refused
 -- writing changes nothing in the output, a granted one only its first bytes.
 use Prim.Native.Nat.{ℕ}
-use mathlib.Core.Bool.{Bool, _&&_}
-use mathlib.Core.List.{List, [], _∷_, _++_}
+use mathlib.Core.Bool.{_&&_}
+use mathlib.Core.List.{List, _++_}
 use lib.ListN.{length, drop}
 use lib.Dec.{leb, eqb}
 use Rattle.rules.specs.Lists.{pick}
 use Rattle.rules.specs.Numbers.{fileLimit}
 use Rattle.rules.specs.Reading.{numbers}
 use Rattle.rules.specs.Sheets.{tableSheet, seenSet, EdgeRecord}
-use Rattle.rules.specs.Survey.{Survey, surveyOf, fileFits}
+use Rattle.rules.specs.Survey.{surveyOf, fileFits}
 use Rattle.rules.specs.Opening.{noSheet, noEdges, allFit}
 use Rattle.rules.specs.Meaning.{meaningOf}
 use Rattle.rules.specs.Tidy.{tidyText}

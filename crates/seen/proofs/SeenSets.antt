@@ -13,8 +13,8 @@ use borrow.Author.Tests.{eqb-true, eqb-false}
 use Rattle.rules.specs.Lists.{member, counting}
 use Rattle.rules.specs.Sheets.{weighed, seenByte, seenSetSize, seenSet}
 use Rattle.rules.proofs.Counting.{length-counting, at-counting}
+use Rattle.rules.proofs.SeenBits.{weighs, first-bit, other-bit}
 use Rattle.seen.specs.Bits.{bit, bitAt, withBit, seenSetOf}
-use Rattle.seen.proofs.Weights.{weighs, first-bit, other-bit}
 use Rattle.seen.proofs.Members.{member-added, member-other}
 
 -- ---- a byte

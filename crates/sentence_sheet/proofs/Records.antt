@@ -2,9 +2,9 @@
 use Prim.Native.Nat.{ℕ, zero, suc, _+_, _*_, _<_}
 use native.Mathlib.Omega.{arith}
 use mathlib.Core.Path.{_≡_, refl, sym, ap, ap₂, _∙_}
-use mathlib.Core.Bool.{Bool, true, false}
+use mathlib.Core.Bool.{false}
 use mathlib.Core.List.{List, [], _∷_, _++_, map}
-use lib.ListN.{length, getD, set, length-replicate, length-map}
+use lib.ListN.{length, getD, set, length-map}
 use lib.Dec.{eqb}
 use borrow.Author.Tests.{eqb-false, eq-eqb, ne-eqb}
 use Rattle.rules.specs.Lists.{pick, counting, joined}
@@ -12,20 +12,13 @@ use Rattle.rules.specs.Sentences.{Node, listed}
 use Rattle.rules.specs.Sheets.{nodeRoom, nodeWidth, nodeNumbers, recordAt}
 use Rattle.rules.proofs.Counting.{length-counting, at-counting}
 use Rattle.rules.proofs.Conjunctions.{or-left, or-right}
+use Rattle.rules.proofs.ParentsOnSheet.{record-wide}
 use Rattle.columns.specs.Splices.{splice}
 use Rattle.columns.proofs.Splices.{splice-whole}
 use Rattle.table_sheet.proofs.Rooms.{Wide, splice-joined}
 use Rattle.sentence_sheet.specs.OpenSentences.{records}
 
 -- ---- every record has its width
-
-record-wide : (ns : List Node) (k : ℕ) → length (recordAt ns k) ≡ nodeWidth
-record-wide [] k = length-replicate {A = ℕ} nodeWidth 0
-record-wide (n ∷ ns) k = by (eqb (n .number) k) (record-wide ns k)
-  where
-    by : (t : Bool) → length (recordAt ns k) ≡ nodeWidth → length (pick t (nodeNumbers n) (recordAt ns k)) ≡ nodeWidth
-    by true e = refl
-    by false e = e
 
 records-wide : (ns : List Node) (ks : List ℕ) → Wide nodeWidth (map (recordAt ns) ks)
 records-wide ns [] = tt

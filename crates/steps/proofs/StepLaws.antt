@@ -1,20 +1,18 @@
 -- Rules in rising order of their numbers: the step of a line is refused by the first that is broken, group after group.
-use Prim.Native.Nat.{ℕ, zero, suc, _≤_}
+use Prim.Native.Nat.{_≤_}
 use native.Mathlib.Omega.{arith}
 use mathlib.Core.Path.{_≡_, refl, ap, _∙_}
 use mathlib.Core.Bool.{Bool, true, false}
 use mathlib.Core.List.{List, [], _∷_, _++_}
 use lib.Dec.{leb, eqb}
 use borrow.Author.Tests.{leb-true, ne-eqb}
-use Rattle.rules.specs.Lists.{pick, every}
-use Rattle.rules.specs.Rules.{Rule, Verdict, refused, granted, checked}
+use Rattle.rules.specs.Lists.{pick}
+use Rattle.rules.specs.Rules.{Rule, refused, checked}
 use Rattle.rules.specs.Lines.{Taking, takenAs}
 use Rattle.rules.proofs.Conjunctions.{and-left, and-right}
 use Rattle.rules.proofs.RuleLaws.{numbered, rising, inOrder, in-order}
 use Rattle.steps.specs.Faults.{brokenBy, faultIn, orElse, unlessFault}
 use Rattle.steps.specs.Steps.{stepFor, stepOf}
-use Rattle.steps.specs.declared.Fault.{Fault}
-use Rattle.steps.specs.declared.Step.{Step}
 
 numbered-first : (r : Rule) (rs : List Rule) → numbered (r ∷ rs) ≡ true → eqb (r .number) 0 ≡ false
 numbered-first r rs n =

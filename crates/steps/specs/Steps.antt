@@ -1,5 +1,4 @@
 -- A line's taking (rules/Lines) as a step: the numbers and places of what the line says, or the rule that refuses it.
-use mathlib.Core.List.{List}
 use lib.ListN.{length}
 use Rattle.rules.specs.Rules.{Verdict, refused, granted}
 use Rattle.rules.specs.Tables as rules

@@ -2,9 +2,15 @@
 pub mod refusals;
 
 ghost use mathlib.Core.Path.{_≡_};
-ghost use Prim.Native.Nat.{_≤_};
+ghost use mathlib.Core.List.{List};
+ghost use Prim.Native.Nat.{ℕ, _≤_, _<_};
 ghost use Rattle.rules.specs.Numbers.{fileLimit};
+ghost use Rattle.rules.specs.Columns.{written};
+ghost use Rattle.columns.specs.Listing.{columnsOf, Listed};
 ghost use Rattle.steps.specs.Faults.{refusal};
+use columns::listing;
+use columns::listing::Line;
+use columns::listing::Places;
 use columns::listing::Span;
 
 // The number of a refusal and the place of what is at fault; the number 0 is no fault.
@@ -62,4 +68,22 @@ pub fn refused(number: u32, place: usize) -> Step
 {
     let at = place as u32;
     Step::Refused(Fault { number, place: at })
+}
+
+// A rule is broken that is about this text.
+pub fn refused_text(number: u32, text: Span) -> Step
+    ensures { λ r. ⌜ r ≡ refusal number (text .start) ⌝ }
+{
+    Step::Refused(Fault {
+        number,
+        place: text.start,
+    })
+}
+
+// A rule is broken that is about column k.
+pub fn refused_at(number: u32, line: Line, places: &Places, k: usize) -> Step
+    requires { ⌜ (k < line .columns) × ((file : List ℕ) × Listed file line (now places)) ⌝ }
+    ensures { λ r. ⌜ ((file : List ℕ) → Listed file line (now (places .entry)) → r ≡ refusal number (written (columnsOf file line) k .start)) ⌝ }
+{
+    refused_text(number, listing::column_span(line, places, k))
 }

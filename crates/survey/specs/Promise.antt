@@ -2,6 +2,7 @@
 use Prim.Native.Nat.{ℕ}
 use mathlib.Core.List.{List}
 use Rattle.rules.specs.Survey.{Told, SurveyOutcome}
+use Rattle.rules.specs.Index.{Indexed}
 use Rattle.reading.specs.declared.Read.{Read}
 use Rattle.survey.specs.declared.Surveyed.{Surveyed}
 
@@ -19,3 +20,8 @@ numbersOf t = record { refusal = t .refusal; place = t .place; sentences = t .se
 
 abbrev pub surveyedAs : Read → Surveyed
 surveyedAs r = record { refusal = r .refusal; place = r .place; sentences = r .sentences; «sound_end» = r .«sound_end» }
+
+-- ---- the index
+
+abbrev pub indexed : Surveyed → List ℕ → List ℕ → List ℕ → Indexed
+indexed r tables seen places = record { answer = outcome r tables seen .answer; tables = tables; seen = seen; places = places }

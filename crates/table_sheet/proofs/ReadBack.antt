@@ -13,10 +13,10 @@ use Rattle.rules.specs.Texts.{Text}
 use Rattle.rules.specs.Tables.{Row, Tables, rowsOf, table}
 use Rattle.rules.specs.Sheets.{tableCount, rowWidth, tableRoom, rowPlace, count, rowNumbers, rowsRoom, tableSheet}
 use Rattle.rules.proofs.Counting.{length-counting, at-counting}
+use Rattle.rules.proofs.Rooms.{each-at}
 use Rattle.table_sheet.specs.SheetRows.{textAt, rowAt, rowsFrom, counted, tableIn, tablesIn}
 use Rattle.table_sheet.specs.OpenSheets.{sheetOf, openSheet}
 use Rattle.table_sheet.specs.Standing.{RowsHaveRoom, TablesHaveRoom, Stands, RowStands, RowsStand, TableStands, TablesStand, RowInside, Inside}
-use Rattle.table_sheet.proofs.Each.{each-at}
 use Rattle.table_sheet.proofs.Maps.{map-at}
 use Rattle.table_sheet.proofs.Rooms.{drop-joined}
 use Rattle.table_sheet.proofs.OpenSheets.{AllHaveRoom, rooms-wide, all-have-room, open-has-room, table-sheet, count-of-table}

@@ -1,4 +1,5 @@
 pub mod Asked
+pub mod BegunRows
 pub mod SpanTests
 pub mod NamedLines
 pub mod RowsSoFar

@@ -1,9 +1,9 @@
--- The last rules of a row, as the code asks them one after the other. Document 01, "The numbers of refusal": 11 and 12.
+-- The last rules of a row, as the code asks them one after the other. Document 01, "The numbers of refusal": 10 to 12.
 use Prim.Native.Nat.{ℕ, _+_, _*_, _≤_, _<_}
 use mathlib.Core.Bool.{Bool, not, _&&_}
 use mathlib.Core.List.{List}
 use lib.ListN.{length}
-use Rattle.rules.specs.Texts.{Text}
+use Rattle.rules.specs.Texts.{Text, atMost}
 use Rattle.rules.specs.Rules.{Rule, rule}
 use Rattle.rules.specs.Tables.{Row, hasId, hasTag}
 use Rattle.rules.specs.Rows.{roomFor, lastId, follows, ownTag}
@@ -18,6 +18,9 @@ use Rattle.table_sheet.specs.Standing.{Inside}
 unfoldable pub asked : List Rule → Step → Step
 unfolding faultIn
 asked rs s = unlessFault (faultIn rs) s
+
+abbrev pub textRule : ℕ → Text → Rule
+textRule limit t = rule 10 t (atMost limit t)
 
 abbrev pub idRule : ℕ → Text → List Row → Rule
 idRule id1 line rs = rule 11 line (not (hasId id1 rs))

@@ -39,7 +39,7 @@ pub fn format_line(file: &[u8], line: Line, places: &Places, classes: &[u8; 256]
     }
     let read = FormatNumber::read(listing::column_text(file, line, places, 1), classes);
     let Number::Good(n) = read else {
-        return rows::refused_text(refusals::BAD_NUMBER, listing::column_span(line, places, 1));
+        return steps::refused_at(refusals::BAD_NUMBER, line, places, 1);
     };
     if n != FORMAT {
         return steps::refused(refusals::WRONG_FORMAT, line.start);
@@ -52,20 +52,14 @@ pub fn table_begin_line(file: &[u8], line: Line, places: &Places, sheet: &[u32])
     requires { ⌜ Counted (now sheet) × Listed (now file) line (now places) ⌝ }
     ensures { λ r. ⌜ r ≡ stepOf (takenAs tableBegins (tableOpened (tablesIn (now (file .entry)) (now (sheet .entry))) (lineOf (now (file .entry)) line))) ⌝ }
 {
-    if line.columns < 2 {
-        return steps::refused(refusals::WRONG_COLUMNS, line.start);
-    }
-    let name = names::table_named(listing::column_text(file, line, places, 1));
+    let name = names::table_on(file, line, places);
     let TableName::Known(n) = name else {
-        return steps::refused(refusals::CANNOT_STAND, line.start);
+        return names::wrong_name(line);
     };
     if citations::is_present(sheet, n as usize) {
-        return steps::refused(refusals::CANNOT_STAND, line.start);
+        return names::wrong_name(line);
     }
-    if line.columns != 2 {
-        return steps::refused(refusals::WRONG_COLUMNS, line.start);
-    }
-    Step::TableBegins(n)
+    names::with_name(line, Step::TableBegins(n))
 }
 
 // #EOT NAME
@@ -73,20 +67,14 @@ pub fn table_end_line(file: &[u8], line: Line, places: &Places, table: u32) -> S
     requires { ⌜ Listed (now file) line (now places) ⌝ }
     ensures { λ r. ⌜ r ≡ stepOf (takenAs (λ m. tableEnds) (tableEnded table (lineOf (now (file .entry)) line))) ⌝ }
 {
-    if line.columns < 2 {
-        return steps::refused(refusals::WRONG_COLUMNS, line.start);
-    }
-    let name = names::table_named(listing::column_text(file, line, places, 1));
+    let name = names::table_on(file, line, places);
     let TableName::Known(n) = name else {
-        return steps::refused(refusals::CANNOT_STAND, line.start);
+        return names::wrong_name(line);
     };
     if n != table {
-        return steps::refused(refusals::CANNOT_STAND, line.start);
+        return names::wrong_name(line);
     }
-    if line.columns != 2 {
-        return steps::refused(refusals::WRONG_COLUMNS, line.start);
-    }
-    Step::TableEnds
+    names::with_name(line, Step::TableEnds)
 }
 
 // A row of the table that stands at `table` in the sheet and has `rows` rows there so far.

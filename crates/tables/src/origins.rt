@@ -64,13 +64,17 @@ pub fn origin_row(
     }
     let read = OriginId::read(listing::column_text(file, line, places, 0), classes);
     let Number::Good(id) = read else {
-        return rows::refused_text(refusals::BAD_NUMBER, listing::column_span(line, places, 0));
+        return steps::refused_at(refusals::BAD_NUMBER, line, places, 0);
     };
-    if NAME_LIMIT < name.len {
-        return rows::refused_text(refusals::BAD_TEXT, name);
-    }
-    if NOTE_LIMIT < note.len {
-        return rows::refused_text(refusals::BAD_TEXT, note);
-    }
-    rows::with_new_id(line, sheet, place, rows, id + 1, name, note)
+    rows::with_texts(
+        line,
+        sheet,
+        place,
+        rows,
+        id + 1,
+        name,
+        NAME_LIMIT,
+        note,
+        NOTE_LIMIT,
+    )
 }

@@ -5,22 +5,21 @@ ghost use Prim.Native.Nat.{ℕ, _+_, _*_, _≤_, _<_};
 ghost use lib.ListN.{length};
 ghost use Rattle.rules.specs.Bytes.{classTable};
 ghost use Rattle.rules.specs.Numbers.{fileLimit};
+ghost use Rattle.rules.specs.Texts.{Text};
 ghost use Rattle.rules.specs.Tables.{Row};
 ghost use Rattle.rules.specs.Rows.{editorRow};
 ghost use Rattle.rules.specs.Sheets.{rowWidth};
 ghost use Rattle.rules.specs.Lines.{takenAs, rowLine};
-ghost use Rattle.columns.specs.Listing.{lineOf, Listed};
-ghost use Rattle.steps.specs.Faults.{refusal};
+ghost use Rattle.columns.specs.Listing.{lineOf, spanOf, Listed};
 ghost use Rattle.steps.specs.Steps.{stepOf};
 ghost use Rattle.table_sheet.specs.SheetRows.{rowsFrom};
-ghost use Rattle.tables.specs.RowRules.{asked, idRule, roomRule, rowStep};
+ghost use Rattle.tables.specs.RowRules.{asked, textRule, idRule, roomRule, rowStep};
 use columns::listing;
 use columns::listing::Line;
 use columns::listing::Places;
 use columns::listing::Span;
 use numbers::EditorId;
 use numbers::Number;
-use steps::Fault;
 use steps::RowSaid;
 use steps::Step;
 use steps::refusals;
@@ -28,15 +27,6 @@ use steps::refusals;
 const LOGIN_LIMIT: u32 = 16;
 
 const FULL_NAME_LIMIT: u32 = 40;
-
-pub fn refused_text(number: u32, text: Span) -> Step
-    ensures { λ r. ⌜ r ≡ refusal number (text .start) ⌝ }
-{
-    Step::Refused(Fault {
-        number,
-        place: text.start,
-    })
-}
 
 // Rule 12, and the row.
 pub fn with_room(line: Line, rows: usize, id1: u32, first: Span, second: Span, flag: u32) -> Step
@@ -73,6 +63,30 @@ pub fn with_new_id(
     with_room(line, rows, id1, first, second, 0)
 }
 
+// Rule 10 of such a row's two texts, then 11 and 12.
+pub fn with_texts(
+    line: Line,
+    sheet: &[u32],
+    place: usize,
+    rows: usize,
+    id1: u32,
+    first: Span,
+    first_limit: u32,
+    second: Span,
+    second_limit: u32,
+) -> Step
+    requires { ⌜ (line .start ≤ fileLimit) × (place + rowWidth * rows ≤ length (now sheet)) ⌝ }
+    ensures { λ r. ⌜ ((file : List ℕ) (rs : List Row) (a b : Text) → rs ≡ rowsFrom file (now (sheet .entry)) place rows → first ≡ spanOf a → second ≡ spanOf b → r ≡ asked (textRule «first_limit» a ∷ textRule «second_limit» b ∷ idRule id1 (lineOf file line) rs ∷ roomRule (lineOf file line) rs ∷ []) (rowStep id1 (spanOf a) (spanOf b) 0)) ⌝ }
+{
+    if first_limit < first.len {
+        return steps::refused_text(refusals::BAD_TEXT, first);
+    }
+    if second_limit < second.len {
+        return steps::refused_text(refusals::BAD_TEXT, second);
+    }
+    with_new_id(line, sheet, place, rows, id1, first, second)
+}
+
 // An editor's id, login, and full name up to the line's end.
 pub fn editor_row(
     file: &[u8],
@@ -92,14 +106,18 @@ pub fn editor_row(
     }
     let read = EditorId::read(listing::column_text(file, line, places, 0), classes);
     let Number::Good(id1) = read else {
-        return refused_text(refusals::BAD_NUMBER, listing::column_span(line, places, 0));
+        return steps::refused_at(refusals::BAD_NUMBER, line, places, 0);
     };
     let login = listing::column_span(line, places, 1);
-    if LOGIN_LIMIT < login.len {
-        return refused_text(refusals::BAD_TEXT, login);
-    }
-    if FULL_NAME_LIMIT < name.len {
-        return refused_text(refusals::BAD_TEXT, name);
-    }
-    with_new_id(line, sheet, place, rows, id1, login, name)
+    with_texts(
+        line,
+        sheet,
+        place,
+        rows,
+        id1,
+        login,
+        LOGIN_LIMIT,
+        name,
+        FULL_NAME_LIMIT,
+    )
 }

@@ -148,19 +148,19 @@ pub fn tag_row(
     }
     let read = RowId::read(listing::column_text(file, line, places, 0), classes);
     let Number::Good(id1) = read else {
-        return rows::refused_text(refusals::BAD_NUMBER, listing::column_span(line, places, 0));
+        return steps::refused_at(refusals::BAD_NUMBER, line, places, 0);
     };
     let tag = listing::column_text(file, line, places, 1);
     let first = listing::column_span(line, places, 1);
     if !is_tag(table, tag) {
-        return rows::refused_text(refusals::BAD_TEXT, first);
+        return steps::refused_text(refusals::BAD_TEXT, first);
     }
     let said = read_flag(file, line, places, table);
     let Flag::Is(flag) = said else {
-        return rows::refused_text(refusals::BAD_TEXT, listing::column_span(line, places, 2));
+        return steps::refused_at(refusals::BAD_TEXT, line, places, 2);
     };
     if DESCRIPTION_LIMIT < described.len {
-        return rows::refused_text(refusals::BAD_TEXT, described);
+        return steps::refused_text(refusals::BAD_TEXT, described);
     }
     if !tag_in_place(file, sheet, place, rows, id1, tag) {
         return steps::refused(refusals::ROW_OUT_OF_PLACE, line.start);

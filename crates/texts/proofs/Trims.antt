@@ -1,6 +1,6 @@
 -- Laws of the text without white bytes at its ends: where it starts, where it ends, and that its bytes lie there. By one
 -- step along the bytes, at the front or at the back.
-use Prim.Native.Nat.{ℕ, suc, _+_, _-_, _≤_, _<_, suc-le-suc}
+use Prim.Native.Nat.{ℕ, suc, _+_, _-_, _≤_, _<_}
 use native.Mathlib.Nat.{add-zero, add-suc, suc-add, sub-self}
 use native.Mathlib.Omega.{arith}
 use mathlib.Core.Path.{_≡_, refl, sym, ap, _∙_, subst}
@@ -13,6 +13,7 @@ use lib.Seq.{drop-drop, take-suc, take-all, getD-drop, length-take-le}
 use Rattle.rules.specs.Lists.{pick}
 use Rattle.rules.specs.Bytes.{white}
 use Rattle.rules.specs.Texts.{Text, noText, unlessWhite, rightTrim, trimFrom}
+use Rattle.rules.proofs.TrimLaws.{right-trim-white, right-length}
 use Rattle.columns.specs.Listing.{spanOf}
 use Rattle.columns.specs.declared.listing.Span.{Span}
 use Rattle.columns.specs.Leading.{leading}
@@ -20,13 +21,7 @@ use Rattle.columns.proofs.Leading.{leading-behind}
 
 -- ---- the end
 
--- the last byte, if it is white, is lost
-lost : (xs : List ℕ) (b : ℕ) → white b ≡ true → rightTrim (xs ++ (b ∷ [])) ≡ rightTrim xs
-unfolding rightTrim
-lost [] b e = rw e
-lost (x ∷ xs) b e = ap (unlessWhite x) (lost xs b e)
-
--- and else it stays, with all before it
+-- a last byte that is not white stays, with all before it
 unless-more : (x : ℕ) (xs : List ℕ) (b : ℕ) → unlessWhite x (xs ++ (b ∷ [])) ≡ x ∷ xs ++ (b ∷ [])
 unless-more x [] b = refl
 unless-more x (y ∷ xs) b = refl
@@ -50,22 +45,9 @@ trimmed-first (x ∷ xs) = go (rightTrim xs) (trimmed-first xs)
         only false = refl
     go (y ∷ ys) e = ap (λ (l : List ℕ). x ∷ l) e
 
-pub trimmed-shorter : (xs : List ℕ) → length (rightTrim xs) ≤ length xs
-unfolding rightTrim
-trimmed-shorter [] = omega arith
-trimmed-shorter (x ∷ xs) = go (rightTrim xs) (trimmed-shorter xs)
-  where
-    go : (ys : List ℕ) → length ys ≤ length xs → length (unlessWhite x ys) ≤ suc (length xs)
-    go [] e = only (white x)
-      where
-        only : (t : Bool) → length {A = ℕ} (pick t [] (x ∷ [])) ≤ suc (length xs)
-        only true = omega arith
-        only false = omega arith
-    go (y ∷ ys) e = suc-le-suc e
-
 -- nor is it behind the head's end
 pub end-inside : (s : List ℕ) (start end : ℕ) → start ≤ length s → end ≡ start + length (rightTrim (drop start s)) → end ≤ length s
-end-inside s start end h e = omega (arith, trimmed-shorter (drop start s), length-drop start s)
+end-inside s start end h e = omega (arith, right-length (drop start s), length-drop start s)
 
 -- the same, of the bytes of a head between two places
 abbrev pub between : List ℕ → ℕ → ℕ → List ℕ
@@ -81,7 +63,7 @@ module _ (s : List ℕ) (start end : ℕ) where
       ∙ ap (λ (b : ℕ). between s start (end - 1) ++ (b ∷ [])) (getD-drop start s (end - 1 - start) 0 ∙ ap (λ (k : ℕ). getD s k 0) m)
 
   pub end-lost : start < end → end ≤ length s → white (getD s (end - 1) 0) ≡ true → rightTrim (between s start end) ≡ rightTrim (between s start (end - 1))
-  end-lost h l e = ap rightTrim (one-more h l) ∙ lost (between s start (end - 1)) (getD s (end - 1) 0) e
+  end-lost h l e = ap rightTrim (one-more h l) ∙ right-trim-white (between s start (end - 1)) (getD s (end - 1) 0) e
 
   pub end-stays : start < end → end ≤ length s → white (getD s (end - 1) 0) ≡ false → start + length (rightTrim (between s start end)) ≡ end
   end-stays h l e =
@@ -98,7 +80,7 @@ end-none s start end e = rw (e, sub-self, add-zero)
 
 -- ---- the start
 
--- white bytes in front are lost
+-- white bytes in front are right-trim-white
 past-white : (at : ℕ) (s : List ℕ) → trimFrom at s ≡ trimFrom (at + leading white s) (drop (leading white s) s)
 unfolding trimFrom leading
 past-white at [] = refl
@@ -156,7 +138,7 @@ lies s at = go (ltb start (length s)) refl
         subst (Lies s) (sym (trimmed-some s at start refl (ltb-true _ _ e)))
         (record {
           bytes-there = trimmed-first (drop start s);
-          inside = omega (arith, ltb-true start (length s) e, trimmed-shorter (drop start s), length-drop start s);
+          inside = omega (arith, ltb-true start (length s) e, right-length (drop start s), length-drop start s);
         })
     go false e =
         subst (Lies s) (sym (trimmed-none s at start refl (ltb-false _ _ e)))

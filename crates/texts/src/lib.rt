@@ -45,7 +45,7 @@ pub fn trim(head: &[u8], at: usize, classes: &[u8; 256]) -> Span
     requires { ⌜ (now classes ≡ classTable) × (length (now head) ≤ fileLimit) ⌝ }
     ensures { λ r. ⌜ r ≡ spanOf (trimFrom at (drop at (now (head .entry)))) ⌝ }
 {
-    let start = columns::skip_white(head, at, classes);
+    let start = columns::skip_run(head, at, false, classes);
     if head.len() <= start {
         return Span { start: 0, len: 0 };
     }

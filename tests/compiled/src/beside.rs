@@ -1,84 +1,105 @@
 //! Both readers get the same file and buffers full of the same noise; the answers and
-//! every entry of both buffers must agree.
+//! every entry of all buffers must agree.
 
-use std::fmt::{Arguments, Debug};
+use std::fmt::Arguments;
 use std::fs;
 
-use plain::generate::Dice;
-use plain::{Survey, SEEN_SET, TABLE_SHEET};
+use plain::{Edge, Survey};
 
-type Reader = fn(&[u8], &mut [u32], &mut [u8]) -> Survey;
-
-/// Entries on either side of a buffer that belong to the caller.
-const MARGIN: usize = 64;
+use crate::lent::{Lent, Sizes, INDEX_SIZES, OPEN_AT_SIZES, OPEN_SIZES, SURVEY_SIZES};
 
 const DIFFERENCES: &str = concat!(env!("CARGO_MANIFEST_DIR"), "/../../target/differences");
 
-/// Two buffers, each between its margins.
-#[derive(Clone, PartialEq, Eq)]
-pub struct Lent {
-    tables: Vec<u32>,
-    seen: Vec<u8>,
+/// What is asked: a survey, an index, the sentence with a number, the one at a place.
+#[derive(Clone, Copy, Debug)]
+pub enum Call {
+    Survey,
+    Index,
+    Open(u32),
+    OpenAt(u32),
 }
 
-impl Lent {
-    /// Buffers of their fixed sizes, full of noise.
-    pub fn noise(seed: u64) -> Lent {
-        Lent::noise_of_sizes(seed, TABLE_SHEET, SEEN_SET)
-    }
-
-    pub fn noise_of_sizes(seed: u64, tables: usize, seen: usize) -> Lent {
-        let mut dice = Dice::new(seed ^ 0x0000_0153_0000_0153);
-        let (first, step) = (dice.roll() as u32, dice.roll() as u32 | 1);
-        let noise = |entry: usize| first.wrapping_add(step.wrapping_mul(entry as u32));
-        Lent {
-            tables: (0..tables + 2 * MARGIN).map(noise).collect(),
-            seen: (0..seen + 2 * MARGIN)
-                .map(|entry| noise(entry) as u8)
-                .collect(),
+impl Call {
+    pub fn sizes(self) -> Sizes {
+        match self {
+            Call::Survey => SURVEY_SIZES,
+            Call::Index => INDEX_SIZES,
+            Call::Open(_) => OPEN_SIZES,
+            Call::OpenAt(_) => OPEN_AT_SIZES,
         }
     }
 
-    fn surveyed_by(&mut self, reader: Reader, file: &[u8]) -> Survey {
-        let tables = within_margins(&mut self.tables);
-        reader(file, tables, within_margins(&mut self.seen))
+    fn compiled(self, file: &[u8], lent: &mut Lent) -> Survey {
+        let (tables, seen) = (lent.tables.lent(), lent.seen.lent());
+        let (sheet, edges) = (lent.sheet.lent(), lent.edges.lent());
+        match self {
+            Call::Survey => crate::survey(file, tables, seen),
+            Call::Index => crate::index(file, tables, seen, lent.places.lent()),
+            Call::Open(number) => alone(crate::open(file, number, tables, seen, sheet, edges)),
+            Call::OpenAt(place) => alone(crate::open_at(file, place, sheet, edges)),
+        }
+    }
+
+    fn plain(self, file: &[u8], lent: &mut Lent) -> Survey {
+        let (tables, seen) = (lent.tables.lent(), lent.seen.lent());
+        let (sheet, edges) = (lent.sheet.lent(), lent.edges.lent());
+        match self {
+            Call::Survey => plain::survey(file, tables, seen),
+            Call::Index => plain::index(file, tables, seen, lent.places.lent()),
+            Call::Open(number) => alone(as_records(edges, |edges| {
+                plain::open(file, number, tables, seen, sheet, edges)
+            })),
+            Call::OpenAt(place) => alone(as_records(edges, |edges| {
+                plain::open_at(file, place, sheet, edges)
+            })),
+        }
     }
 }
 
-fn within_margins<T>(room: &mut [T]) -> &mut [T] {
-    let end = room.len() - MARGIN;
-    &mut room[MARGIN..end]
+/// An opening answers with a refusal alone.
+fn alone(refusal: u32) -> Survey {
+    Survey {
+        refusal,
+        place: 0,
+        sentences: 0,
+        sound_end: 0,
+    }
 }
 
-/// The answer to a file lent with buffers of noise.
-pub fn agreed(case: Arguments, file: &[u8], noise: u64) -> Survey {
-    agreed_with(case, file, &Lent::noise(noise)).0
+/// Lends the list as records; numbers that make no whole records are lent as no list.
+fn as_records(numbers: &mut [u32], opening: impl FnOnce(&mut [Edge]) -> u32) -> u32 {
+    if numbers.len() % 4 != 0 {
+        return opening(&mut []);
+    }
+    let record = |numbers: &[u32]| Edge {
+        child: numbers[0],
+        label_start: numbers[1],
+        label_length: numbers[2],
+        parent: numbers[3],
+    };
+    let mut records: Vec<Edge> = numbers.chunks_exact(4).map(record).collect();
+    let refusal = opening(&mut records);
+    for (room, edge) in numbers.chunks_exact_mut(4).zip(records) {
+        room.copy_from_slice(&[edge.child, edge.label_start, edge.label_length, edge.parent]);
+    }
+    refusal
 }
 
-/// The answer, and the buffers afterwards.
-pub fn agreed_with(case: Arguments, file: &[u8], lent: &Lent) -> (Survey, Lent) {
+/// The answer to a file lent with buffers of noise, and the buffers afterwards.
+pub fn agreed(case: Arguments, call: Call, file: &[u8], noise: u64) -> (Survey, Lent) {
+    agreed_with(case, call, file, &Lent::noise(noise, call.sizes()))
+}
+
+pub fn agreed_with(case: Arguments, call: Call, file: &[u8], lent: &Lent) -> (Survey, Lent) {
     let (mut compiled, mut plain) = (lent.clone(), lent.clone());
-    let answer = compiled.surveyed_by(crate::survey, file);
-    let expected = plain.surveyed_by(plain::survey, file);
+    let answer = call.compiled(file, &mut compiled);
+    let expected = call.plain(file, &mut plain);
     if answer != expected || compiled != plain {
-        let tables = first_difference("table sheet", &compiled.tables, &plain.tables);
-        let seen = first_difference("seen set", &compiled.seen, &plain.seen);
+        let differences = compiled.differences(&plain);
         let kept = keep(case, file);
-        panic!("{case}: compiled {answer:?}, plain {expected:?}{tables}{seen}; {kept}");
+        panic!("{case}, {call:?}: compiled {answer:?}, plain {expected:?}{differences}; {kept}");
     }
     (answer, compiled)
-}
-
-/// Entries are counted from the buffer's first; those of the margin in front are below 0.
-fn first_difference<T: PartialEq + Debug>(buffer: &str, compiled: &[T], plain: &[T]) -> String {
-    let mut entries = compiled.iter().zip(plain).enumerate();
-    match entries.find(|(_, (compiled, plain))| compiled != plain) {
-        None => String::new(),
-        Some((entry, (compiled, plain))) => {
-            let entry = entry as isize - MARGIN as isize;
-            format!("; entry {entry} of the {buffer}: compiled {compiled:?}, plain {plain:?}")
-        }
-    }
 }
 
 /// Leaves the file where it can be looked at.

@@ -1,8 +1,9 @@
 //! Small files cut at every byte: with nothing behind the cut, though other bytes lie
 //! there in memory, and with these bytes as the rest of the file.
 
-use compiled::beside::agreed;
-use plain::generate::{small, small_accepted, Dice};
+use compiled::beside::{agreed, Call};
+use compiled::openings::{headings, numbers_given, openings_agree};
+use plain::generate::{small, small_accepted, Dice, SMALL_FILE};
 
 const FILES: u64 = 50;
 const MOST_BEHIND: usize = 200;
@@ -25,11 +26,13 @@ fn every_cut(what: &str, behind: impl Fn(&mut Dice) -> Vec<u8>) {
             let noise = dice.roll();
             agreed(
                 format_args!("seed {seed} cut at {cut}"),
+                Call::Survey,
                 &joined[..cut],
                 noise,
             );
             agreed(
                 format_args!("seed {seed} cut at {cut} before {what}"),
+                Call::Survey,
                 &joined,
                 noise,
             );
@@ -69,4 +72,26 @@ fn before_the_tail_of_another_file() {
         };
         other[start..].to_vec()
     });
+}
+
+/// Every sentence of the whole file is asked for after every cut; the rest of the file lies
+/// behind the cut in memory.
+#[test]
+fn openings_before_the_rest_of_the_file() {
+    let (mut granted, mut refused) = (0, 0);
+    let files = (0..).map(|seed| (seed, file_to_cut(seed)));
+    let small_ones = files.filter(|(_, file)| file.len() < SMALL_FILE);
+    for (seed, file) in small_ones.take(FILES as usize) {
+        let (mut numbers, places) = (numbers_given(&file), headings(&file));
+        numbers.insert(0);
+        for cut in 0..=file.len() {
+            let case = format_args!("openings, seed {seed} cut at {cut}");
+            let part = &file[..cut];
+            let (_, openings) = openings_agree(case, part, &numbers, &places, cut as u64);
+            granted += openings.granted;
+            refused += openings.refused;
+        }
+    }
+    println!("{granted} granted, {refused} refused");
+    assert!(granted > 1_000 && refused > 10_000);
 }

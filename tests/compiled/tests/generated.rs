@@ -1,6 +1,6 @@
-//! Files made by dice, accepted and damaged.
+//! Surveys of files made by dice, accepted and damaged.
 
-use compiled::beside::agreed;
+use compiled::beside::{agreed, Call};
 use plain::generate::{accepted, damaged};
 
 const ACCEPTED_SEEDS: u64 = 8_000;
@@ -17,7 +17,13 @@ fn size_of(seed: u64) -> usize {
 fn accepted_files() {
     for seed in 0..ACCEPTED_SEEDS {
         let file = accepted(seed, size_of(seed));
-        let answer = agreed(format_args!("accepted seed {seed}"), &file, seed);
+        let answer = agreed(
+            format_args!("accepted seed {seed}"),
+            Call::Survey,
+            &file,
+            seed,
+        )
+        .0;
         assert_eq!(answer.refusal, 0, "accepted seed {seed}");
     }
 }
@@ -27,7 +33,13 @@ fn damaged_files_meet_every_refusal() {
     let mut met = [0; 26];
     for seed in 0..DAMAGED_SEEDS {
         let file = damaged(seed, size_of(seed));
-        let answer = agreed(format_args!("damaged seed {seed}"), &file, seed);
+        let answer = agreed(
+            format_args!("damaged seed {seed}"),
+            Call::Survey,
+            &file,
+            seed,
+        )
+        .0;
         met[answer.refusal as usize] += 1;
     }
     for (refusal, count) in met.iter().enumerate() {

@@ -9,6 +9,7 @@ pub mod documents;
 pub mod generate;
 mod lines;
 mod numbers;
+mod places;
 mod reading;
 mod refusals;
 mod sentences;
@@ -16,9 +17,11 @@ mod sheets;
 mod tables;
 mod tidy;
 
-use reading::read;
+use places::sentence_at;
+use reading::{read, Reading};
 use refusals::{BUFFER_SIZE, FILE_TOO_LONG, NOT_HANDED_OUT, TIDY_TOO_LONG};
-use sheets::{clear_sentence, fill_sentence, fill_tables_and_seen};
+use sentences::Sentence;
+use sheets::{clear_sentence, fill_places, fill_sentence, fill_tables_and_seen};
 
 /// Numbers in a table sheet.
 pub const TABLE_SHEET: usize = 10_759;
@@ -28,6 +31,8 @@ pub const SEEN_SET: usize = 8_192;
 pub const SENTENCE_SHEET: usize = 11_009;
 /// Records in an edge list.
 pub const EDGE_LIST: usize = 512;
+/// Numbers in a list of places, one for each sentence number and for 0.
+pub const PLACES: usize = 65_536;
 /// The longest file in bytes.
 pub const FILE_LIMIT: usize = 268_435_456;
 
@@ -62,15 +67,36 @@ pub struct Written {
 pub fn survey(file: &[u8], table_sheet: &mut [u32], seen: &mut [u8]) -> Survey {
     let sizes_right = table_sheet.len() == TABLE_SHEET && seen.len() == SEEN_SET;
     if let Some(refusal) = refusal_before_reading(file, sizes_right) {
-        return Survey {
-            refusal,
-            place: 0,
-            sentences: 0,
-            sound_end: 0,
-        };
+        return unread(refusal);
     }
     let reading = read(file);
     fill_tables_and_seen(&reading, table_sheet, seen);
+    answer_of(&reading)
+}
+
+/// A survey that also tells one more than the place of each sentence handed out.
+pub fn index(file: &[u8], table_sheet: &mut [u32], seen: &mut [u8], places: &mut [u32]) -> Survey {
+    let sizes_right =
+        table_sheet.len() == TABLE_SHEET && seen.len() == SEEN_SET && places.len() == PLACES;
+    if let Some(refusal) = refusal_before_reading(file, sizes_right) {
+        return unread(refusal);
+    }
+    let reading = read(file);
+    fill_tables_and_seen(&reading, table_sheet, seen);
+    fill_places(&reading.sentences, places);
+    answer_of(&reading)
+}
+
+fn unread(refusal: u32) -> Survey {
+    Survey {
+        refusal,
+        place: 0,
+        sentences: 0,
+        sound_end: 0,
+    }
+}
+
+fn answer_of(reading: &Reading) -> Survey {
     Survey {
         refusal: reading.refusal,
         place: reading.place as u32,
@@ -94,12 +120,25 @@ pub fn open(
     }
     let reading = read(file);
     fill_tables_and_seen(&reading, table_sheet, seen);
+    let mut sentences = reading.sentences.iter();
+    let asked = sentences.find(|sentence| sentence.number == number);
+    hand_over(asked, sentence_sheet, edges)
+}
+
+/// Opens the sentence that begins at a place of the file, whatever stands before it and
+/// behind it; the answer is a refusal, 0 if granted.
+pub fn open_at(file: &[u8], place: u32, sentence_sheet: &mut [u32], edges: &mut [Edge]) -> u32 {
+    let sizes_right = sentence_sheet.len() == SENTENCE_SHEET && edges.len() == EDGE_LIST;
+    if let Some(refusal) = refusal_before_reading(file, sizes_right) {
+        return refusal;
+    }
+    let asked = sentence_at(file, place as usize);
+    hand_over(asked.as_ref(), sentence_sheet, edges)
+}
+
+fn hand_over(asked: Option<&Sentence>, sentence_sheet: &mut [u32], edges: &mut [Edge]) -> u32 {
     clear_sentence(sentence_sheet, edges);
-    match reading
-        .sentences
-        .iter()
-        .find(|sentence| sentence.number == number)
-    {
+    match asked {
         None => NOT_HANDED_OUT,
         Some(sentence) => {
             fill_sentence(sentence, sentence_sheet, edges);

@@ -32,6 +32,8 @@ pub struct Node {
 }
 
 pub struct Sentence {
+    /// Where its `#BOS` line begins.
+    pub place: u32,
     pub number: u32,
     pub editor: i64,
     pub date: u32,
@@ -63,22 +65,37 @@ pub fn begin_sentence(
     number_used: &[bool],
 ) -> Result<OpenSentence, u32> {
     let mut faults = Faults::default();
-    let number = columns.number(1, SENTENCE_NUMBERS.0, SENTENCE_NUMBERS.1, &mut faults);
-    let editor = columns.number(2, EDITOR_IDS.0, EDITOR_IDS.1, &mut faults);
-    let date = columns.number(3, DATES.0, DATES.1, &mut faults);
-    let origin = columns.number(4, ORIGIN_IDS.0, ORIGIN_IDS.1, &mut faults);
-    faults.add_if(columns.count() > 5 && columns.bytes(5) != b"%%", COLUMNS);
+    let sentence = read_heading(columns, &mut faults);
     faults.add_if(
         tables[ORIGIN].is_none() || tables[EDITOR].is_none(),
         TABLE_MISSING,
     );
-    faults.add_if(number_used[number as usize], SENTENCE_TWICE);
+    faults.add_if(number_used[sentence.number as usize], SENTENCE_TWICE);
+    let editor = sentence.editor;
     let editor_known = editor == -1 || editor == 0 || id_stands_in(tables, EDITOR, editor);
     faults.add_if(
-        !editor_known || !id_stands_in(tables, ORIGIN, origin),
+        !editor_known || !id_stands_in(tables, ORIGIN, i64::from(sentence.origin)),
         EDITOR_OR_ORIGIN,
     );
-    let sentence = Sentence {
+    faults.judge(OpenSentence::empty(sentence))
+}
+
+/// Judges a `#BOS` line by what stands in it, whatever the tables and the other
+/// sentences are.
+pub fn begin_sentence_alone(columns: &Columns) -> Result<OpenSentence, u32> {
+    let mut faults = Faults::default();
+    let sentence = read_heading(columns, &mut faults);
+    faults.judge(OpenSentence::empty(sentence))
+}
+
+fn read_heading(columns: &Columns, faults: &mut Faults) -> Sentence {
+    let number = columns.number(1, SENTENCE_NUMBERS.0, SENTENCE_NUMBERS.1, faults);
+    let editor = columns.number(2, EDITOR_IDS.0, EDITOR_IDS.1, faults);
+    let date = columns.number(3, DATES.0, DATES.1, faults);
+    let origin = columns.number(4, ORIGIN_IDS.0, ORIGIN_IDS.1, faults);
+    faults.add_if(columns.count() > 5 && columns.bytes(5) != b"%%", COLUMNS);
+    Sentence {
+        place: columns.text(0).start,
         number: number as u32,
         editor,
         date: date as u32,
@@ -87,11 +104,7 @@ pub fn begin_sentence(
         words: Vec::new(),
         phrases: Vec::new(),
         secondary_edges: 0,
-    };
-    faults.judge(OpenSentence {
-        sentence,
-        phrase_given: [false; MOST_PHRASES],
-    })
+    }
 }
 
 fn id_stands_in(tables: &Tables, name: usize, id: i64) -> bool {
@@ -104,6 +117,13 @@ fn has_phrase_form(column: &[u8]) -> bool {
 }
 
 impl OpenSentence {
+    fn empty(sentence: Sentence) -> OpenSentence {
+        OpenSentence {
+            sentence,
+            phrase_given: [false; MOST_PHRASES],
+        }
+    }
+
     /// Adds the word or phrase that the line holds, or tells the line's refusal.
     pub fn take_node(&mut self, columns: &Columns, tables: &Tables) -> Result<(), u32> {
         let first = columns.bytes(0);

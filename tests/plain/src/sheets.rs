@@ -43,6 +43,14 @@ pub fn fill_seen_set(sentences: &[Sentence], seen: &mut [u8]) {
     }
 }
 
+/// One more than the place of each sentence, at its number.
+pub fn fill_places(sentences: &[Sentence], places: &mut [u32]) {
+    places.fill(0);
+    for sentence in sentences {
+        places[sentence.number as usize] = sentence.place + 1;
+    }
+}
+
 pub fn fill_tables_and_seen(reading: &Reading, table_sheet: &mut [u32], seen: &mut [u8]) {
     fill_table_sheet(&reading.tables, table_sheet);
     fill_seen_set(&reading.sentences, seen);

@@ -42,7 +42,7 @@ sub-find-id c = search needs
 find-id-requires : tie.Need-find-id-requires
 find-id-requires c κs =
     let s = c .before .before .before .before in
-    let room = rows-in-sheet [] (s .args .sheet .now) (s .args .table) (s .pre .1) (s .pre .0) in
+    let room = rows-in-sheet [] (s .args .sheet .now) (s .args .table) (s .pre .1) (s .pre .0) (c .before .if1 .left) in
     rw (c .row-place .ensures) room
 
 is-row-requires : tie.Need-is-row-requires

@@ -75,7 +75,7 @@ find-tag-requires : tie.Need-find-tag-requires
 find-tag-requires c κs =
     let s = asked (c .before .before) in
     let n = s .args .table in
-    let room = rows-in-sheet (file s) (sheet s) n (s .pre .1) (s .pre .0 .counted) in (
+    let room = rows-in-sheet (file s) (sheet s) n (s .pre .1) (s .pre .0 .counted) (c .before .if3 .left) in (
       s .pre .1,
       rw (c .row-place .ensures) room,
       subst (λ (p : ℕ). Inside (file s) (sheet s) p (getD (sheet s) n 0 - 1)) (sym (c .row-place .ensures)) (s .pre .0 .inside n (s .pre .1)),

@@ -2,7 +2,6 @@
 use Rattle.rules.specs.Tables.{unknown}
 use Rattle.rules.proofs.Same.{same-length-false}
 use borrow.Author.Needs.{needs}
-use Prim.Native.Nat.{_-_}
 use mathlib.Core.Path.{sym}
 use Rattle.citations.proofs.is_unknown.Statement.{statement}
 use Rattle.citations.proofs.is_unknown.Tie as tie

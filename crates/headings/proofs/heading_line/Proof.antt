@@ -1,106 +1,67 @@
--- `headings::heading_line` meets its contract: its columns, its numbers, and what they cite.
+-- `headings::heading_line` meets its contract: the line as it is written, then what it cites.
 use borrow.Author.Needs.{needs}
 use native.Mathlib.Omega.{arith}
-use Prim.Native.Nat.{ℕ, _<_}
+use Prim.Native.Nat.{ℕ}
 use mathlib.Core.Path.{_≡_, sym, _∙_}
-use mathlib.Core.Bool.{Bool, true}
+use mathlib.Core.Bool.{Bool}
 use mathlib.Core.List.{List}
-use borrow.Author.Tests.{not-true, not-false}
 use Rattle.rules.specs.Texts.{Text}
-use Rattle.rules.specs.Columns.{columns}
 use Rattle.rules.specs.Tables.{Tables}
-use Rattle.columns.specs.Listing.{lineOf, Listed}
+use Rattle.columns.specs.Listing.{lineOf}
 use Rattle.table_sheet.specs.SheetRows.{tablesIn}
 use Rattle.seen.specs.Bits.{bitAt}
-use Rattle.headings.specs.Headings.{whole, numbersOn}
-use Rattle.headings.specs.declared.bos.FourNumbers.the-variants.{Good, Bad}
-use Rattle.headings.proofs.BosLines.{whole-long, bad-column, good-numbers, heading-step}
+use Rattle.steps.specs.declared.HeadingSaid.{HeadingSaid}
+use Rattle.steps.specs.declared.Step.the-variants.{SentenceBegins}
+use Rattle.headings.proofs.HeadingSteps.{alone, said-long, said-within, then-cited, not-written}
 use Rattle.headings.proofs.heading_line.Statement.{statement}
 use Rattle.headings.proofs.heading_line.Tie as tie
 
-abbrev Entry : Type 0
-Entry = tie.After-has-columns
+abbrev Read : Type 0
+Read = tie.After-heading-alone
 
-abbrev file : Entry → List ℕ
-file x = x .before .before .before .before .args .file .now
+abbrev entry : Read → tie.Start
+entry x = x .before .before .before .before
 
-abbrev line : Entry → Text
-line x = lineOf (file x) (x .before .before .before .before .args .line)
+abbrev file : Read → List ℕ
+file x = entry x .args .file .now
 
-abbrev tables : Entry → Tables
-tables x = tablesIn (file x) (x .before .before .before .before .args .sheet .now)
+abbrev line : Read → Text
+line x = lineOf (file x) (entry x .args .line)
 
-abbrev used : Entry → ℕ → Bool
-used x = bitAt (x .before .before .before .before .args .seen .now)
+abbrev tables : Read → Tables
+tables x = tablesIn (file x) (entry x .args .sheet .now)
 
-is-whole : (e : tie.Else1) → whole (columns (line (e .before))) ≡ true
-is-whole e = sym (e .before .has-columns .ensures) ∙ not-false (e .before .has-columns .result) (e .if1 .left)
+abbrev used : Read → ℕ → Bool
+used x = bitAt (entry x .args .seen .now)
 
-abbrev listed : (x : Entry) → Listed (file x) (x .before .before .before .before .args .line) (x .before .before .before .before .args .places .now)
-listed x = x .before .before .before .before .pre .1
+-- where a heading is said
+abbrev read : tie.After-known-told → Read
+read k = k .before .before .before
 
-long : (e : tie.Else1) → 4 < e .before .before .before .before .before .args .line .columns
-long e = let h = whole-long (columns (line (e .before))) (is-whole e) in omega (arith, listed (e .before) .counted)
+abbrev said : tie.After-known-told → HeadingSaid
+said k = k .before .alone .given .0 .0
 
--- the numbers that were read
-abbrev bad : tie.After-known-told → tie.After-read-numbers
-bad k = k .before .before .before
-
-bad-is : (k : tie.After-known-told) → numbersOn (columns (line (bad k .before .before))) ≡ Bad (k .before .read .given .0 .0)
-bad-is k = sym (bad k .read-numbers .ensures) ∙ k .before .read .given .1
-
-abbrev good : tie.After-known-told2 → tie.After-read-numbers
-good k = k .before .before .before
-
-good-is : (k : tie.After-known-told2) → numbersOn (columns (line (good k .before .before))) ≡ Good (k .before .read2 .given .0 .0)
-good-is k = sym (good k .read-numbers .ensures) ∙ k .before .read2 .given .1
+is-said : (k : tie.After-known-told) → alone (line (read k)) ≡ SentenceBegins (said k)
+is-said k = sym (read k .heading-alone .ensures) ∙ k .before .alone .given .1
 
 returns : tie.Need-returns
-returns c =
-    let x = c .before .before in
-    rw (heading-step (tables x) (used x) (line x), sym (x .has-columns .ensures) ∙ not-true (x .has-columns .result) (c .before .if1 .taken)) (c .refused .ensures)
+returns c = let x = c .before in not-written (tables x) (used x) (line x) (x .heading-alone .ensures) (c .match .keys2)
 
-read-numbers-requires : tie.Need-read-numbers-requires
-read-numbers-requires c κs =
-    let x = c .before in
-    (x .before .before .before .before .pre .0, listed x, long c)
-
-refused-at-requires : tie.Need-refused-at-requires
-refused-at-requires c κs =
-    let e = bad c .before in
-    let h = bad-column (columns (line (e .before))) _ (bad-is c) in
-    (omega (arith, long e), (file (e .before), listed (e .before)))
-
-judge-heading-requires : tie.Need-judge-heading-requires
-judge-heading-requires c κs =
-    let e = good c .before in
-    let pre = e .before .before .before .before .before .pre in
-    let h = good-numbers (columns (line (e .before))) _ (good-is c) in
-    (pre .2, pre .3, h .0, h .1, long e, (file (e .before), listed (e .before)))
+judge-cited-requires : tie.Need-judge-cited-requires
+judge-cited-requires c κs =
+    let x = read c in
+    let pre = entry x .pre in
+    let h = said-within (line x) (said c) (is-said c) in
+    let long = said-long (line x) (said c) (is-said c) in
+    (pre .2, pre .3, h .0, h .1, omega (arith, long, pre .1 .counted), (file x, pre .1))
 
 returns-2 : tie.Need-returns-2
 returns-2 c =
-    let e = bad (c .before) .before in
-    let x = e .before in
-    rw (heading-step (tables x) (used x) (line x), is-whole e, bad-is (c .before)) (c .refused-at .ensures (file x) (listed x))
-
-returns-3 : tie.Need-returns-3
-returns-3 c =
-    let e = good (c .before) .before in
-    let x = e .before in
-    rw (heading-step (tables x) (used x) (line x), is-whole e, good-is (c .before)) (c .judge-heading .ensures (file x) (listed x))
+    let k = c .before in
+    let x = read k in
+    then-cited (tables x) (used x) (line x) (said k) (is-said k) (c .judge-cited .ensures (file x) (entry x .pre .1))
 
 pub heading-line-spec : {M : Type 1} → statement M
 heading-line-spec =
     tie.close
-    (tie.spec
-    (λ c κs. search needs)
-    (λ c κs. search needs)
-    returns
-    read-numbers-requires
-    (λ c. search needs)
-    refused-at-requires
-    (λ c. search needs)
-    judge-heading-requires
-    returns-2
-    returns-3)
+    (tie.spec (λ c κs. search needs) (λ c. search needs) returns judge-cited-requires returns-2)

@@ -1,6 +1,6 @@
 use native.Mathlib.Omega.{arith}
 use mathlib.Core.Path.{sym, ap, _∙_}
-use Prim.Native.Nat.{_-_, _<_, _≤_}
+use Prim.Native.Nat.{_<_, _≤_}
 use mathlib.Core.Bool.{Bool, _&&_}
 use lib.ListN.{length, drop}
 use borrow.Author.Tests.{le-leb, lt-leb}

@@ -9,11 +9,11 @@ use lib.ListN.{length}
 use Rattle.rules.specs.Lists.{pick}
 use mathlib.Core.Bool.{true, not}
 use mathlib.Core.Option.{Option}
-use Rattle.rules.specs.Texts.{Text, noText}
+use Rattle.rules.specs.Texts.{Text, noText, behindHash}
 use Rattle.rules.specs.Columns.{text}
 use Rattle.rules.specs.Numbers.{edgeLimit, phraseNumber, value}
 use Rattle.rules.specs.Tables.{Tables, nodeTags}
-use Rattle.rules.specs.Nodes.{itsParent, shaped, behindHash}
+use Rattle.rules.specs.Nodes.{itsParent, shaped}
 use Rattle.columns.specs.Listing.{lineOf}
 use Rattle.table_sheet.specs.SheetRows.{tablesIn}
 use Rattle.numbers.specs.Answers.{asNumber}

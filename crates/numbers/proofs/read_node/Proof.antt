@@ -8,7 +8,7 @@ use mathlib.Core.List.{List}
 use Rattle.rules.specs.Lists.{pick}
 use Rattle.rules.specs.Numbers.{phraseNumber}
 use Rattle.numbers.specs.Answers.{asNumber}
-use Rattle.numbers.specs.Ranges.{nodeNumber}
+use Rattle.numbers.specs.Ranges.{phraseOrRoot}
 use Rattle.numbers.specs.declared.Number.the-variants.{Good, Bad}
 use Rattle.numbers.specs.declared.NodeRange.{NodeRange}
 use Rattle.numbers.specs.declared.NodeRange.the-variants.{Root, Word, Phrase, Above}
@@ -36,7 +36,7 @@ or-root r = r .before .before .args .or-root
 
 -- the answer in each range
 ranged : (d : tie.After-node-range) (r : NodeRange) → d .node-range .result ≡ r
-    → answerIn (or-root (read d)) r (number d) ≡ asNumber (nodeNumber (or-root (read d)) (column (read d)))
+    → answerIn (or-root (read d)) r (number d) ≡ asNumber (phraseOrRoot (or-root (read d)) (column (read d)))
 ranged d r e =
     sym
     (node-good most reach (or-root (read d)) (column (read d)) (number d) r

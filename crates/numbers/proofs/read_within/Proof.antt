@@ -13,13 +13,13 @@ use Rattle.rules.specs.Numbers.{Kind, number}
 use Rattle.rules.proofs.Decimal.{digit-range}
 use Rattle.numbers.specs.Answers.{asNumber, kind}
 use Rattle.numbers.proofs.Digits.{is-digit, no-digit}
-use Rattle.numbers.proofs.Walk.{judged, judged-not-plain, judged-starts, judged-over, judged-stops, judged-goes-on, judged-low, judged-good}
+use Rattle.numbers.proofs.Walk.{numberFrom, number-not-plain, number-starts, number-over, number-stops, number-goes-on, number-low, number-good}
 use Rattle.numbers.proofs.read_within.Statement.{statement}
 use Rattle.numbers.proofs.read_within.Tie as tie
 
 abbrev Inv-loop : tie.InvT-loop
 Inv-loop s classes lowest highest most value₀ i₀ value i =
-    (i ≤ length s) × (value ≤ highest) × (judged (kind lowest highest) value (drop i s) ≡ asNumber (number (kind lowest highest) s))
+    (i ≤ length s) × (value ≤ highest) × (numberFrom (kind lowest highest) value (drop i s) ≡ asNumber (number (kind lowest highest) s))
 
 abbrev μ-loop : tie.MeasureT-loop
 μ-loop s classes lowest highest most value₀ i₀ value i = length s - i
@@ -63,11 +63,11 @@ next-value t = so-far t * 10 + (byte t - 48)
 
 goes-on :
     (c : tie.Else2 Inv-loop μ-loop) →
-    judged (limits (turn c .before)) (next-value (turn c)) (drop (place (turn c) + 1) (column (turn c)))
+    numberFrom (limits (turn c .before)) (next-value (turn c)) (drop (place (turn c) + 1) (column (turn c)))
     ≡ asNumber (number (limits (turn c .before)) (column (turn c)))
 goes-on c =
     let t = turn c in
-    sym (judged-goes-on (limits (t .before)) (so-far t) (column t) (place t) (t .loop-test .taken) (read-digit c)) ∙ t .before .loop .inv .2
+    sym (number-goes-on (limits (t .before)) (so-far t) (column t) (place t) (t .loop-test .taken) (read-digit c)) ∙ t .before .loop .inv .2
 
 is-plain-requires : tie.Need-is-plain-requires Inv-loop μ-loop
 is-plain-requires c κs = search needs
@@ -75,12 +75,12 @@ is-plain-requires c κs = search needs
 returns : tie.Need-returns Inv-loop μ-loop
 returns c =
     let a = c .before .before .before .args in
-    sym (judged-not-plain (kind (a .lowest) (a .highest)) (a .s .now) (sym (c .before .is-plain .ensures) ∙ not-true (c .before .is-plain .result) (c .if1 .taken)))
+    sym (number-not-plain (kind (a .lowest) (a .highest)) (a .s .now) (sym (c .before .is-plain .ensures) ∙ not-true (c .before .is-plain .result) (c .if1 .taken)))
 
 loop-holds : tie.Need-loop-holds Inv-loop μ-loop
 loop-holds c =
     let a = c .before .before .before .args in
-    (omega arith, omega arith, judged-starts (kind (a .lowest) (a .highest)) (a .s .now) (sym (c .before .is-plain .ensures) ∙ not-false (c .before .is-plain .result) (c .if1 .left)))
+    (omega arith, omega arith, number-starts (kind (a .lowest) (a .highest)) (a .s .now) (sym (c .before .is-plain .ensures) ∙ not-false (c .before .is-plain .result) (c .if1 .left)))
 
 shared-slice-read-b : tie.Need-shared-slice-read-b Inv-loop μ-loop
 shared-slice-read-b c = search needs
@@ -92,7 +92,7 @@ returns-2 : tie.Need-returns-2 Inv-loop μ-loop
 returns-2 c =
     let t = c .before .before .before in
     let no = no-digit (byte t) (known (c .before)) (λ z. c .if2 .taken (c .before .class-of .ensures ∙ z)) in
-    sym (judged-stops (limits (t .before)) (so-far t) (column t) (place t) (t .loop-test .taken) no) ∙ t .before .loop .inv .2
+    sym (number-stops (limits (t .before)) (so-far t) (column t) (place t) (t .loop-test .taken) no) ∙ t .before .loop .inv .2
 
 mul-value : tie.Need-mul-value Inv-loop μ-loop
 mul-value c = omega arith
@@ -109,7 +109,7 @@ add-value c = omega (arith, range c)
 returns-3 : tie.Need-returns-3 Inv-loop μ-loop
 returns-3 c =
     let t = turn (c .before) in
-    sym (judged-over (limits (t .before)) (next-value t) (drop (place t + 1) (column t)) (c .if3 .taken)) ∙ goes-on (c .before)
+    sym (number-over (limits (t .before)) (next-value t) (drop (place t + 1) (column t)) (c .if3 .taken)) ∙ goes-on (c .before)
 
 add-i : tie.Need-add-i Inv-loop μ-loop
 add-i c = search needs
@@ -126,12 +126,12 @@ cast-n c = search needs
 returns-4 : tie.Need-returns-4 Inv-loop μ-loop
 returns-4 c =
     let l = c .before .before in
-    sym (judged-low (limits l) (l .loop .value) (entry l .args .s .now) (l .loop .i) (c .before .loop-test .left) (c .if4 .taken)) ∙ l .loop .inv .2
+    sym (number-low (limits l) (l .loop .value) (entry l .args .s .now) (l .loop .i) (c .before .loop-test .left) (c .if4 .taken)) ∙ l .loop .inv .2
 
 returns-5 : tie.Need-returns-5 Inv-loop μ-loop
 returns-5 c =
     let l = c .before .before in
-    sym (judged-good (limits l) (l .loop .value) (entry l .args .s .now) (l .loop .i) (c .before .loop-test .left) (c .if4 .left) (l .loop .inv .1))
+    sym (number-good (limits l) (l .loop .value) (entry l .args .s .now) (l .loop .i) (c .before .loop-test .left) (c .if4 .left) (l .loop .inv .1))
     ∙ l .loop .inv .2
 
 pub read-within-spec : {M : Type 1} → statement M

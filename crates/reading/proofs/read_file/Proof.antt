@@ -36,7 +36,7 @@ take-lines-requires c κs =
       x .pre .0,
       a .clear .ensures ∙ ap (λ (n : ℕ). replicate n 0) (x .pre .1) ∙ sym sheet-empty,
       d .clear2 .ensures ∙ ap (λ (n : ℕ). replicate n 0) (x .pre .2) ∙ sym seen-set-none,
-      e ∙ sym (begins-none (length (x .args .begins .now))) ∙ ap (λ (n : ℕ). beginnings n []) (sym (as-long e)),
+      e ∙ sym (begins-none (x .args .from) (length (x .args .begins .now))) ∙ ap (λ (n : ℕ). beginnings (x .args .from) n []) (sym (as-long e)),
     )
 
 give-up-requires : tie.Need-give-up-requires
@@ -54,7 +54,7 @@ returns c =
       answer = ap answerOf (w .reached-is);
       tables-are = g .give-up .ensures ∙ w .given-up;
       seen-is = w .seen-is;
-      begins-are = w .begins-is ∙ ap (λ (n : ℕ). beginnings n (read begin (start f .args .file .now) .handed)) (as-long (f .clear3 .ensures));
+      begins-are = w .begins-is ∙ ap (λ (n : ℕ). beginnings (start f .args .from) n (read begin (start f .args .file .now) .handed)) (as-long (f .clear3 .ensures));
     }
 
 pub read-file-spec : {M : Type 1} → statement M

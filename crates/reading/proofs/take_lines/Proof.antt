@@ -2,7 +2,7 @@
 -- what is left of the file.
 use borrow.Author.Needs.{needs}
 use native.Mathlib.Omega.{arith}
-use Prim.Native.Nat.{ℕ, _-_, _≤_, _<_}
+use Prim.Native.Nat.{ℕ, _+_, _-_, _≤_, _<_}
 use mathlib.Core.Path.{_≡_, refl, sym, ap, _∙_}
 use mathlib.Core.List.{List, []}
 use lib.ListN.{length}
@@ -18,21 +18,22 @@ use Rattle.columns.specs.declared.listing.Line as listing
 use Rattle.columns.proofs.ListedColumns.{now-listed}
 use Rattle.steps.specs.Steps.{stepOf}
 use Rattle.steps.specs.declared.Step.{Step}
-use Rattle.reading.specs.Effects.{Kept, kept}
-use Rattle.reading.specs.Judging.{judgedBy}
+use Rattle.reading.specs.Effects.{Kept, kept, effect}
+use Rattle.judging.specs.Judging.{judgedBy}
+use Rattle.judging.proofs.FirstColumns.{comment-ignored}
 use Rattle.reading.proofs.Moving.{RowSound}
 use Rattle.reading.proofs.RowsSound.{rows-sound}
-use Rattle.reading.proofs.Going.{Going, going-start, sheet-size, seen-size, begins-size, stop-unread, stop-end}
-use Rattle.reading.proofs.Turning.{ready, goes-on, stops}
+use Rattle.reading.proofs.Going.{Going, going-start, sheet-size, seen-size, begins-size, begun-limit, stop-unread, stop-end}
+use Rattle.reading.proofs.Turning.{applies-alike, ready, goes-on, goes-on-noted, stops, passes}
 use Rattle.reading.proofs.take_lines.Statement.{statement}
 use Rattle.reading.proofs.take_lines.Tie as tie
 
 abbrev Inv-loop : tie.InvT-loop
-Inv-loop file sheet₀ seen₀ begins₀ classes marks₀ hints₀ places₀ s₀ at₀ sheet seen begins marks hints places s at =
-    Going file (length begins₀) at (kept s sheet seen marks begins)
+Inv-loop file sheet₀ seen₀ from begins₀ classes marks₀ hints₀ places₀ s₀ at₀ sheet seen begins marks hints places s at =
+    Going file from (length begins₀) at (kept s sheet seen marks begins)
 
 abbrev μ-loop : tie.MeasureT-loop
-μ-loop file sheet₀ seen₀ begins₀ classes marks₀ hints₀ places₀ s₀ at₀ sheet seen begins marks hints places s at =
+μ-loop file sheet₀ seen₀ from begins₀ classes marks₀ hints₀ places₀ s₀ at₀ sheet seen begins marks hints places s at =
     length file - at
 
 abbrev Standing : Type 0
@@ -44,6 +45,9 @@ start l = l .before .before .before .before .before .before
 abbrev file : Standing → List ℕ
 file l = start l .args .file .now
 
+abbrev low : Standing → ℕ
+low l = start l .args .from
+
 abbrev size : Standing → ℕ
 size l = length (start l .args .begins .now)
 
@@ -53,17 +57,17 @@ at l = l .loop .at
 abbrev held : Standing → Kept
 held l = kept (l .loop .s) (l .loop .sheet) (l .loop .seen) (l .loop .marks) (l .loop .begins)
 
-abbrev going : (l : Standing) → Going (file l) (size l) (at l) (held l)
+abbrev going : (l : Standing) → Going (file l) (low l) (size l) (at l) (held l)
 going l = l .loop .inv
 
 abbrev short : (l : Standing) → length (file l) ≤ fileLimit
 short l = start l .pre .1
 
 same-sheet : (l : Standing) → length (held l .sheet) ≡ length (start l .args .sheet .now)
-same-sheet l = sheet-size _ _ _ _ (going l) ∙ sym (ap length (start l .pre .2) ∙ length-table-sheet noTables none-have-room)
+same-sheet l = sheet-size _ _ _ _ _ (going l) ∙ sym (ap length (start l .pre .2) ∙ length-table-sheet noTables none-have-room)
 
 same-seen : (l : Standing) → length (held l .seen) ≡ length (start l .args .seen .now)
-same-seen l = seen-size _ _ _ _ (going l) ∙ sym (ap length (start l .pre .3) ∙ length-seen-set [])
+same-seen l = seen-size _ _ _ _ _ (going l) ∙ sym (ap length (start l .pre .3) ∙ length-seen-set [])
 
 -- a whole line from here
 abbrev Line : Type 0
@@ -87,6 +91,13 @@ behind k = at-behind (file (here k)) (at (here k)) (end k) (ends k)
 rows : (k : Line) → RowSound (file (here k)) (textBetween (file (here k)) (at (here k)) (end k))
 rows k = rows-sound (file (here k)) (at (here k)) (end k) (going (here k) .in-file)
 
+-- the line is asked whether it begins with %%
+abbrev Asked : Type 0
+Asked = tie.After-starts-comment Inv-loop μ-loop
+
+abbrev found : Asked → Line
+found a = a .before .before .before
+
 -- the line is listed, and then judged
 abbrev Judged : Type 0
 Judged = tie.After-judge Inv-loop μ-loop
@@ -95,7 +106,7 @@ abbrev listed : Judged → tie.After-read-line Inv-loop μ-loop
 listed j = j .before .before .before .before .before .before
 
 abbrev whole : Judged → Line
-whole j = listed j .before .before .before
+whole j = found (listed j .before .before .before)
 
 abbrev told : (j : Judged) → Step
 told j = j .judge .result
@@ -110,7 +121,7 @@ told-is j =
 loop-holds : tie.Need-loop-holds Inv-loop μ-loop
 loop-holds c =
     let x = c .before .before .before .before .before in
-    going-start (x .args .file .now) (length (x .args .begins .now)) _ _ _ _ _ (c .first-state .ensures) (x .pre .2) (x .pre .3) refl (x .pre .4)
+    going-start (x .args .file .now) (x .args .from) (length (x .args .begins .now)) _ _ _ _ _ (c .first-state .ensures) (x .pre .2) (x .pre .3) refl (x .pre .4)
 
 line-end-requires : tie.Need-line-end-requires Inv-loop μ-loop
 line-end-requires c κs = (going (c .before) .in-file, start (c .before) .pre .0)
@@ -129,34 +140,65 @@ same-length-2 : tie.Need-same-length-2 Inv-loop μ-loop
 same-length-2 c = same-seen (c .before .before .before .before .before)
 
 same-length-3 : tie.Need-same-length-3 Inv-loop μ-loop
-same-length-3 c = begins-size _ _ _ _ (going (c .before .before .before .before .before))
+same-length-3 c = begins-size _ _ _ _ _ (going (c .before .before .before .before .before))
 
 returns : tie.Need-returns Inv-loop μ-loop
 returns c =
     let e = c .before .before .before in
     let l = e .before .before in
     rw (c .stop-at .ensures, c .before .line-refusal .ensures)
-    (stop-unread (file l) (size l) (at l) (held l) (going l) (e .before .loop-test .taken) (e .line-end .result) (sym (e .line-end .ensures)) (c .before .before .match .keys2))
+    (stop-unread (file l) (low l) (size l) (at l) (held l) (going l) (e .before .loop-test .taken) (e .line-end .result) (sym (e .line-end .ensures)) (c .before .before .match .keys2))
+
+sub-starts-comment : tie.Need-sub-starts-comment Inv-loop μ-loop
+sub-starts-comment c =
+    let h = behind (c .before) in
+    search needs
+
+part-starts-comment-start : tie.Need-part-starts-comment-start Inv-loop μ-loop
+part-starts-comment-start c =
+    let h = behind (c .before) in
+    search needs
+
+part-starts-comment-end : tie.Need-part-starts-comment-end Inv-loop μ-loop
+part-starts-comment-end c =
+    let h : end (c .before) ≤ length (file (here (c .before))) = omega (arith, below (c .before)) in
+    search needs
+
+add-at : tie.Need-add-at Inv-loop μ-loop
+add-at c =
+    let b = below (found (c .before)) in
+    let w = short (here (found (c .before))) in
+    search needs
+
+loop-less : tie.Need-loop-less Inv-loop μ-loop
+loop-less c = let k = found (c .before) in omega (arith, below k, behind k)
+
+loop-again : tie.Need-loop-again Inv-loop μ-loop
+loop-again c =
+    let k = found (c .before) in
+    let l = here k in
+    passes (file l) (low l) (size l) (at l) (held l) (going l) (short l) (end k) (ends k) (rows k)
+    (comment-ignored _ (sym (c .before .starts-comment .ensures) ∙ c .if1 .taken))
 
 read-line-requires : tie.Need-read-line-requires Inv-loop μ-loop
 read-line-requires c κs =
-    let k = c .before .before in
+    let k = found (c .before .before) in
     let l = here k in
     (start l .pre .0, behind k, omega (arith, below k), omega (arith, at-place (file l) (at l) (end k) (ends k), at-short (file l) (at l) (end k) (ends k)), short l)
 
 judge-requires : tie.Need-judge-requires Inv-loop μ-loop
 judge-requires c κs =
     let d = c .before .before .before .before .before in
-    let k = d .before .before .before in
+    let k = found (d .before .before .before) in
     let l = here k in (
       start l .pre .0,
       now-listed (file l) (at l) (end k) _ _ _ (behind k) (omega (arith, below k)) (omega (arith, at-place (file l) (at l) (end k) (ends k), at-short (file l) (at l) (end k) (ends k))) (short l) (d .read-line .ensures),
-      ready (file l) (size l) (at l) (held l) (going l) (short l) (end k) (ends k),
+      ready (file l) (low l) (size l) (at l) (held l) (going l) (short l) (end k) (ends k),
     )
 
-cast-start : tie.Need-cast-start Inv-loop μ-loop
-cast-start c =
-    let k = whole c in
+cast-fault-at : tie.Need-cast-fault-at Inv-loop μ-loop
+cast-fault-at c =
+    let k = whole (c .before .before .before) in
     let b = below k in
     let h = behind k in
     let w = short (here k) in
@@ -169,7 +211,7 @@ same-length-5 : tie.Need-same-length-5 Inv-loop μ-loop
 same-length-5 c = same-seen (here (whole (c .before .before .before .before)))
 
 same-length-6 : tie.Need-same-length-6 Inv-loop μ-loop
-same-length-6 c = begins-size _ _ _ _ (going (here (whole (c .before .before .before .before))))
+same-length-6 c = begins-size _ _ _ _ _ (going (here (whole (c .before .before .before .before))))
 
 returns-2 : tie.Need-returns-2 Inv-loop μ-loop
 returns-2 c =
@@ -177,45 +219,59 @@ returns-2 c =
     let k = whole j in
     let l = here k in
     rw (c .fault-at .ensures)
-    (stops (file l) (size l) (at l) (held l) (going l) (short l) (end k) (ends k) (rows k) (told j) (told-is j) _ (c .before .before .step .given .1))
+    (stops (file l) (low l) (size l) (at l) (held l) (going l) (short l) (end k) (ends k) (rows k) (told j) (told-is j) _ (c .before .before .step .given .1))
 
-add-at : tie.Need-add-at Inv-loop μ-loop
-add-at c =
-    let b = below (whole (c .before)) in
-    let w = short (here (whole (c .before))) in
-    search needs
+-- the sentence that ends is noted, and then the step is applied
+abbrev Applied : Type 0
+Applied = tie.After-apply Inv-loop μ-loop
 
-cast-apply : tie.Need-cast-apply Inv-loop μ-loop
-cast-apply c =
-    let b = below (whole (c .before)) in
-    let w = short (here (whole (c .before))) in
-    search needs
+abbrev ended : Applied → tie.After-note-end Inv-loop μ-loop
+ended a = a .before .before .before .before .before .before .before
+
+abbrev judged : Applied → Judged
+judged a = ended a .before .before .before
+
+note-end-requires : tie.Need-note-end-requires Inv-loop μ-loop
+note-end-requires c κs =
+    let l = here (whole (c .before .before)) in
+    begun-limit (file l) (low l) (size l) (at l) (held l) (going l) (short l)
 
 apply-requires : tie.Need-apply-requires Inv-loop μ-loop
 apply-requires c κs =
-    let m = c .before .before .before .before .before in
+    let m = c .before .before .before .before .before .before .before .before in
     let j = m .before in
     let k = whole j in
     let l = here k in
-    goes-on (file l) (size l) (at l) (held l) (going l) (short l) (end k) (ends k) (rows k) (told j) (told-is j) (m .match2 .keys2) .0
+    let is = listed j .read-line .ensures .0 in (
+      omega (arith, ap (λ (x : listing.Line). x .start) is, behind k, below k, short l),
+      omega (arith, ap (λ (x : listing.Line). x .end) is, below k, short l),
+      applies-alike (told j) (length (file l)) (held l) [] (goes-on (file l) (low l) (size l) (at l) (held l) (going l) (short l) (end k) (ends k) (rows k) (told j) (told-is j) (m .match2 .keys2) .0),
+    )
 
-loop-less : tie.Need-loop-less Inv-loop μ-loop
-loop-less c =
-    let a = c .before .before .before .before .before .before in
-    let k = whole (a .before .before .before .before .before .before .before) in
-    omega (arith, below k, behind k)
+add-at-2 : tie.Need-add-at-2 Inv-loop μ-loop
+add-at-2 c =
+    let k = whole (judged (c .before .before .before .before)) in
+    let b = below k in
+    let w = short (here k) in
+    search needs
 
-loop-again : tie.Need-loop-again Inv-loop μ-loop
-loop-again c =
-    let a = c .before .before .before .before .before .before in
-    let m = a .before .before .before .before .before .before in
+loop-less-2 : tie.Need-loop-less-2 Inv-loop μ-loop
+loop-less-2 c = let k = whole (judged (c .before .before .before .before)) in omega (arith, below k, behind k)
+
+loop-again-2 : tie.Need-loop-again-2 Inv-loop μ-loop
+loop-again-2 c =
+    let a = c .before .before .before .before in
+    let n = ended a in
+    let m = n .before .before in
     let j = m .before in
     let k = whole j in
     let l = here k in
-    goes-on (file l) (size l) (at l) (held l) (going l) (short l) (end k) (ends k) (rows k) (told j) (told-is j) (m .match2 .keys2) .1 _ (a .apply .ensures)
+    goes-on-noted (file l) (low l) (size l) (at l) (held l) (going l) (short l) (end k) (ends k) (rows k) (told j) (told-is j) (m .match2 .keys2) _ _ _ _ _ (n .note-end .ensures)
+    (a .apply .ensures (low l) (held l .begins)
+    ∙ ap (λ (x : listing.Line). effect (low l) (told j) (x .start) (x .end + 1) (held l)) (listed j .read-line .ensures .0))
 
 closing-requires : tie.Need-closing-requires Inv-loop μ-loop
-closing-requires c κs = sheet-size _ _ _ _ (going (c .before .before))
+closing-requires c κs = sheet-size _ _ _ _ _ (going (c .before .before))
 
 cast-stop-at-2 : tie.Need-cast-stop-at-2 Inv-loop μ-loop
 cast-stop-at-2 c =
@@ -231,13 +287,13 @@ same-length-8 : tie.Need-same-length-8 Inv-loop μ-loop
 same-length-8 c = same-seen (c .before .before .before .before)
 
 same-length-9 : tie.Need-same-length-9 Inv-loop μ-loop
-same-length-9 c = begins-size _ _ _ _ (going (c .before .before .before .before))
+same-length-9 c = begins-size _ _ _ _ _ (going (c .before .before .before .before))
 
 returns-3 : tie.Need-returns-3 Inv-loop μ-loop
 returns-3 c =
     let l = c .before .before .before .before in
     rw (c .stop-at2 .ensures, c .before .closing .ensures)
-    (stop-end (file l) (size l) (at l) (held l) (going l) (c .before .before .before .loop-test .left))
+    (stop-end (file l) (low l) (size l) (at l) (held l) (going l) (c .before .before .before .loop-test .left))
 
 pub take-lines-spec : {M : Type 1} → statement M
 take-lines-spec =
@@ -256,20 +312,27 @@ take-lines-spec =
     same-length-2
     same-length-3
     returns
+    sub-starts-comment
+    part-starts-comment-start
+    part-starts-comment-end
+    (λ c κs. search needs)
+    add-at
+    loop-less
+    loop-again
     read-line-requires
     judge-requires
-    cast-start
     (λ c. search needs)
+    cast-fault-at
     (λ c κs. search needs)
     same-length-4
     same-length-5
     same-length-6
     returns-2
-    add-at
-    cast-apply
+    note-end-requires
     apply-requires
-    loop-less
-    loop-again
+    add-at-2
+    loop-less-2
+    loop-again-2
     closing-requires
     cast-stop-at-2
     (λ c κs. search needs)

@@ -2,7 +2,7 @@
 use Rattle.columns.specs.Splices.{splice}
 use Rattle.sentence_sheet.specs.NodeRecords.{recordNumbers}
 use borrow.Author.Needs.{needs}
-use Prim.Native.Nat.{ℕ, _-_}
+use Prim.Native.Nat.{ℕ}
 use mathlib.Core.Path.{ap, _∙_}
 use Rattle.sentence_sheet.proofs.put_node.Statement.{statement}
 use Rattle.sentence_sheet.proofs.put_node.Tie as tie

@@ -2,7 +2,6 @@
 -- looked through.
 use borrow.Author.Needs.{needs}
 use native.Mathlib.Omega.{arith}
-use Prim.Native.Nat.{_-_}
 use mathlib.Core.Path.{sym, _∙_}
 use Rattle.table_sheet.proofs.LookUps.{tag-hit}
 use Rattle.table_sheet.proofs.find_tag.Statement.{statement}

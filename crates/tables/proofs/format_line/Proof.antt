@@ -15,8 +15,6 @@ use Rattle.rules.specs.Lines.{formatLine}
 use Rattle.numbers.specs.Answers.{asNumber}
 use Rattle.numbers.proofs.Told.{good-tells, bad-tells}
 use Rattle.columns.specs.Listing.{columnsOf}
-use Rattle.columns.specs.declared.listing.Span.{Span}
-use Rattle.steps.specs.Faults.{refusal}
 use Rattle.tables.proofs.Asked.{step-asked, holds, breaks, none-left}
 use Rattle.tables.proofs.format_line.Statement.{statement}
 use Rattle.tables.proofs.format_line.Tie as tie
@@ -55,12 +53,10 @@ returns c =
 returns-2 : tie.Need-returns-2
 unfolding formatOf
 returns-2 c =
-    let s = c .before in
-    let r = s .before .before .before in
+    let r = c .before .before .before in
     let x = entry r in
-    c .refused-text .ensures
-    ∙ ap (λ (p : Span). refusal 8 (p .start)) (s .column-span .ensures (start x .args .file .now) (start x .pre .1))
-    ∙ sym (step-asked formatLine _ _ refl refl ∙ holds _ _ _ (two (r .before .before)) ∙ breaks _ _ _ (ap good (bad-tells (read x) (sym (read-is r) ∙ s .before .enum-told .given .1))) refl)
+    c .refused-at .ensures (start x .args .file .now) (start x .pre .1)
+    ∙ sym (step-asked formatLine _ _ refl refl ∙ holds _ _ _ (two (r .before .before)) ∙ breaks _ _ _ (ap good (bad-tells (read x) (sym (read-is r) ∙ c .before .enum-told .given .1))) refl)
 
 told : (k : tie.After-known-told) → read (entry (k .before .before .before)) ≡ some (k .before .read2 .given .0 .0)
 told k = good-tells (read (entry (k .before .before .before))) _ (sym (read-is (k .before .before .before)) ∙ k .before .read2 .given .1)
@@ -88,7 +84,6 @@ format-line-spec =
     (λ c κs. search needs)
     (λ c. search needs)
     (λ c. search needs)
-    (λ c κs. search needs)
     (λ c κs. search needs)
     returns-2
     (λ c κs. search needs)

@@ -8,11 +8,11 @@ use Rattle.texts.proofs.Trims.{span-none, span-some, end-inside}
 use Rattle.texts.proofs.trim.Statement.{statement}
 use Rattle.texts.proofs.trim.Tie as tie
 
-skip-white-requires : tie.Need-skip-white-requires
-skip-white-requires c κs = search needs
+skip-run-requires : tie.Need-skip-run-requires
+skip-run-requires c κs = search needs
 
 returns : tie.Need-returns
-returns c = sym (span-none _ _ _ (c .before .skip-white .ensures) (c .if1 .taken))
+returns c = sym (span-none _ _ _ (c .before .skip-run .ensures) (c .if1 .taken))
 
 trimmed-end-requires : tie.Need-trimmed-end-requires
 trimmed-end-requires c κs = search needs
@@ -31,9 +31,9 @@ cast-t9 c = omega (arith, ends c)
 
 returns-2 : tie.Need-returns-2
 returns-2 c =
-    sym (span-some _ _ _ (c .before .before .skip-white .ensures) _ (c .trimmed-end .ensures) (c .before .if1 .left))
+    sym (span-some _ _ _ (c .before .before .skip-run .ensures) _ (c .trimmed-end .ensures) (c .before .if1 .left))
 
 pub trim-spec : {M : Type 1} → statement M
 trim-spec =
     tie.close
-    (tie.spec skip-white-requires returns trimmed-end-requires cast-t8 sub-t6 cast-t9 returns-2)
+    (tie.spec skip-run-requires returns trimmed-end-requires cast-t8 sub-t6 cast-t9 returns-2)

@@ -5,22 +5,22 @@ use Rattle.columns.proofs.Steps.{comes-to-none, comes-to-one}
 use Rattle.columns.proofs.Cursor.next.Statement.{statement}
 use Rattle.columns.proofs.Cursor.next.Tie as tie
 
-skip-white-requires : tie.Need-skip-white-requires
-skip-white-requires c κs = search needs
+skip-run-requires : tie.Need-skip-run-requires
+skip-run-requires c κs = search needs
 
 returns : tie.Need-returns
-returns c = sym (comes-to-none _ _ _ (c .before .skip-white .ensures) (c .if1 .taken))
+returns c = sym (comes-to-none _ _ _ (c .before .skip-run .ensures) (c .if1 .taken))
 
-add-skip-column : tie.Need-add-skip-column
-add-skip-column c = search needs
+add-skip-run : tie.Need-add-skip-run
+add-skip-run c = search needs
 
-skip-column-requires : tie.Need-skip-column-requires
-skip-column-requires c κs = search needs
+skip-run-requires-2 : tie.Need-skip-run-requires-2
+skip-run-requires-2 c κs = search needs
 
 returns-2 : tie.Need-returns-2
 returns-2 c =
-    sym (comes-to-one _ _ _ (c .before .before .skip-white .ensures) _ (c .skip-column .ensures) (c .before .if1 .left))
+    sym (comes-to-one _ _ _ (c .before .before .skip-run .ensures) _ (c .skip-run2 .ensures) (c .before .if1 .left))
 
 pub next-spec : {M : Type 1} → statement M
 next-spec =
-    tie.close (tie.spec skip-white-requires returns add-skip-column skip-column-requires returns-2)
+    tie.close (tie.spec skip-run-requires returns add-skip-run skip-run-requires-2 returns-2)

@@ -13,27 +13,6 @@ few s = columns-few _ _ _ (s .pre .1 .1)
 returns : tie.Need-returns
 returns c = λ file h. sym (text-from-none file _ _ h _ (c .before .pre .0) (c .if1 .taken))
 
-mul-start : tie.Need-mul-start
-mul-start c = omega (arith, few (c .before))
-
-mul-start-2 : tie.Need-mul-start-2
-mul-start-2 c = omega (arith, few (c .before))
-
-element-copy-out-start : tie.Need-element-copy-out-start
-element-copy-out-start c = omega (arith, few (c .before))
-
-mul-t7 : tie.Need-mul-t7
-mul-t7 c = omega (arith, few (c .before .before))
-
-sub-t8 : tie.Need-sub-t8
-sub-t8 c = omega (arith, few (c .before .before))
-
-mul-t12 : tie.Need-mul-t12
-mul-t12 c = omega (arith, few (c .before .before))
-
-element-copy-out-t11 : tie.Need-element-copy-out-t11
-element-copy-out-t11 c = omega (arith, few (c .before .before))
-
 sub-t15 : tie.Need-sub-t15
 sub-t15 c =
     let s = c .before .before .before in
@@ -47,12 +26,12 @@ text-from-spec =
     tie.close
     (tie.spec
     returns
-    mul-start
-    mul-start-2
-    element-copy-out-start
-    mul-t7
-    sub-t8
-    mul-t12
-    element-copy-out-t11
+    (λ c. omega (arith, few (c .before)))
+    (λ c. omega (arith, few (c .before)))
+    (λ c. omega (arith, few (c .before)))
+    (λ c. omega (arith, few (c .before .before)))
+    (λ c. omega (arith, few (c .before .before)))
+    (λ c. omega (arith, few (c .before .before)))
+    (λ c. omega (arith, few (c .before .before)))
     sub-t15
     returns-2)

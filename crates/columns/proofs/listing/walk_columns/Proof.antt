@@ -6,7 +6,7 @@ use Prim.Native.Nat.{ℕ, _+_, _-_, _*_, _≤_, _<_}
 use mathlib.Core.Path.{_≡_, sym, _∙_}
 use mathlib.Core.List.{List}
 use lib.ListN.{length, length-set}
-use Rattle.columns.specs.Cursors.{columnAt}
+use Rattle.columns.specs.Cursors.{nextColumn}
 use Rattle.columns.specs.declared.Cursor.{Cursor}
 use Rattle.columns.specs.declared.Column.the-variants.{Found}
 use Rattle.columns.proofs.Walks.{Walking, walking-start, walking-end, walking-bounds, walking-leaps, walking-room, walking-next}
@@ -48,7 +48,7 @@ end k = k .before .step .given .0 .1 .0
 abbrev behind : Kept → Cursor
 behind k = k .before .step .given .0 .1 .1 .0
 
-found : (k : Kept) → columnAt (line (entry k)) (entry k .before .loop .cursor .at) ≡ Found (first k) (end k) (behind k)
+found : (k : Kept) → nextColumn (line (entry k)) (entry k .before .loop .cursor .at) ≡ Found (first k) (end k) (behind k)
 found k = sym (entry k .next .ensures) ∙ k .before .step .given .1
 
 reach : (k : Kept) → (entry k .before .loop .cursor .at ≤ first k) × (first k < end k) × (end k ≤ length (line (entry k)))

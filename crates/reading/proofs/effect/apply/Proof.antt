@@ -1,55 +1,37 @@
 -- `reading::effect::apply` meets its contract: each arm does what `effect` says of its step.
 use borrow.Author.Needs.{needs}
-use native.Mathlib.Omega.{arith}
 use mathlib.Core.Path.{_≡_, subst}
+use mathlib.Core.List.{[]}
 use lib.ListN.{length}
 use Rattle.steps.specs.declared.Step.{Step}
-use Rattle.steps.specs.declared.Step.the-variants.{Row}
 use Rattle.reading.specs.Effects.{Kept, kept, effect, Applicable}
 use Rattle.reading.proofs.effect.apply.Statement.{statement}
 use Rattle.reading.proofs.effect.apply.Tie as tie
 
 abbrev Known : Type 0
-Known = tie.After-slice-known3
+Known = tie.After-slice-known2
 
 abbrev start : Known → tie.Start
-start d = d .before .before .before .before
+start d = d .before .before .before
 
 abbrev entry : Known → Kept
-entry d = let a = start d .args in kept (a .s) (a .sheet .now) (a .seen .now) (a .marks .now) (a .begins .now)
+entry d = let a = start d .args in kept (a .s) (a .sheet .now) (a .seen .now) (a .marks .now) []
 
 abbrev step : Known → Step
 step d = start d .args .step
 
 needs-of : (d : Known) (x : Step) → step d ≡ x → Applicable x (length (start d .args .file .now)) (entry d)
-needs-of d x e = subst (λ (y : Step). Applicable y (length (start d .args .file .now)) (entry d)) e (start d .pre)
+needs-of d x e = subst (λ (y : Step). Applicable y (length (start d .args .file .now)) (entry d)) e (start d .pre .2)
 
--- the arm of a row: where its table and its rows so far are known
-abbrev Rows : Type 0
-Rows = tie.After-rows-in
-
-row-applies : (r : Rows) → Applicable (Row (r .before .before .before .step3 .given .0 .0)) (length (start (r .before .before .before .before .before) .args .file .now)) (entry (r .before .before .before .before .before))
-row-applies r = let k = r .before .before .before in needs-of (k .before .before) _ (k .step3 .given .1)
-
-put-row-requires : tie.Need-put-row-requires
-put-row-requires c κs =
-    let r = c .before .before in
-    let q = row-applies r in
-    (omega (arith, q .0, r .before .table-in .ensures), omega (arith, q .1, r .rows-in .ensures), q .2, q .3)
-
-add-t29 : tie.Need-add-t29
-add-t29 c =
-    let r = c .before .before .before .before .before in
-    let q = row-applies r .1 in
-    let e = r .rows-in .ensures in
-    search needs
+take-row-requires : tie.Need-take-row-requires
+take-row-requires c κs =
+    let k = c .before .before .before in
+    needs-of (k .before .before) _ (k .step3 .given .1)
 
 end-table-requires : tie.Need-end-table-requires
 end-table-requires c κs =
-    let r = c .before in
-    let k = r .before .before in
-    let q = needs-of (k .before .before) _ (k .enum-told2 .given .1) in
-    (omega (arith, q .0, r .before .table-in2 .ensures), omega (arith, q .1, r .rows-in2 .ensures), q .2)
+    let k = c .before in
+    needs-of (k .before .before) _ (k .enum-told2 .given .1)
 
 with-word-requires : tie.Need-with-word-requires
 with-word-requires c κs =
@@ -81,71 +63,77 @@ add-requires c κs =
     let q = needs-of (k .before .before) _ (k .enum-told3 .given .1) in
     rw (t .tally-in3 .ensures) (q .2, q .3)
 
-note-beginning-requires : tie.Need-note-beginning-requires
-note-beginning-requires c κs =
-    let t = c .before .before .before .before .before in
-    let k = t .before in
-    let q = needs-of (k .before .before) _ (k .enum-told3 .given .1) in
-    rw (t .tally-in3 .ensures) (q .1)
+cast-first-tally : tie.Need-cast-first-tally
+cast-first-tally c =
+    let h = start (c .before .before .before .before) .pre .0 in
+    search needs
+
+add-hand-out : tie.Need-add-hand-out
+add-hand-out c =
+    let h = start (c .before .before .before .before .before .before .before .before) .pre .1 in
+    search needs
+
+cast-hand-out : tie.Need-cast-hand-out
+cast-hand-out c =
+    let h = start (c .before .before .before .before .before .before .before .before) .pre .1 in
+    search needs
 
 hand-out-requires : tie.Need-hand-out-requires
 hand-out-requires c κs =
-    let k = c .before .before .before .before .before .before .before .before .before in
+    let k = c .before .before .before .before .before .before in
     needs-of (k .before .before) _ (k .enum-told3 .given .1) .0
 
 returns : tie.Need-returns
 unfolding effect
-returns c = rw (c .enum-told .given .1)
+returns c = λ from begins. rw (c .enum-told .given .1)
 
 returns-2 : tie.Need-returns-2
 unfolding effect
-returns-2 c = rw (c .before .before .step .given .1, c .format-read .ensures)
+returns-2 c = λ from begins. rw (c .before .before .step .given .1, c .format-read .ensures)
 
 returns-3 : tie.Need-returns-3
 unfolding effect
-returns-3 c = rw (c .before .before .step2 .given .1, c .moved .ensures)
+returns-3 c = λ from begins. rw (c .before .before .step2 .given .1, c .moved .ensures)
 
 returns-4 : tie.Need-returns-4
 unfolding effect
 returns-4 c =
-    let p = c .before .before .before in
+    let p = c .before .before in
     let r = p .before .before .before in
-    rw (r .before .before .before .step3 .given .1, c .moved2 .ensures, p .put-row .ensures, r .rows-in .ensures, r .before .table-in .ensures)
+    λ from begins. rw (r .before .step3 .given .1, p .take-row .ensures .0, p .take-row .ensures .1)
 
 returns-5 : tie.Need-returns-5
 unfolding effect
 returns-5 c =
-    let p = c .before .before .before in
-    let r = p .before .before in
-    rw (r .before .before .enum-told2 .given .1, c .moved3 .ensures, p .end-table .ensures, r .rows-in2 .ensures, r .before .table-in2 .ensures)
+    let p = c .before .before in
+    λ from begins. rw (p .before .before .enum-told2 .given .1, p .end-table .ensures .0, p .end-table .ensures .1)
 
 returns-6 : tie.Need-returns-6
 unfolding effect
-returns-6 c = rw (c .before .before .before .step4 .given .1, c .moved4 .ensures, c .before .first-tally .ensures)
+returns-6 c = λ from begins. rw (c .before .before .before .before .step4 .given .1, c .moved2 .ensures, c .before .first-tally .ensures)
 
 returns-7 : tie.Need-returns-7
 unfolding effect
 returns-7 c =
     let t = c .before .before in
-    rw (t .before .before .step5 .given .1, c .moved5 .ensures, c .before .with-word .ensures, t .tally-in .ensures)
+    λ from begins. rw (t .before .before .step5 .given .1, c .moved3 .ensures, c .before .with-word .ensures, t .tally-in .ensures)
 
 returns-8 : tie.Need-returns-8
 unfolding effect
 returns-8 c =
     let t = c .before .before in
-    rw (t .before .before .before .before .before .step6 .given .1, c .moved6 .ensures, c .before .with-phrase .ensures, t .tally-in2 .ensures, t .before .mark .ensures)
+    λ from begins. rw (t .before .before .before .before .before .step6 .given .1, c .moved4 .ensures, c .before .with-phrase .ensures, t .tally-in2 .ensures, t .before .mark .ensures)
 
 returns-9 : tie.Need-returns-9
 unfolding effect
 returns-9 c =
-    let n = c .before .before .before in
-    let a = n .before .before .before .before in
+    let a = c .before .before .before .before in
     let t = a .before .before in
-    rw (t .before .enum-told3 .given .1, c .hand-out .ensures, n .note-beginning .ensures, a .add .ensures, t .tally-in3 .ensures)
+    λ from begins. rw (t .before .enum-told3 .given .1, c .hand-out .ensures, a .add .ensures, t .tally-in3 .ensures)
 
 returns-10 : tie.Need-returns-10
 unfolding effect
-returns-10 c = rw (c .enum-told4 .given .1)
+returns-10 c = λ from begins. rw (c .enum-told4 .given .1)
 
 pub apply-spec : {M : Type 1} → statement M
 apply-spec =
@@ -157,19 +145,11 @@ apply-spec =
     (λ c. search needs)
     (λ c κs. search needs)
     (λ c. search needs)
-    (λ c κs. search needs)
-    (λ c κs. search needs)
+    take-row-requires
     (λ c. search needs)
-    (λ c. search needs)
-    put-row-requires
-    add-t29
-    (λ c κs. search needs)
-    (λ c. search needs)
-    (λ c κs. search needs)
-    (λ c κs. search needs)
     end-table-requires
-    (λ c κs. search needs)
     (λ c. search needs)
+    cast-first-tally
     (λ c κs. search needs)
     (λ c κs. search needs)
     (λ c. search needs)
@@ -185,7 +165,8 @@ apply-spec =
     (λ c. search needs)
     (λ c κs. search needs)
     add-requires
-    note-beginning-requires
+    add-hand-out
+    cast-hand-out
     hand-out-requires
     (λ c. search needs)
     returns
@@ -198,7 +179,6 @@ apply-spec =
     returns-6
     returns-7
     returns-8
-    (λ c. search needs)
     (λ c. search needs)
     returns-9
     returns-10)

@@ -7,23 +7,21 @@ use mathlib.Core.Path.{_≡_, refl, sym, ap, _∙_}
 use mathlib.Core.Bool.{true}
 use mathlib.Core.Option.{Option, some}
 use mathlib.Core.List.{List, [], _∷_}
-use Rattle.rules.specs.Texts.{Text, given, atMost, trim, inFront, behind}
+use Rattle.rules.specs.Texts.{Text, given, trim, inFront, behind}
 use Rattle.rules.specs.Columns.{Column, column, written}
-use Rattle.rules.specs.Numbers.{originId, number, good, value}
+use Rattle.rules.specs.Numbers.{originId, number, value}
 use Rattle.rules.specs.Tables.{Row}
 use Rattle.rules.specs.Rows.{originRow}
-use Rattle.rules.specs.Lines.{rowLine}
 use Rattle.numbers.specs.Answers.{asNumber}
-use Rattle.numbers.proofs.Told.{good-tells, bad-tells, number-tells}
+use Rattle.numbers.proofs.Told.{good-tells, number-tells}
 use Rattle.columns.specs.Listing.{lineOf, columnsOf, spanOf, Listed}
-use Rattle.columns.specs.declared.listing.Span.{Span}
-use Rattle.steps.specs.Faults.{refusal}
 use Rattle.table_sheet.specs.SheetRows.{rowsFrom}
 use Rattle.tables.specs.RowTexts.{originTexts}
 use Rattle.tables.specs.declared.origins.OriginTexts.{OriginTexts}
-use Rattle.tables.specs.RowRules.{idRule, roomRule}
-use Rattle.tables.proofs.Asked.{step-asked, holds, breaks, same-row}
-use Rattle.tables.proofs.SpanTests.{none-given, some-given, too-long, short-enough}
+use Rattle.tables.specs.RowRules.{textRule, idRule, roomRule}
+use Rattle.tables.proofs.Asked.{same-row}
+use Rattle.tables.proofs.BegunRows.{text-missing, id-unread, row-begun}
+use Rattle.tables.proofs.SpanTests.{some-given}
 use Rattle.tables.proofs.origins.origin_row.Statement.{statement}
 use Rattle.tables.proofs.origins.origin_row.Tie as tie
 
@@ -85,63 +83,33 @@ read k = k .before .before .before
 told : (k : tie.After-known-told) → id (entry (read k)) ≡ some (k .before .read2 .given .0 .0)
 told k = good-tells (id (entry (read k))) _ (sym (read-is (read k)) ∙ k .before .read2 .given .1)
 
-name-short : (e : tie.Else2) → atMost 128 (name (entry (read (e .before .before)))) ≡ true
-name-short e = let x = entry (read (e .before .before)) in short-enough (name x) (name-is x) 128 (e .if2 .left)
-
-note-short : (e : tie.Else3) → atMost 160 (note (entry (read (e .before .before .before .before)))) ≡ true
-note-short e = let x = entry (read (e .before .before .before .before)) in short-enough (note x) (note-is x) 160 (e .if3 .left)
-
 -- ---- the needs
 
-add-with-new-id : tie.Need-add-with-new-id
-add-with-new-id c =
-    let k = c .before .before .before .before in
-    omega (arith, number-tells originId (written (cols (entry (read k))) 0 .bytes) _ (told k) .highest)
+add-with-texts : tie.Need-add-with-texts
+add-with-texts c = omega (arith, number-tells originId (written (cols (entry (read c))) 0 .bytes) _ (told c) .highest)
 
 returns : tie.Need-returns
 unfolding originRow
 returns c =
     let x = c .before .before in
-    c .refused .ensures ∙ sym (step-asked rowLine _ _ refl refl ∙ breaks _ _ _ (none-given (name x) (name-is x) (c .before .if1 .taken)) refl)
+    c .refused .ensures ∙ text-missing (name x) (id x) _ _ _ _ refl refl (name-is x) (c .before .if1 .taken)
 
 returns-2 : tie.Need-returns-2
 unfolding originRow
 returns-2 c =
-    let s = c .before in
-    let r = s .before .before .before in
+    let r = c .before .before .before in
     let x = entry r in
-    c .refused-text .ensures
-    ∙ ap (λ (p : Span). refusal 8 (p .start)) (s .column-span .ensures (file x) (listed x))
-    ∙ sym (step-asked rowLine _ _ refl refl ∙ holds _ _ _ (named (r .before .before)) ∙ breaks _ _ _ (ap good (bad-tells (id x) (sym (read-is r) ∙ s .before .enum-told .given .1))) refl)
+    c .refused-at .ensures (file x) (listed x)
+    ∙ id-unread (name x) (id x) _ _ _ _ refl refl (named (r .before .before)) (sym (read-is r) ∙ c .before .enum-told .given .1)
 
 returns-3 : tie.Need-returns-3
 unfolding originRow
 returns-3 c =
-    let k = c .before .before .before in
+    let k = c .before in
     let x = entry (read k) in
-    c .refused-text2 .ensures
-    ∙ ap (λ (p : Span). refusal 10 (p .start)) (name-is x)
-    ∙ sym (step-asked rowLine _ _ refl refl ∙ holds _ _ _ (named (read k .before .before)) ∙ holds _ _ _ (ap good (told k)) ∙ breaks _ _ _ (too-long (name x) (name-is x) 128 (c .before .if2 .taken)) refl)
-
-returns-4 : tie.Need-returns-4
-unfolding originRow
-returns-4 c =
-    let e = c .before .before .before in
-    let k = e .before .before in
-    let x = entry (read k) in
-    c .refused-text3 .ensures
-    ∙ ap (λ (p : Span). refusal 10 (p .start)) (note-is x)
-    ∙ sym (step-asked rowLine _ _ refl refl ∙ holds _ _ _ (named (read k .before .before)) ∙ holds _ _ _ (ap good (told k)) ∙ holds _ _ _ (name-short e) ∙ breaks _ _ _ (too-long (note x) (note-is x) 160 (c .before .if3 .taken)) refl)
-
-returns-5 : tie.Need-returns-5
-unfolding originRow
-returns-5 c =
-    let e = c .before .before .before in
-    let k = e .before .before in
-    let x = entry (read k) in
-    c .with-new-id .ensures (file x) (rows x) refl
-    ∙ same-row (λ (i : ℕ). idRule i (line x) (rows x) ∷ roomRule (line x) (rows x) ∷ []) (add-one _ ∙ sym (ap (λ (o : Option ℕ). suc (value o)) (told k))) (name-is x) (note-is x) refl
-    ∙ sym (step-asked rowLine _ _ refl refl ∙ holds _ _ _ (named (read k .before .before)) ∙ holds _ _ _ (ap good (told k)) ∙ holds _ _ _ (name-short e) ∙ holds _ _ _ (note-short (c .before)))
+    c .with-texts .ensures (file x) (rows x) (name x) (note x) refl (name-is x) (note-is x)
+    ∙ same-row (λ (i : ℕ). textRule 128 (name x) ∷ textRule 160 (note x) ∷ idRule i (line x) (rows x) ∷ roomRule (line x) (rows x) ∷ []) (add-one _ ∙ sym (ap (λ (o : Option ℕ). suc (value o)) (told k))) refl refl refl
+    ∙ sym (row-begun (name x) (id x) _ _ _ _ refl refl (named (read k .before .before)) (told k))
 
 pub origin-row-spec : {M : Type 1} → statement M
 origin-row-spec =
@@ -155,12 +123,7 @@ origin-row-spec =
     (λ c. search needs)
     (λ c. search needs)
     (λ c κs. search needs)
-    (λ c κs. search needs)
     returns-2
+    add-with-texts
     (λ c κs. search needs)
-    returns-3
-    (λ c κs. search needs)
-    returns-4
-    add-with-new-id
-    (λ c κs. search needs)
-    returns-5)
+    returns-3)

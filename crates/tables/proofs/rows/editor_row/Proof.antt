@@ -6,21 +6,19 @@ use mathlib.Core.Path.{_≡_, refl, sym, ap, _∙_}
 use mathlib.Core.Bool.{true}
 use mathlib.Core.Option.{Option, some}
 use mathlib.Core.List.{List, [], _∷_}
-use Rattle.rules.specs.Texts.{Text, given, atMost, trim}
+use Rattle.rules.specs.Texts.{Text, given, trim}
 use Rattle.rules.specs.Columns.{Column, column, written}
-use Rattle.rules.specs.Numbers.{signedId, good, value}
+use Rattle.rules.specs.Numbers.{signedId, value}
 use Rattle.rules.specs.Tables.{Row}
 use Rattle.rules.specs.Rows.{editorRow}
-use Rattle.rules.specs.Lines.{rowLine}
 use Rattle.numbers.specs.Answers.{asNumber}
-use Rattle.numbers.proofs.Told.{good-tells, bad-tells}
+use Rattle.numbers.proofs.Told.{good-tells}
 use Rattle.columns.specs.Listing.{lineOf, columnsOf, spanOf, Listed}
-use Rattle.columns.specs.declared.listing.Span.{Span}
-use Rattle.steps.specs.Faults.{refusal}
 use Rattle.table_sheet.specs.SheetRows.{rowsFrom}
-use Rattle.tables.specs.RowRules.{idRule, roomRule}
-use Rattle.tables.proofs.Asked.{step-asked, holds, breaks, same-row}
-use Rattle.tables.proofs.SpanTests.{none-given, some-given, too-long, short-enough}
+use Rattle.tables.specs.RowRules.{textRule, idRule, roomRule}
+use Rattle.tables.proofs.Asked.{same-row}
+use Rattle.tables.proofs.BegunRows.{text-missing, id-unread, row-begun}
+use Rattle.tables.proofs.SpanTests.{some-given}
 use Rattle.tables.proofs.RowTexts.{behind-there}
 use Rattle.tables.proofs.rows.editor_row.Statement.{statement}
 use Rattle.tables.proofs.rows.editor_row.Tie as tie
@@ -75,19 +73,10 @@ read k = k .before .before .before
 told : (k : tie.After-known-told) → id (entry (read k)) ≡ some (k .before .read2 .given .0 .0)
 told k = good-tells (id (entry (read k))) _ (sym (read-is (read k)) ∙ k .before .read2 .given .1)
 
-login-is : (s : tie.After-column-span2) → s .column-span2 .result ≡ spanOf (login (entry (read (s .before))))
-login-is s = let x = entry (read (s .before)) in s .column-span2 .ensures (file x) (listed x)
-
-login-short : (e : tie.Else2) → atMost 16 (login (entry (read (e .before .before .before)))) ≡ true
-login-short e = let s = e .before .before in short-enough (login (entry (read (s .before)))) (login-is s) 16 (e .if2 .left)
-
-name-short : (e : tie.Else3) → atMost 40 (name (entry (read (e .before .before .before .before .before)))) ≡ true
-name-short e = let x = entry (read (e .before .before .before .before .before)) in short-enough (name x) (name-is x) 40 (e .if3 .left)
-
 -- ---- the needs
 
-column-span-requires-2 : tie.Need-column-span-requires-2
-column-span-requires-2 c κs =
+column-span-requires : tie.Need-column-span-requires
+column-span-requires c κs =
     let e = read c .before .before in
     let x = e .before in
     (omega (arith, behind-there (cols x) 1 (named e), listed x .counted), (file x, listed x))
@@ -96,47 +85,25 @@ returns : tie.Need-returns
 unfolding editorRow
 returns c =
     let x = c .before .before in
-    c .refused .ensures ∙ sym (step-asked rowLine _ _ refl refl ∙ breaks _ _ _ (none-given (name x) (name-is x) (c .before .if1 .taken)) refl)
+    c .refused .ensures ∙ text-missing (name x) (id x) _ _ _ _ refl refl (name-is x) (c .before .if1 .taken)
 
 returns-2 : tie.Need-returns-2
 unfolding editorRow
 returns-2 c =
-    let s = c .before in
-    let r = s .before .before .before in
+    let r = c .before .before .before in
     let x = entry r in
-    c .refused-text .ensures
-    ∙ ap (λ (p : Span). refusal 8 (p .start)) (s .column-span .ensures (file x) (listed x))
-    ∙ sym (step-asked rowLine _ _ refl refl ∙ holds _ _ _ (named (r .before .before)) ∙ breaks _ _ _ (ap good (bad-tells (id x) (sym (read-is r) ∙ s .before .enum-told .given .1))) refl)
+    c .refused-at .ensures (file x) (listed x)
+    ∙ id-unread (name x) (id x) _ _ _ _ refl refl (named (r .before .before)) (sym (read-is r) ∙ c .before .enum-told .given .1)
 
 returns-3 : tie.Need-returns-3
 unfolding editorRow
 returns-3 c =
-    let s = c .before .before .before in
+    let s = c .before in
     let k = s .before in
     let x = entry (read k) in
-    c .refused-text2 .ensures
-    ∙ ap (λ (p : Span). refusal 10 (p .start)) (login-is s)
-    ∙ sym (step-asked rowLine _ _ refl refl ∙ holds _ _ _ (named (read k .before .before)) ∙ holds _ _ _ (ap good (told k)) ∙ breaks _ _ _ (too-long (login x) (login-is s) 16 (c .before .if2 .taken)) refl)
-
-returns-4 : tie.Need-returns-4
-unfolding editorRow
-returns-4 c =
-    let e = c .before .before .before in
-    let k = e .before .before .before in
-    let x = entry (read k) in
-    c .refused-text3 .ensures
-    ∙ ap (λ (p : Span). refusal 10 (p .start)) (name-is x)
-    ∙ sym (step-asked rowLine _ _ refl refl ∙ holds _ _ _ (named (read k .before .before)) ∙ holds _ _ _ (ap good (told k)) ∙ holds _ _ _ (login-short e) ∙ breaks _ _ _ (too-long (name x) (name-is x) 40 (c .before .if3 .taken)) refl)
-
-returns-5 : tie.Need-returns-5
-unfolding editorRow
-returns-5 c =
-    let e = c .before .before .before in
-    let k = e .before .before .before in
-    let x = entry (read k) in
-    c .with-new-id .ensures (file x) (rows x) refl
-    ∙ same-row (λ (i : ℕ). idRule i (line x) (rows x) ∷ roomRule (line x) (rows x) ∷ []) (sym (ap value (told k))) (login-is (e .before .before)) (name-is x) refl
-    ∙ sym (step-asked rowLine _ _ refl refl ∙ holds _ _ _ (named (read k .before .before)) ∙ holds _ _ _ (ap good (told k)) ∙ holds _ _ _ (login-short e) ∙ holds _ _ _ (name-short (c .before)))
+    c .with-texts .ensures (file x) (rows x) (login x) (name x) refl (s .column-span .ensures (file x) (listed x)) (name-is x)
+    ∙ same-row (λ (i : ℕ). textRule 16 (login x) ∷ textRule 40 (name x) ∷ idRule i (line x) (rows x) ∷ roomRule (line x) (rows x) ∷ []) (sym (ap value (told k))) refl refl refl
+    ∙ sym (row-begun (name x) (id x) _ _ _ _ refl refl (named (read k .before .before)) (told k))
 
 pub editor-row-spec : {M : Type 1} → statement M
 editor-row-spec =
@@ -150,12 +117,7 @@ editor-row-spec =
     (λ c. search needs)
     (λ c. search needs)
     (λ c κs. search needs)
-    (λ c κs. search needs)
     returns-2
-    column-span-requires-2
+    column-span-requires
     (λ c κs. search needs)
-    returns-3
-    (λ c κs. search needs)
-    returns-4
-    (λ c κs. search needs)
-    returns-5)
+    returns-3)

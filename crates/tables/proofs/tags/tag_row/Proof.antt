@@ -12,19 +12,19 @@ use Rattle.rules.specs.Lists.{pick}
 use Rattle.rules.specs.Bytes.{percents}
 use Rattle.rules.specs.Texts.{Text, given, atMost, trim, reads}
 use Rattle.rules.specs.Columns.{Column, column, written}
-use Rattle.rules.specs.Numbers.{fileLimit, signedId, good, value}
+use Rattle.rules.specs.Numbers.{fileLimit, signedId, value}
 use Rattle.rules.specs.Tables.{Row, wordTags, tagLimit}
 use Rattle.rules.specs.Rows.{yes, isFlag, tagRow}
-use Rattle.rules.specs.Lines.{rowLine}
 use Rattle.numbers.specs.Answers.{asNumber}
-use Rattle.numbers.proofs.Told.{good-tells, bad-tells}
+use Rattle.numbers.proofs.Told.{good-tells}
 use Rattle.columns.specs.Listing.{lineOf, columnsOf, spanOf, Listed}
 use Rattle.columns.specs.declared.listing.Span.{Span}
 use Rattle.steps.specs.Faults.{refusal}
 use Rattle.table_sheet.specs.SheetRows.{rowsFrom}
 use Rattle.tables.specs.RowRules.{roomRule, tagInPlace}
-use Rattle.tables.proofs.Asked.{step-asked, holds, breaks, same-row}
-use Rattle.tables.proofs.SpanTests.{none-given, some-given, too-long, short-enough}
+use Rattle.tables.proofs.Asked.{holds, breaks, same-row}
+use Rattle.tables.proofs.BegunRows.{text-missing, id-unread, row-begun}
+use Rattle.tables.proofs.SpanTests.{some-given, too-long, short-enough}
 use Rattle.tables.proofs.RowsSoFar.{rows-counted}
 use Rattle.tables.proofs.RowTexts.{description-behind, description-from, tag-there, flag-there, flag-wrong, flag-right, flagged-if-wrong}
 use Rattle.tables.proofs.tags.tag_row.Statement.{statement}
@@ -93,14 +93,17 @@ known k = entry (read k)
 told : (k : tie.After-known-told) → id (known k) ≡ some (k .before .read2 .given .0 .0)
 told k = good-tells (id (known k)) _ (sym (read-is (read k)) ∙ k .before .read2 .given .1)
 
+there : (k : tie.After-known-told) → given (rest (known k)) ≡ true
+there k = described (read k .before .before)
+
 tag-here : (k : tie.After-known-told) → 1 < start (known k) .args .line .columns
-tag-here k = let x = known k in omega (arith, tag-there (cols x) (flagged x) (described (read k .before .before)), listed x .counted)
+tag-here k = let x = known k in omega (arith, tag-there (cols x) (flagged x) (there k), listed x .counted)
 
 flag-here : (k : tie.After-known-told) → flagged (known k) ≡ true → 2 < start (known k) .args .line .columns
-flag-here k f = let x = known k in omega (arith, flag-there (cols x) (flagged x) (described (read k .before .before)) f, listed x .counted)
+flag-here k f = let x = known k in omega (arith, flag-there (cols x) (flagged x) (there k) f, listed x .counted)
 
-tag-is : (s : tie.After-column-span2) → s .column-span2 .result ≡ spanOf (tag (known (s .before .before)))
-tag-is s = let x = known (s .before .before) in s .column-span2 .ensures (file x) (listed x)
+tag-is : (s : tie.After-column-span) → s .column-span .result ≡ spanOf (tag (known (s .before .before)))
+tag-is s = let x = known (s .before .before) in s .column-span .ensures (file x) (listed x)
 
 -- the tag's bytes at a place of the line
 abbrev at : Entry → List ℕ → Text
@@ -166,16 +169,16 @@ text-from-requires c κs =
 column-text-requires-2 : tie.Need-column-text-requires-2
 column-text-requires-2 c κs = (listed (known c), tag-here c)
 
-column-span-requires-2 : tie.Need-column-span-requires-2
-column-span-requires-2 c κs = let x = known (c .before) in (tag-here (c .before), (file x, listed x))
+column-span-requires : tie.Need-column-span-requires
+column-span-requires c κs = let x = known (c .before) in (tag-here (c .before), (file x, listed x))
 
 read-flag-requires : tie.Need-read-flag-requires
 read-flag-requires c κs =
     let k = c .before .before .before .before in
     (listed (known k), λ e. flag-here k (eq-eqb _ wordTags e))
 
-column-span-requires-3 : tie.Need-column-span-requires-3
-column-span-requires-3 c κs =
+refused-at-requires-2 : tie.Need-refused-at-requires-2
+refused-at-requires-2 c κs =
     let k = tested (c .before .before) in
     let x = known k in
     (flag-here k (flagged-if-wrong (flagged x) (isFlag (flag x)) (unflagged c)), (file x, listed x))
@@ -193,37 +196,33 @@ returns : tie.Need-returns
 unfolding tagRow
 returns c =
     let x = c .before .before in
-    c .refused .ensures ∙ sym (step-asked rowLine _ _ refl refl ∙ breaks _ _ _ (none-given (rest x) (rest-is x) (c .before .if1 .taken)) refl)
+    c .refused .ensures ∙ text-missing (rest x) (id x) _ _ _ _ refl refl (rest-is x) (c .before .if1 .taken)
 
 returns-2 : tie.Need-returns-2
 unfolding tagRow
 returns-2 c =
-    let s = c .before in
-    let r = s .before .before .before in
+    let r = c .before .before .before in
     let x = entry r in
-    c .refused-text .ensures
-    ∙ ap (λ (p : Span). refusal 8 (p .start)) (s .column-span .ensures (file x) (listed x))
-    ∙ sym (step-asked rowLine _ _ refl refl ∙ holds _ _ _ (described (r .before .before)) ∙ breaks _ _ _ (ap good (bad-tells (id x) (sym (read-is r) ∙ s .before .enum-told .given .1))) refl)
+    c .refused-at .ensures (file x) (listed x)
+    ∙ id-unread (rest x) (id x) _ _ _ _ refl refl (described (r .before .before)) (sym (read-is r) ∙ c .before .enum-told .given .1)
 
 returns-3 : tie.Need-returns-3
 unfolding tagRow
 returns-3 c =
     let i = c .before .before in
     let k = i .before .before .before in
-    c .refused-text2 .ensures
+    c .refused-text .ensures
     ∙ ap (λ (p : Span). refusal 10 (p .start)) (tag-is (i .before))
-    ∙ sym (step-asked rowLine _ _ refl refl ∙ holds _ _ _ (described (read k .before .before)) ∙ holds _ _ _ (ap good (told k)) ∙ breaks _ _ _ (sym (tag-tested i) ∙ not-true (i .is-tag .result) (c .before .if2 .taken)) refl)
+    ∙ sym (row-begun (rest (known k)) (id (known k)) _ _ _ _ refl refl (there k) (told k) ∙ breaks _ _ _ (sym (tag-tested i) ∙ not-true (i .is-tag .result) (c .before .if2 .taken)) refl)
 
 returns-4 : tie.Need-returns-4
 unfolding tagRow
 returns-4 c =
-    let s = c .before in
-    let w = s .before in
+    let w = c .before in
     let f = w .before .before in
     let k = tested f in
-    c .refused-text3 .ensures
-    ∙ ap (λ (p : Span). refusal 10 (p .start)) (s .column-span3 .ensures (file (known k)) (listed (known k)))
-    ∙ sym (step-asked rowLine _ _ refl refl ∙ holds _ _ _ (described (read k .before .before)) ∙ holds _ _ _ (ap good (told k)) ∙ holds _ _ _ (tag-good f) ∙ breaks _ _ _ (unflagged w) refl)
+    c .refused-at2 .ensures (file (known k)) (listed (known k))
+    ∙ sym (row-begun (rest (known k)) (id (known k)) _ _ _ _ refl refl (there k) (told k) ∙ holds _ _ _ (tag-good f) ∙ breaks _ _ _ (unflagged w) refl)
 
 returns-5 : tie.Need-returns-5
 unfolding tagRow
@@ -232,9 +231,9 @@ returns-5 c =
     let f = flagRead j in
     let k = tested f in
     let x = known k in
-    c .refused-text4 .ensures
+    c .refused-text2 .ensures
     ∙ ap (λ (p : Span). refusal 10 (p .start)) (rest-is x)
-    ∙ sym (step-asked rowLine _ _ refl refl ∙ holds _ _ _ (described (read k .before .before)) ∙ holds _ _ _ (ap good (told k)) ∙ holds _ _ _ (tag-good f) ∙ holds _ _ _ (flag-told j .0) ∙ breaks _ _ _ (too-long (rest x) (rest-is x) 80 (c .before .if3 .taken)) refl)
+    ∙ sym (row-begun (rest (known k)) (id (known k)) _ _ _ _ refl refl (there k) (told k) ∙ holds _ _ _ (tag-good f) ∙ holds _ _ _ (flag-told j .0) ∙ breaks _ _ _ (too-long (rest x) (rest-is x) 80 (c .before .if3 .taken)) refl)
 
 returns-6 : tie.Need-returns-6
 unfolding tagRow
@@ -244,7 +243,7 @@ returns-6 c =
     let f = flagRead j in
     let k = tested f in
     c .refused2 .ensures
-    ∙ sym (step-asked rowLine _ _ refl refl ∙ holds _ _ _ (described (read k .before .before)) ∙ holds _ _ _ (ap good (told k)) ∙ holds _ _ _ (tag-good f) ∙ holds _ _ _ (flag-told j .0) ∙ holds _ _ _ (rest-short (p .before)) ∙ breaks _ _ _ (sym (placed p) ∙ not-true (p .tag-in-place .result) (c .before .if4 .taken)) refl)
+    ∙ sym (row-begun (rest (known k)) (id (known k)) _ _ _ _ refl refl (there k) (told k) ∙ holds _ _ _ (tag-good f) ∙ holds _ _ _ (flag-told j .0) ∙ holds _ _ _ (rest-short (p .before)) ∙ breaks _ _ _ (sym (placed p) ∙ not-true (p .tag-in-place .result) (c .before .if4 .taken)) refl)
 
 returns-7 : tie.Need-returns-7
 unfolding tagRow
@@ -257,7 +256,7 @@ returns-7 c =
     let a = start x .args in
     c .with-room .ensures (file x) (rows x) (rows-counted (file x) (a .sheet .now) (a .place) (a .rows))
     ∙ same-row (λ (i : ℕ). roomRule (line x) (rows x) ∷ []) (sym (ap value (told k))) (tag-is (f .before .before .before)) (rest-is x) (sym (flag-told j .1))
-    ∙ sym (step-asked rowLine _ _ refl refl ∙ holds _ _ _ (described (read k .before .before)) ∙ holds _ _ _ (ap good (told k)) ∙ holds _ _ _ (tag-good f) ∙ holds _ _ _ (flag-told j .0) ∙ holds _ _ _ (rest-short (p .before)) ∙ holds _ _ _ (sym (placed p) ∙ not-false (p .tag-in-place .result) (c .before .if4 .left)))
+    ∙ sym (row-begun (rest (known k)) (id (known k)) _ _ _ _ refl refl (there k) (told k) ∙ holds _ _ _ (tag-good f) ∙ holds _ _ _ (flag-told j .0) ∙ holds _ _ _ (rest-short (p .before)) ∙ holds _ _ _ (sym (placed p) ∙ not-false (p .tag-in-place .result) (c .before .if4 .left)))
 
 pub tag-row-spec : {M : Type 1} → statement M
 tag-row-spec =
@@ -272,18 +271,16 @@ tag-row-spec =
     (λ c. search needs)
     (λ c. search needs)
     (λ c κs. search needs)
-    (λ c κs. search needs)
     returns-2
     column-text-requires-2
-    column-span-requires-2
+    column-span-requires
     (λ c κs. search needs)
     (λ c κs. search needs)
     returns-3
     read-flag-requires
     (λ c. search needs)
     (λ c. search needs)
-    column-span-requires-3
-    (λ c κs. search needs)
+    refused-at-requires-2
     returns-4
     (λ c κs. search needs)
     returns-5

@@ -1,0 +1,5 @@
+pub mod Pieces
+pub mod LocalArray
+pub mod Filled
+pub mod Records
+pub mod Promised

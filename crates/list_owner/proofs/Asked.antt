@@ -1,0 +1,30 @@
+-- The file that the program asks about, and the parent that an opening gives. By computing.
+use mathlib.Core.Path.{_≡_, refl}
+use Prim.Native.Nat.{ℕ}
+use mathlib.Core.List.{List}
+use lib.ListN.{replicate}
+use Rattle.rules.specs.Lists.{bytes}
+use Rattle.rules.specs.Bytes.{ignored}
+use Rattle.rules.specs.Texts.{rightTrim, trimFrom, frontBytes, behindFrom}
+use Rattle.rules.specs.Columns.{columnsFrom, fields, comment}
+use Rattle.rules.specs.Numbers.{valueFrom, decimal}
+use Rattle.rules.specs.Rules.{broken, checked}
+use Rattle.rules.specs.Tables.{hasId, hasTag, known}
+use Rattle.rules.specs.Rows.{originRow, editorRow, tagRow}
+use Rattle.rules.specs.Sentences.{headingOf, endRules, endOf}
+use Rattle.rules.specs.Nodes.{pairs, paired, parentsWritten, tagsShort, tagsKnown, parentsRise, wordOf, phraseOf}
+use Rattle.rules.specs.Keywords.{formatOf, tableOpened, tableEnded, firstColumn}
+use Rattle.rules.specs.Lines.{atStart, behindOne, atTop, amongRows, amongNodes}
+use Rattle.rules.specs.Phases.{lineAt, taken, judged, after, step}
+use Rattle.rules.specs.Sheets.{edgeList}
+use Rattle.rules.specs.Survey.{surveyOf}
+use Rattle.rules.specs.Opening.{afterOpening, noEdges}
+use Rattle.list_owner.specs.Promise.{firstOf}
+
+abbrev pub asked : List ℕ
+asked =
+    bytes "#FORMAT 3\n#BOT ORIGIN\n1 lab\n#EOT ORIGIN\n#BOT EDITOR\n2 kim Kim\n#EOT EDITOR\n#BOS 7 2 0 1\nJa ITJ -- -- 500 SB 501\n#500 S -- -- 501\n#501 S -- -- 0\n#EOS 7\n"
+
+pub parent-told : firstOf (afterOpening asked 7 (replicate 10759 0) (replicate 8192 0) (replicate 11009 0) noEdges) .parent ≡ 501
+unfolding ignored rightTrim trimFrom frontBytes behindFrom columnsFrom fields comment valueFrom decimal broken checked hasId hasTag known originRow editorRow tagRow headingOf endRules endOf pairs paired parentsWritten tagsShort tagsKnown parentsRise wordOf phraseOf formatOf tableOpened tableEnded firstColumn atStart behindOne atTop amongRows amongNodes lineAt taken judged after step surveyOf edgeList afterOpening
+parent-told = refl

@@ -1,0 +1,3 @@
+pub mod LocalList
+pub mod Owned
+pub mod Asked

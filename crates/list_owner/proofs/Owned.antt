@@ -1,0 +1,38 @@
+-- What the owner of the list has after an opening, by the opening's promise.
+use mathlib.Core.Path.{_≡_, refl, ap, subst, _∙_}
+use Prim.Native.Nat.{ℕ, zero, suc}
+use mathlib.Core.List.{List, [], _∷_, map}
+use lib.ListN.{getD, replicate}
+use Rattle.rules.specs.Sheets.{EdgeRecord, noEdge}
+use Rattle.rules.specs.Opening.{Opened, afterOpening, noEdges}
+use Rattle.edges.specs.declared.Edge.{Edge}
+use Rattle.edges.specs.Promise.{asRecord, asRecords}
+use Rattle.edges.specs.Promise as lent
+use Rattle.list_owner.specs.Promise.{First, firstOf, outcome}
+
+abbrev pub emptyEdge : Edge
+emptyEdge = record { child = 0; label = 0; «label_len» = 0; parent = 0 }
+
+abbrev pub emptyList : List Edge
+emptyList = replicate 512 emptyEdge
+
+empty-records : (n : ℕ) → map asRecord (replicate n emptyEdge) ≡ replicate n noEdge
+empty-records zero = refl
+empty-records (suc n) = ap (λ (es : List EdgeRecord). noEdge ∷ es) (empty-records n)
+
+as-empty : asRecords emptyList ≡ noEdges
+unfolding asRecords
+as-empty = empty-records 512
+
+first-parent : (es : List Edge) → getD es 0 emptyEdge .parent ≡ getD (asRecords es) 0 noEdge .parent
+unfolding asRecords
+first-parent [] = refl
+first-parent (e ∷ es) = refl
+
+module _ (file : List ℕ) (n : ℕ) (tables seen sheet : List ℕ) where
+  pub owned-first : (r : ℕ) (tables′ seen′ sheet′ : List ℕ) (es : List Edge)
+      → lent.outcome r tables′ seen′ sheet′ es ≡ afterOpening file n tables seen sheet (asRecords emptyList)
+      → outcome (getD es 0 emptyEdge .parent) tables′ seen′ sheet′ ≡ firstOf (afterOpening file n tables seen sheet noEdges)
+  owned-first r tables′ seen′ sheet′ es e =
+      ap (λ (p : ℕ). outcome p tables′ seen′ sheet′) (first-parent es) ∙ ap firstOf e
+      ∙ ap (λ (zs : List EdgeRecord). firstOf (afterOpening file n tables seen sheet zs)) as-empty

@@ -1,0 +1,4 @@
+pub mod Gives
+pub mod SheetsClimb
+pub mod Outcomes
+pub mod CutOpened

@@ -1,0 +1,138 @@
+-- Of every sentence that begins at a place, of any file: parents and chains on its sheet, and the parents in its list of edges.
+use Prim.Native.Nat.{ℕ, zero, suc, _+_, _-_, _<_}
+use native.Mathlib.Omega.{arith}
+use mathlib.Core.Path.{_≡_, refl, sym, ap, _∙_, subst}
+use mathlib.Core.Logic.{_⊎_, inl, inr}
+use mathlib.Core.Bool.{true, _&&_}
+use mathlib.Core.Option.{some}
+use mathlib.Core.List.{List, [], _∷_, _++_, map}
+use lib.ListN.{length, replicate}
+use lib.Dec.{leb}
+use borrow.Author.Tests.{leb-true}
+use Rattle.rules.specs.Lists.{joined, Each}
+use Rattle.rules.specs.Numbers.{edgeLimit}
+use Rattle.rules.specs.Sentences.{Edge, Node, Sentence, listed}
+use Rattle.rules.specs.Reading.{Handed}
+use Rattle.rules.specs.Sheets.{nodeRoom, nodes, sentenceSheet, EdgeRecord, noEdge, edgeRecord, edgeList}
+use Rattle.rules.specs.Climbing.{parentIn, parentOn, Climbs}
+use Rattle.rules.specs.SentenceFrom.{sentenceFrom}
+use Rattle.rules.specs.BeginsThere.{PhraseAbove as ListedAbove, ParentsAbove}
+use Rattle.rules.proofs.Conjunctions.{and-left, and-right}
+use Rattle.rules.proofs.EachElement.{each-then, each-joined, each-map}
+use Rattle.rules.proofs.NoGap.{listed-is}
+use Rattle.rules.proofs.NodeNumbers.{numbered-apart}
+use Rattle.rules.proofs.ReadFromPlace.{begun-at, first-keeps}
+use Rattle.rules.proofs.Climbable.{Climbable, PhaseRises, one-rises}
+use Rattle.rules.proofs.Chains.{ZeroOrAbove, climbed-same, climbs-same}
+use Rattle.rules.proofs.ParentsClimb.{parent-above, sentence-climbs}
+use Rattle.rules.proofs.ParentsOnSheet.{parent-on-sheet}
+use Rattle.rules.proofs.BeginsThere.{stands-there}
+use Rattle.opening.specs.FlatLists.{flat, records}
+use Rattle.opening.specs.Promise.{OpenedFlat, afterOpeningFlat, OpenedFlatAt, afterOpeningFlatAt}
+use Rattle.opened_demands.specs.ClimbingSheets.{phrasesOn, PhraseAbove, SheetClimbs}
+use Rattle.opened_demands.proofs.Gives.{Given, zero-gives, begins-somewhere, zero-gives-at}
+
+-- ---- records lent as numbers, zeros behind them
+
+each-record : (P : EdgeRecord → Type 0) → P noEdge → (count : ℕ) (es : List EdgeRecord) → Each P es → Each P (records count (flat es))
+unfolding records flat
+each-record P z zero es a = tt
+each-record P z (suc count) [] a = (z, each-record P z count [] tt)
+each-record P z (suc count) (e ∷ es) a = (a .0, each-record P z count es (a .1))
+
+each-same : (P : EdgeRecord → Type 0) (e : EdgeRecord) → P e → (count : ℕ) → Each P (replicate count e)
+each-same P e p zero = tt
+each-same P e p (suc count) = (p, each-same P e p count)
+
+-- ---- a sentence that begins at a place
+
+module _ (file : List ℕ) (at : ℕ) (s : Sentence) (e : sentenceFrom file at ≡ some s) where
+  abbrev sheet : List ℕ
+  sheet = sentenceSheet s
+
+  climbable : Climbable s
+  climbable =
+      first-keeps file (λ bs. PhaseRises) (λ (h : Handed). Climbable (h .sentence)) (λ done l rest phase used parts o k. one-rises done l phase used k) at s
+      (begun-at file at s e) (record { words = tt; phrases = tt; apart = tt })
+
+  phrases-on : phrasesOn sheet ≡ length (s .phrases)
+  unfolding sentenceSheet
+  phrases-on = refl
+
+  parent-in-room : (n : ℕ) → parentIn s n < nodeRoom
+  parent-in-room n = by (parent-above s climbable n)
+    where
+      by : ZeroOrAbove (length (s .phrases)) n (parentIn s n) → parentIn s n < nodeRoom
+      by (inl e) = omega (arith, e)
+      by (inr a) = omega (arith, a .highest)
+
+  zero-or-above : (n : ℕ) → n < nodeRoom → (parentOn sheet n ≡ 0) ⊎ PhraseAbove sheet n (parentOn sheet n)
+  zero-or-above n h = by (parent-above s climbable n)
+    where
+      same : parentOn sheet n ≡ parentIn s n
+      same = parent-on-sheet s n h
+
+      by : ZeroOrAbove (length (s .phrases)) n (parentIn s n) → (parentOn sheet n ≡ 0) ⊎ PhraseAbove sheet n (parentOn sheet n)
+      by (inl z) = inl (same ∙ z)
+      by (inr a) =
+          inr (record {
+            larger = omega (arith, same, a .larger);
+            phrase = omega (arith, same, a .phrase);
+            there = omega (arith, same, a .last, phrases-on);
+          })
+
+  climbs-from : (n : ℕ) → n < nodeRoom → Climbs (parentOn sheet) (suc (phrasesOn sheet)) n
+  climbs-from n h =
+      subst (λ (count : ℕ). Climbs (parentOn sheet) (suc count) n) (sym phrases-on)
+      (climbs-same (parentIn s) (parentOn sheet) (suc (length (s .phrases))) n
+      (λ j. climbed-same (parentIn s) (parentOn sheet) nodeRoom (parent-on-sheet s) (λ m l. parent-in-room m) j n h) (sentence-climbs s climbable n))
+
+  abbrev EdgeAbove : EdgeRecord → Type 0
+  EdgeAbove e = (e ≡ noEdge) ⊎ PhraseAbove sheet (e .child) (e .parent)
+
+  listed-above : (n parent : ℕ) → ListedAbove s n parent → PhraseAbove sheet n parent
+  listed-above n parent a =
+      let ps = s .phrases in
+      let b : (leb 500 parent && leb parent (499 + length ps)) ≡ true = sym (listed-is ps (numbered-apart ps (climbable .numbered) (climbable .apart)) (climbable .whole) parent) ∙ a .0 in
+      record {
+        larger = a .1;
+        phrase = leb-true 500 parent (and-left (leb 500 parent) (leb parent (499 + length ps)) b);
+        there = omega (arith, leb-true parent (499 + length ps) (and-right (leb 500 parent) (leb parent (499 + length ps)) b), phrases-on);
+      }
+
+  edges-above : (ns : List Node) → Each (ParentsAbove s) ns → Each EdgeAbove (joined (map (λ (n : Node). map (edgeRecord (n .number)) (n .secondary)) ns))
+  edges-above [] a = tt
+  edges-above (n ∷ ns) a =
+      each-joined EdgeAbove (map (edgeRecord (n .number)) (n .secondary)) _
+      (each-map (edgeRecord (n .number)) EdgeAbove (n .secondary)
+      (each-then (λ (x : Edge). ListedAbove s (n .number) (x .parent)) (λ (x : Edge). EdgeAbove (edgeRecord (n .number) x)) (λ x b. inr (listed-above (n .number) (x .parent) b)) (n .secondary) (a .0 .secondary)))
+      (edges-above ns (a .1))
+
+  abbrev theirs : List EdgeRecord
+  theirs = joined (map (λ (n : Node). map (edgeRecord (n .number)) (n .secondary)) (nodes s))
+
+  list-above : Each EdgeAbove (edgeList s)
+  unfolding edgeList
+  list-above =
+      let zeros = edgeLimit - length theirs in
+      each-joined EdgeAbove theirs (replicate zeros noEdge) (edges-above (nodes s) (stands-there file at s e .parents)) (each-same EdgeAbove noEdge (inl refl) zeros)
+
+  pub sheet-climbs : SheetClimbs sheet (flat (edgeList s))
+  sheet-climbs = record { parents = zero-or-above; chains = climbs-from; secondary = each-record EdgeAbove (inl refl) edgeLimit (edgeList s) list-above }
+
+-- ---- as opened
+
+pub climbs-as-given : (file : List ℕ) (at : ℕ) (sheet edges : List ℕ) → Given (sentenceFrom file at) sheet edges → SheetClimbs sheet edges
+climbs-as-given file at sheet edges g = rw (g .sheet-is, g .edges-are) (sheet-climbs file at (g .s) (g .its))
+
+pub climbs-by-number : (file : List ℕ) (n : ℕ) (tables seen sheet edges : List ℕ) (left : OpenedFlat)
+    → left ≡ afterOpeningFlat file n tables seen sheet edges → left .answer ≡ 0 → SheetClimbs (left .sheet) (left .edges)
+climbs-by-number file n tables seen sheet edges left p z =
+    let g = zero-gives file n tables seen sheet edges (sym (ap (λ (o : OpenedFlat). o .answer) p) ∙ z) in
+    let b = begins-somewhere file n (g .s) (g .its) in
+    rw (p) (climbs-as-given file (b .0) _ _ (record { s = g .s; its = b .1; sheet-is = g .sheet-is; edges-are = g .edges-are }))
+
+pub climbs-at-place : (file : List ℕ) (at : ℕ) (sheet edges : List ℕ) (left : OpenedFlatAt)
+    → left ≡ afterOpeningFlatAt file at sheet edges → left .answer ≡ 0 → SheetClimbs (left .sheet) (left .edges)
+climbs-at-place file at sheet edges left p z =
+    rw (p) (climbs-as-given file at _ _ (zero-gives-at file at sheet edges (sym (ap (λ (o : OpenedFlatAt). o .answer) p) ∙ z)))

@@ -1,0 +1,2 @@
+pub mod ClimbingSheets
+pub mod Calls

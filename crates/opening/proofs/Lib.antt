@@ -1,0 +1,3 @@
+pub mod Flattened
+pub mod Lent
+pub mod Opens

@@ -1,0 +1,10 @@
+pub mod PairEdges
+pub mod Growing
+pub mod NodeTakings
+pub mod Gathering
+pub mod Taking
+pub mod Turning
+pub mod FirstLines
+pub mod OtherSteps
+pub mod Answers
+pub mod ListedLines

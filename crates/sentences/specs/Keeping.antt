@@ -1,0 +1,105 @@
+-- What is kept of the sentence that is read, what a line behind its heading is taken for by that, and what the step of the
+-- line does to it.
+use Prim.Native.Nat.{ℕ, _+_, _-_, _*_, _≤_, _<_}
+use mathlib.Core.Path.{_≡_}
+use mathlib.Core.List.{List}
+use lib.ListN.{length, set}
+use Rattle.rules.specs.Lists.{pick, joined}
+use Rattle.rules.specs.Bytes.{ignored}
+use Rattle.rules.specs.Texts.{Text}
+use Rattle.rules.specs.Numbers.{fileLimit, edgeLimit}
+use Rattle.rules.specs.Rules.{Verdict, granted}
+use Rattle.rules.specs.Tables.{noTables}
+use Rattle.rules.specs.Keywords.{firstColumn}
+use Rattle.rules.specs.Lines.{Taking, ignoredLine, amongNodes}
+use Rattle.rules.specs.Sheets.{nodeRoom, fieldPlace, sentenceSheetSize}
+use Rattle.columns.specs.Splices.{splice}
+use Rattle.columns.specs.declared.listing.Line.{Line}
+use Rattle.sentence_sheet.specs.FlatEdges.{edgeWidth}
+use Rattle.sentence_sheet.specs.NodeRecords.{recordNumbers}
+use Rattle.sentence_sheet.specs.declared.NodeRecord.{NodeRecord}
+use Rattle.steps.specs.declared.NodeSaid.{NodeSaid}
+use Rattle.steps.specs.declared.Step.{Step}
+use Rattle.steps.specs.declared.Step.the-variants.{Ignored, Format, TableBegins, Row, TableEnds, SentenceBegins, Word, Phrase, SentenceEnds, Refused}
+use Rattle.nodes.specs.NodeLines.{Whole}
+use Rattle.judging.specs.States.{withWord, withPhrase}
+use Rattle.judging.specs.Judging.{soFarBy}
+use Rattle.judging.specs.declared.state.Tally.{Tally}
+use Rattle.sentences.specs.LineEdges.{edgesFrom}
+
+-- there are no tables, and the stamp of the phrases' marks is 1: no sentence is handed out in front
+unfoldable pub takenBy : Text → Tally → List ℕ → Verdict Taking
+takenBy line t marks =
+    pick (ignored (line .bytes)) (granted ignoredLine) (amongNodes line (firstColumn line) 3 noTables (soFarBy t marks 1))
+
+-- the counts, the sentence sheet, the flat list of secondary edges, the marks of the phrases
+pub record Kept : Type 0 where
+  pub tally : Tally
+  pub sheet : List ℕ
+  pub edges : List ℕ
+  pub marks : List ℕ
+
+abbrev pub kept : Tally → List ℕ → List ℕ → List ℕ → Kept
+kept t sheet edges marks = record { tally = t; sheet = sheet; edges = edges; marks = marks }
+
+-- ---- one node more
+
+abbrev pub recordSaid : NodeSaid → NodeRecord
+recordSaid n =
+    record {
+      word = n .word .start;
+      «word_len» = n .word .len;
+      tag = n .tag .start;
+      «tag_len» = n .tag .len;
+      morphology = n .morphology .start;
+      «morphology_len» = n .morphology .len;
+      edge = n .edge .start;
+      «edge_len» = n .edge .len;
+      parent = n .parent;
+      comment = n .comment .start;
+      «comment_len» = n .comment .len;
+    }
+
+abbrev pub withRecord : NodeSaid → List ℕ → List ℕ
+withRecord n sheet = splice (fieldPlace 0 (n .number)) (recordNumbers (recordSaid n)) sheet
+
+-- the fields of its line give its secondary edges, which stand behind those counted
+abbrev pub withEdges : List Text → NodeSaid → Tally → List ℕ → List ℕ
+withEdges fs n t edges = splice (edgeWidth * t .edges) (joined (edgesFrom fs (n .number) 5)) edges
+
+unfoldable pub effect : List Text → Step → Kept → Kept
+effect fs Ignored k = k
+effect fs (Format n) k = k
+effect fs (TableBegins n) k = k
+effect fs (Row r) k = k
+effect fs TableEnds k = k
+effect fs (SentenceBegins h) k = k
+effect fs (Word n) k =
+    kept (withWord (k .tally) n) (withRecord n (k .sheet)) (withEdges fs n (k .tally) (k .edges)) (k .marks)
+effect fs (Phrase n) k =
+    kept (withPhrase (k .tally) n) (withRecord n (k .sheet)) (withEdges fs n (k .tally) (k .edges)) (set (k .marks) (n .number - 500) 1)
+effect fs SentenceEnds k = k
+effect fs (Refused f) k = k
+
+-- ---- what a step needs
+
+pub record NodeFits (file : List ℕ) (line : Line) (places : List ℕ) (n : NodeSaid) (t : Tally) (sheet edges : List ℕ) : Type 0 where
+  pub whole : Whole file line places (5 + 2 * n .edges)
+  pub number : n .number < nodeRoom
+  pub few : t .edges + n .edges ≤ edgeLimit
+  pub sheet-size : length sheet ≡ sentenceSheetSize
+  pub edges-size : length edges ≡ edgeLimit * edgeWidth
+
+module _ (file : List ℕ) (line : Line) (places : List ℕ) where
+  abbrev pub Applicable : Step → Kept → Type 0
+  Applicable Ignored k = Unit {0}
+  Applicable (Format n) k = Unit {0}
+  Applicable (TableBegins n) k = Unit {0}
+  Applicable (Row r) k = Unit {0}
+  Applicable TableEnds k = Unit {0}
+  Applicable (SentenceBegins h) k = Unit {0}
+  Applicable (Word n) k = NodeFits file line places n (k .tally) (k .sheet) (k .edges) × (k .tally .words ≤ fileLimit)
+  Applicable (Phrase n) k =
+      NodeFits file line places n (k .tally) (k .sheet) (k .edges) × (k .tally .phrases ≤ fileLimit) × (500 ≤ n .number)
+  Applicable SentenceEnds k = Unit {0}
+  Applicable (Refused f) k = Unit {0}

@@ -1,0 +1,4 @@
+pub mod LineEdges
+pub mod Keeping
+pub mod Beginnings
+pub mod SentenceRead

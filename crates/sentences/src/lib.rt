@@ -1,0 +1,122 @@
+// The sentence that begins at a place of a file, read from there on into a sentence sheet and a list of secondary edges.
+mod beginning;
+mod keeping;
+mod pairs;
+
+ghost use mathlib.Core.Path.{_≡_};
+ghost use Prim.Native.Nat.{_*_, _≤_};
+ghost use lib.ListN.{length, replicate};
+ghost use Rattle.rules.specs.Bytes.{classTable};
+ghost use Rattle.rules.specs.Numbers.{fileLimit, edgeLimit};
+ghost use Rattle.rules.specs.Sheets.{sentenceSheetSize};
+ghost use Rattle.rules.specs.SentenceFrom.{sentenceFrom};
+ghost use Rattle.columns.specs.Listing.{lineOf, Listed};
+ghost use Rattle.sentence_sheet.specs.FlatEdges.{edgeWidth};
+ghost use Rattle.steps.specs.Steps.{stepOf};
+ghost use Rattle.judging.specs.Judging.{Countable};
+ghost use Rattle.sentences.specs.Keeping.{takenBy};
+ghost use Rattle.sentences.specs.Beginnings.{begunAt, Headed};
+ghost use Rattle.sentences.specs.SentenceRead.{Gathered, SentenceRead};
+use beginning::Begun;
+use columns::listing;
+use columns::listing::Line;
+use columns::listing::Places;
+use judging::state::MARKS;
+use judging::state::Tally;
+use lines::LineEnd;
+use steps::Step;
+
+// What a line behind the heading is taken for. There are no tables, and no sentence is handed out in front of this one.
+fn judge(
+    file: &[u8],
+    line: Line,
+    places: &Places,
+    t: Tally,
+    hints: &[u8; table_sheet::HINTS],
+    marks: &[u32; MARKS],
+    classes: &[u8; 256],
+) -> Step
+    requires { ⌜ (now classes ≡ classTable) × Listed (now file) line (now places) × Countable t 0 ⌝ }
+    ensures { λ r. ⌜ r ≡ stepOf (takenBy (lineOf (now (file .entry)) line) t (now (marks .entry))) ⌝ }
+{
+    if listing::is_ignored(file, line) {
+        return Step::Ignored;
+    }
+    let first = listing::first_column(file, line, places);
+    let tables = [0u32; table_sheet::TABLE_COUNT];
+    judging::among_nodes(
+        file,
+        line,
+        places,
+        first,
+        t,
+        0,
+        &tables,
+        hints,
+        marks,
+        classes,
+    )
+}
+
+// The lines behind the heading, up to #EOS; false if one of them is refused, or if there is none.
+fn take_nodes(file: &[u8], from: usize, first: Tally, sheet: &mut [u32], edges: &mut [u32]) -> bool
+    requires { ⌜ (length (now file) ≤ fileLimit) × Headed (now file) (first .start) from first (replicate sentenceSheetSize 0) (now sheet) × (length (now sheet) ≡ sentenceSheetSize) × (now edges ≡ replicate (edgeLimit * edgeWidth) 0) ⌝ }
+    ensures { λ r. ⌜ Gathered (begunAt (now (file .entry)) (first .start)) r (now (sheet .exit)) (now (edges .exit)) ⌝ }
+{
+    let classes = classes::byte_classes();
+    let hints = [0u8; table_sheet::HINTS];
+    let mut marks = [0u32; MARKS];
+    let mut places = [0u32; 4096];
+    let mut t = first;
+    let mut at = from;
+    while at < file.len() {
+        let found = lines::line_end(file, at, &classes);
+        let LineEnd::At(end) = found else {
+            return false;
+        };
+        let line = listing::read_line(file, at, end, &classes, &mut places);
+        let step = judge(file, line, &places, t, &hints, &marks, &classes);
+        if let Step::Refused(_) = step {
+            return false;
+        }
+        if let Step::SentenceEnds = step {
+            sentence_sheet::put_counts(sheet, t.words, t.phrases, t.edges);
+            return true;
+        }
+        t = keeping::keep(
+            step,
+            file,
+            line,
+            &places,
+            t,
+            sheet,
+            edges,
+            &mut marks,
+            &classes,
+        );
+        at = end + 1;
+    }
+    false
+}
+
+// False if no sentence stands there; sheet and list are then zero.
+pub fn read_sentence(file: &[u8], place: usize, sheet: &mut [u32], edges: &mut [u32]) -> bool
+    requires { ⌜ (length (now file) ≤ fileLimit) × (length (now sheet) ≡ sentenceSheetSize) × (length (now edges) ≡ edgeLimit * edgeWidth) ⌝ }
+    ensures { λ r. ⌜ SentenceRead (sentenceFrom (now (file .entry)) place) r (now (sheet .exit)) (now (edges .exit)) ⌝ }
+{
+    table_sheet::clear(sheet);
+    table_sheet::clear(edges);
+    if !beginning::starts_line(file, place) {
+        return false;
+    }
+    let begun = beginning::begin(file, place, sheet);
+    let Begun::Behind(next, tally) = begun else {
+        return false;
+    };
+    if take_nodes(file, next, tally, sheet, edges) {
+        return true;
+    }
+    table_sheet::clear(sheet);
+    table_sheet::clear(edges);
+    false
+}

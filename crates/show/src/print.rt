@@ -1,0 +1,116 @@
+// An opened sentence in lines: its heading, then a line for each node.
+ghost use Prim.Native.Nat.{_<_};
+ghost use Rattle.rules.specs.Sheets.{nodeRoom};
+use sentence_sheet::EDGE_LIMIT;
+use sentence_sheet::EDGE_LIST_SIZE;
+use sentence_sheet::EDGE_WIDTH;
+use sentence_sheet::NODE_ROOM;
+use sentence_sheet::SIZE;
+
+fn number(before: &[u8], n: u32) {
+    io::write_all(1, before);
+    io::print_decimal(1, n as u64);
+}
+
+// Every text of an opened sentence lies within the file.
+fn text(before: &[u8], file: &[u8], start: u32, length: u32) {
+    let from = start as usize;
+    let to = from + length as usize;
+    if to > file.len() {
+        return;
+    }
+    io::write_all(1, before);
+    io::write_all(1, &file[from..to]);
+}
+
+fn comment(file: &[u8], start: u32, length: u32) {
+    if length > 0 {
+        text(b"\t%%\t", file, start, length);
+    }
+}
+
+fn editor(editor1: u32) {
+    if editor1 == 0 {
+        io::write_all(1, b"\teditor -1");
+    } else {
+        number(b"\teditor ", editor1 - 1);
+    }
+}
+
+fn heading(file: &[u8], sheet: &[u32; SIZE]) {
+    number(b"sentence ", sheet[0]);
+    editor(sheet[1]);
+    number(b"\tdate ", sheet[2]);
+    number(b"\torigin ", sheet[3]);
+    comment(file, sheet[4], sheet[5]);
+    io::write_all(1, b"\n");
+}
+
+fn edge_of(file: &[u8], edges: &[u32; EDGE_LIST_SIZE], k: usize, node: u32)
+    requires { ⌜ k < 512 ⌝ }
+{
+    let place = EDGE_WIDTH * k;
+    if edges[place] != node {
+        return;
+    }
+    if edges[place + 2] == 0 {
+        return;
+    }
+    text(b"\t", file, edges[place + 1], edges[place + 2]);
+    number(b"\t", edges[place + 3]);
+}
+
+fn edges_of(file: &[u8], edges: &[u32; EDGE_LIST_SIZE], node: u32) {
+    let mut k = 0;
+    while k < EDGE_LIMIT {
+        edge_of(file, edges, k, node);
+        k += 1;
+    }
+}
+
+// A phrase has no word.
+fn name(file: &[u8], node: u32, start: u32, length: u32) {
+    number(b"", node);
+    if length == 0 {
+        number(b"\t#", node);
+    } else {
+        text(b"\t", file, start, length);
+    }
+}
+
+fn node(file: &[u8], sheet: &[u32; SIZE], edges: &[u32; EDGE_LIST_SIZE], n: usize)
+    requires { ⌜ n < nodeRoom ⌝ }
+{
+    let at = sentence_sheet::field_place(0, n);
+    name(file, n as u32, sheet[at], sheet[at + 1]);
+    text(b"\t", file, sheet[at + 2], sheet[at + 3]);
+    text(b"\t", file, sheet[at + 4], sheet[at + 5]);
+    text(b"\t", file, sheet[at + 6], sheet[at + 7]);
+    number(b"\t", sheet[at + 8]);
+    edges_of(file, edges, n as u32);
+    comment(file, sheet[at + 9], sheet[at + 10]);
+    io::write_all(1, b"\n");
+}
+
+// Every node has a tag.
+fn is_there(sheet: &[u32; SIZE], n: usize) -> bool
+    requires { ⌜ n < nodeRoom ⌝ }
+{
+    sheet[sentence_sheet::field_place(3, n)] != 0
+}
+
+pub fn sentence(file: &[u8], sheet: &[u32; SIZE], edges: &[u32; EDGE_LIST_SIZE]) {
+    heading(file, sheet);
+    let mut n = 0;
+    while n < NODE_ROOM {
+        if is_there(sheet, n) {
+            node(file, sheet, edges, n);
+        }
+        n += 1;
+    }
+}
+
+pub fn refusal(answer: u32) {
+    number(b"refusal ", answer);
+    io::write_all(1, b": no such sentence is handed out\n");
+}
