@@ -12,48 +12,48 @@ use lib.Seq.{drop-cons}
 use Rattle.rules.specs.Lists.{pick, every, any}
 use Rattle.rules.specs.Bytes.{white}
 use Rattle.rules.specs.Columns.{goesOn}
-use Rattle.columns.specs.Leading.{leading, solid, inRun}
+use Rattle.columns.specs.Leading.{runLength, solid, inRun}
 
 module _ (f : ℕ → Bool) (s : List ℕ) (i : ℕ) where
-  pub leading-stop : i < length s → f (getD s i 0) ≡ false → i + leading f (drop i s) ≡ i
-  unfolding leading
+  pub leading-stop : i < length s → f (getD s i 0) ≡ false → i + runLength f (drop i s) ≡ i
+  unfolding runLength
   leading-stop h e = rw (drop-cons s i 0, e, add-zero)
 
-  pub leading-more : i < length s → f (getD s i 0) ≡ true → i + leading f (drop i s) ≡ i + 1 + leading f (drop (i + 1) s)
-  unfolding leading
+  pub leading-more : i < length s → f (getD s i 0) ≡ true → i + runLength f (drop i s) ≡ i + 1 + runLength f (drop (i + 1) s)
+  unfolding runLength
   leading-more h e = rw (drop-cons s i 0, e, add-one, add-suc, suc-add)
 
-  pub leading-end : length s ≤ i → i + leading f (drop i s) ≡ i
-  unfolding leading
+  pub leading-end : length s ≤ i → i + runLength f (drop i s) ≡ i
+  unfolding runLength
   leading-end h = rw (drop-of-length-le s h, add-zero)
 
 -- there are no more of them than bytes
-pub leading-within : (f : ℕ → Bool) (s : List ℕ) → leading f s ≤ length s
-unfolding leading
+pub leading-within : (f : ℕ → Bool) (s : List ℕ) → runLength f s ≤ length s
+unfolding runLength
 leading-within f [] = omega arith
 leading-within f (b ∷ bs) = go (f b) (leading-within f bs)
   where
-    go : (t : Bool) → leading f bs ≤ length bs → pick t (suc (leading f bs)) 0 ≤ suc (length bs)
+    go : (t : Bool) → runLength f bs ≤ length bs → pick t (suc (runLength f bs)) 0 ≤ suc (length bs)
     go true h = suc-le-suc h
     go false h = omega arith
 
 -- each of them passes
-pub leading-every : (f : ℕ → Bool) (s : List ℕ) → every f (take (leading f s) s) ≡ true
-unfolding leading
+pub leading-every : (f : ℕ → Bool) (s : List ℕ) → every f (take (runLength f s) s) ≡ true
+unfolding runLength
 leading-every f [] = refl
 leading-every f (b ∷ bs) = go (f b) refl (leading-every f bs)
   where
-    go : (t : Bool) → f b ≡ t → every f (take (leading f bs) bs) ≡ true → every f (take (pick t (suc (leading f bs)) 0) (b ∷ bs)) ≡ true
+    go : (t : Bool) → f b ≡ t → every f (take (runLength f bs) bs) ≡ true → every f (take (pick t (suc (runLength f bs)) 0) (b ∷ bs)) ≡ true
     go true e h = rw (e, h)
     go false e h = refl
 
 -- the first byte behind them doesn't
-pub leading-behind : (f : ℕ → Bool) (s : List ℕ) (b : ℕ) (rest : List ℕ) → drop (leading f s) s ≡ b ∷ rest → f b ≡ false
-unfolding leading
+pub leading-behind : (f : ℕ → Bool) (s : List ℕ) (b : ℕ) (rest : List ℕ) → drop (runLength f s) s ≡ b ∷ rest → f b ≡ false
+unfolding runLength
 leading-behind f [] b rest q = cc
 leading-behind f (x ∷ s) b rest q = go (f x) refl q (leading-behind f s b rest)
   where
-    go : (t : Bool) → f x ≡ t → drop (pick t (suc (leading f s)) 0) (x ∷ s) ≡ b ∷ rest → (drop (leading f s) s ≡ b ∷ rest → f b ≡ false) → f b ≡ false
+    go : (t : Bool) → f x ≡ t → drop (pick t (suc (runLength f s)) 0) (x ∷ s) ≡ b ∷ rest → (drop (runLength f s) s ≡ b ∷ rest → f b ≡ false) → f b ≡ false
     go true e q h = h q
     go false e q h = cc
 
@@ -67,10 +67,10 @@ none-white (b ∷ bs) e = go (white b) e (none-white bs)
     go false e h = h e
 
 -- a column doesn't go on behind them
-pub leading-column : (s : List ℕ) → goesOn (drop (leading solid s) s) ≡ false
-leading-column s = go (drop (leading solid s) s) refl
+pub leading-column : (s : List ℕ) → goesOn (drop (runLength solid s) s) ≡ false
+leading-column s = go (drop (runLength solid s) s) refl
   where
-    go : (rest : List ℕ) → drop (leading solid s) s ≡ rest → goesOn rest ≡ false
+    go : (rest : List ℕ) → drop (runLength solid s) s ≡ rest → goesOn rest ≡ false
     go [] q = refl
     go (b ∷ rest) q = leading-behind solid s b rest q
 

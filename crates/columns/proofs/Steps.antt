@@ -13,7 +13,7 @@ use lib.Seq.{drop-drop, drop-cons, length-take-le}
 use Rattle.rules.specs.Bytes.{white}
 use Rattle.rules.specs.Columns as lines
 use Rattle.rules.proofs.ColumnLaws.{columns-skip, columns-run}
-use Rattle.columns.specs.Leading.{leading, solid}
+use Rattle.columns.specs.Leading.{runLength, solid}
 use Rattle.columns.specs.Cursors.{firstOf, nextColumn}
 use Rattle.columns.specs.declared.Cursor.{Cursor}
 use Rattle.columns.specs.declared.Column.the-variants.{Found, Missing}
@@ -25,9 +25,9 @@ columnBetween s a e =
     record { text = record { start = a; bytes = take (e - a) (drop a s) }; after = record { start = e; bytes = drop e s } }
 
 -- white bytes in front are in no column
-past-white : (at : ℕ) (s : List ℕ) → lines.columnsFrom at s ≡ lines.columnsFrom (at + leading white s) (drop (leading white s) s)
+past-white : (at : ℕ) (s : List ℕ) → lines.columnsFrom at s ≡ lines.columnsFrom (at + runLength white s) (drop (runLength white s) s)
 past-white at s =
-    let n : ℕ = leading white s in
+    let n : ℕ = runLength white s in
     ap (lines.columnsFrom at) (sym (take-append-drop n s))
     ∙ columns-skip at (take n s) (drop n s) (leading-every white s)
     ∙ ap (λ (k : ℕ). lines.columnsFrom (at + k) (drop n s)) (length-take-le n s (leading-within white s))
@@ -38,10 +38,10 @@ run at s n =
     record { text = record { start = at; bytes = take n s }; after = record { start = at + n; bytes = drop n s } }
 
 -- from a byte of a column on, the first column is the run of such bytes
-front : (at : ℕ) (s : List ℕ) → 0 < leading solid s
-    → lines.columnsFrom at s ≡ run at s (leading solid s) ∷ lines.columnsFrom (at + leading solid s) (drop (leading solid s) s)
+front : (at : ℕ) (s : List ℕ) → 0 < runLength solid s
+    → lines.columnsFrom at s ≡ run at s (runLength solid s) ∷ lines.columnsFrom (at + runLength solid s) (drop (runLength solid s) s)
 front at s h =
-    let n : ℕ = leading solid s in
+    let n : ℕ = runLength solid s in
     let m : length (take n s) ≡ n = length-take-le n s (leading-within solid s) in
     ap (lines.columnsFrom at) (sym (take-append-drop n s))
     ∙ columns-run at (take n s) (drop n s) (omega arith) (none-white (take n s) (leading-every solid s)) (leading-column s)
@@ -49,14 +49,14 @@ front at s h =
 
 -- where the first column from a place on starts, and where it ends
 abbrev pub startFrom : List ℕ → ℕ → ℕ
-startFrom s at = at + leading white (drop at s)
+startFrom s at = at + runLength white (drop at s)
 
 abbrev pub endFrom : List ℕ → ℕ → ℕ
-endFrom s at = startFrom s at + leading solid (drop (startFrom s at) s)
+endFrom s at = startFrom s at + runLength solid (drop (startFrom s at) s)
 
 module _ (s : List ℕ) (at : ℕ) where
-  behind-white : drop (leading white (drop at s)) (drop at s) ≡ drop (startFrom s at) s
-  behind-white = drop-drop (leading white (drop at s)) at s
+  behind-white : drop (runLength white (drop at s)) (drop at s) ≡ drop (startFrom s at) s
+  behind-white = drop-drop (runLength white (drop at s)) at s
 
   from-start : lines.columnsFrom at (drop at s) ≡ lines.columnsFrom (startFrom s at) (drop (startFrom s at) s)
   from-start = past-white at (drop at s) ∙ ap (lines.columnsFrom (startFrom s at)) behind-white
@@ -70,7 +70,7 @@ module _ (s : List ℕ) (at : ℕ) where
       ap not (leading-behind white (drop at s) (getD s (startFrom s at) 0) (drop (suc (startFrom s at)) s) (behind-white ∙ drop-cons s (startFrom s at) 0 h))
 
   -- the column's first byte, and then the others
-  end-is : startFrom s at < length s → endFrom s at ≡ startFrom s at + 1 + leading solid (drop (startFrom s at + 1) s)
+  end-is : startFrom s at < length s → endFrom s at ≡ startFrom s at + 1 + runLength solid (drop (startFrom s at + 1) s)
   end-is h = leading-more solid s (startFrom s at) h (solid-there h)
 
   within : startFrom s at < length s → endFrom s at ≤ length s
@@ -78,7 +78,7 @@ module _ (s : List ℕ) (at : ℕ) where
 
   first-is : startFrom s at < length s → lines.columnsFrom at (drop at s) ≡ columnBetween s (startFrom s at) (endFrom s at) ∷ lines.columnsFrom (endFrom s at) (drop (endFrom s at) s)
   first-is h =
-      let n : ℕ = leading solid (drop (startFrom s at) s) in
+      let n : ℕ = runLength solid (drop (startFrom s at) s) in
       from-start
       ∙ front (startFrom s at) (drop (startFrom s at) s) (omega (arith, end-is h))
       ∙ rw (add-sub-cancel-left (startFrom s at) n, drop-drop n (startFrom s at) s)
@@ -100,10 +100,10 @@ module _ (s : List ℕ) (at a : ℕ) (start : a ≡ startFrom s at) where
   pub comes-to-none : length s ≤ a → nextColumn s at ≡ Missing
   comes-to-none h = at-missing s at (omega arith)
 
-  pub comes-to-one : (e : ℕ) → e ≡ a + 1 + leading solid (drop (a + 1) s) → a < length s → nextColumn s at ≡ Found a e (record { at = e })
+  pub comes-to-one : (e : ℕ) → e ≡ a + 1 + runLength solid (drop (a + 1) s) → a < length s → nextColumn s at ≡ Found a e (record { at = e })
   comes-to-one e end h =
       let k : startFrom s at < length s = omega arith in
-      let l : endFrom s at ≡ e = end-is s at k ∙ ap (λ (n : ℕ). n + 1 + leading solid (drop (n + 1) s)) (sym start) ∙ sym end in
+      let l : endFrom s at ≡ e = end-is s at k ∙ ap (λ (n : ℕ). n + 1 + runLength solid (drop (n + 1) s)) (sym start) ∙ sym end in
       at-found s at k
       ∙ ap (λ (n : ℕ). Found n (endFrom s at) (record { at = endFrom s at })) (sym start)
       ∙ ap (λ (n : ℕ). Found a n (record { at = n })) l

@@ -14,6 +14,6 @@ abbrev pub inRun : Bool → ℕ → Bool
 inRun in-column b = pick in-column (solid b) (white b)
 
 -- how many of the first bytes pass the test, up to the first that doesn't
-unfoldable pub leading : (ℕ → Bool) → List ℕ → ℕ
-leading f [] = 0
-leading f (b ∷ bs) = let more = suc (leading f bs) in pick (f b) more 0
+unfoldable pub runLength : (ℕ → Bool) → List ℕ → ℕ
+runLength f [] = 0
+runLength f (b ∷ bs) = let more = suc (runLength f bs) in pick (f b) more 0

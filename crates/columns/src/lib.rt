@@ -9,7 +9,7 @@ ghost use Prim.Native.Nat.{_+_};
 ghost use lib.ListN.{drop};
 ghost use Rattle.rules.specs.Lists.{same};
 ghost use Rattle.rules.specs.Bytes.{classTable, white};
-ghost use Rattle.columns.specs.Leading.{leading, inRun};
+ghost use Rattle.columns.specs.Leading.{runLength, inRun};
 ghost use Rattle.columns.specs.Cursors.{nextColumn};
 
 // the class of white bytes
@@ -25,7 +25,7 @@ pub fn is_white(b: u8, classes: &[u8; 256]) -> bool
 // The first place from `at` on where a run ends: of white bytes or, in a column, of bytes that aren't white.
 pub fn skip_run(head: &[u8], at: usize, in_column: bool, classes: &[u8; 256]) -> usize
     requires { ⌜ now classes ≡ classTable ⌝ }
-    ensures { λ r. ⌜ r ≡ at + leading (inRun «in_column») (drop at (now (head .entry))) ⌝ }
+    ensures { λ r. ⌜ r ≡ at + runLength (inRun «in_column») (drop at (now (head .entry))) ⌝ }
 {
     let mut end = at;
     while end < head.len() {

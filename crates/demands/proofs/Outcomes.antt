@@ -10,7 +10,7 @@ use Rattle.rules.specs.Numbers.{fileLimit}
 use Rattle.rules.specs.Reading.{numbers}
 use Rattle.rules.specs.Sheets.{tableSheet, seenSet}
 use Rattle.rules.specs.Survey.{SurveyOutcome, surveyOf, told, nothingRead, sheetsFit, afterSurvey}
-use Rattle.survey.specs.Promise.{outcome, numbersOf}
+use Rattle.survey.specs.Promise.{outcome, asSurveyed}
 use Rattle.demands.specs.Surveying.{Surveying, Readable, SameOutcome, Untouched, Promised}
 
 -- ---- afterSurvey, case by case
@@ -37,7 +37,7 @@ module _ (f tables seen : List ℕ) where
 same-outcome : (c d : Surveying) → outcome (c .answer) (c .tablesLeft) (c .seenLeft) ≡ outcome (d .answer) (d .tablesLeft) (d .seenLeft) → SameOutcome c d
 same-outcome c d e =
     record {
-      answer = ap (λ (o : SurveyOutcome). numbersOf (o .answer)) e;
+      answer = ap (λ (o : SurveyOutcome). asSurveyed (o .answer)) e;
       tables = ap (λ (o : SurveyOutcome). o .tables) e;
       seen = ap (λ (o : SurveyOutcome). o .seen) e;
     }
@@ -62,7 +62,7 @@ untouched : (c : Surveying) (n : ℕ) → Promised c
     → afterSurvey (c .file) (c .tables) (c .seen) ≡ record { answer = told (nothingRead n); tables = c .tables; seen = c .seen } → Untouched c n
 untouched c n p e =
     record {
-      answer = ap (λ (o : SurveyOutcome). numbersOf (o .answer)) (p ∙ e);
+      answer = ap (λ (o : SurveyOutcome). asSurveyed (o .answer)) (p ∙ e);
       tables = ap (λ (o : SurveyOutcome). o .tables) (p ∙ e);
       seen = ap (λ (o : SurveyOutcome). o .seen) (p ∙ e);
     }

@@ -1,5 +1,3 @@
 pub mod Surveying
 pub mod Accepting
 pub mod Tidying
-pub mod Cutting
-pub mod Opening

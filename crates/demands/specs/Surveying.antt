@@ -11,7 +11,7 @@ use Rattle.rules.specs.Sheets.{tableSheet, seenSet, sentenceSheet}
 use Rattle.rules.specs.Survey.{lastEnd, surveyOf, told, nothingRead, sheetsFit, afterSurvey}
 use Rattle.rules.specs.Climbing.{Resolves, parentIn, parentOn, EveryChainClimbs}
 use Rattle.seen.specs.Bits.{bitAt}
-use Rattle.survey.specs.Promise.{outcome, numbersOf}
+use Rattle.survey.specs.Promise.{outcome, asSurveyed}
 use Rattle.survey.specs.declared.Surveyed.{Surveyed}
 
 -- the number of a sentence handed out
@@ -52,7 +52,7 @@ pub record SameOutcome (c d : Surveying) : Type 0 where
 
 -- refused by a number before anything was read: place, sentences and sound end are 0, and no buffer has changed
 pub record Untouched (c : Surveying) (n : ℕ) : Type 0 where
-  pub answer : c .answer ≡ numbersOf (told (nothingRead n))
+  pub answer : c .answer ≡ asSurveyed (told (nothingRead n))
   pub tables : c .tablesLeft ≡ c .tables
   pub seen : c .seenLeft ≡ c .seen
 

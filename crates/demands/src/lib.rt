@@ -1,20 +1,17 @@
-// The three demands, each the promise of a function that calls the survey and is proved from the survey's contract alone.
-// Nothing is required of what is lent.
+// Demands 1 and 2, each the promise of a function that calls the survey and is proved from the survey's contract alone. Nothing
+// is required of what is lent.
 ghost use mathlib.Core.Path.{_≡_};
 ghost use mathlib.Core.Logic.{_↔_};
 ghost use mathlib.Core.Bool.{true};
 ghost use lib.Dec.{eqb};
-ghost use mathlib.Core.List.{List, [], _++_};
-ghost use Prim.Native.Nat.{ℕ, _≤_};
-ghost use lib.ListN.{length, take};
-ghost use Rattle.rules.specs.Numbers.{fileLimit};
+ghost use mathlib.Core.List.{List};
+ghost use Prim.Native.Nat.{ℕ};
 ghost use Rattle.rules.specs.Survey.{surveyOf, sheetsFit};
 ghost use Rattle.rules.specs.Grammar.{Fits};
 ghost use Rattle.rules.specs.Writing.{tidyOf};
 ghost use Rattle.demands.specs.Surveying.{surveying, Readable, Promised, Answered, SameOutcome};
 ghost use Rattle.demands.specs.Accepting.{ReadAsWritten};
 ghost use Rattle.demands.specs.Tidying.{TidyAlike};
-ghost use Rattle.demands.specs.Cutting.{Restored, SoundAlone};
 ghost use Rattle.survey.specs.declared.Surveyed.{Surveyed};
 use survey::Surveyed;
 
@@ -51,39 +48,6 @@ pub fn twice(
     Two { first, second }
 }
 
-// Demand 1: the library for other languages tells and leaves what survey does, so it has no second outcome either.
-pub fn bordering(
-    file: &[u8],
-    sheet: &mut [u32],
-    seen: &mut [u8],
-    sheet2: &mut [u32],
-    seen2: &mut [u8],
-) -> Two
-    ensures { λ r. ⌜ (now (sheet .entry) ≡ now (sheet2 .entry) → now (seen .entry) ≡ now (seen2 .entry)
-        → SameOutcome (surveying (now (file .entry)) (now (sheet .entry)) (now (seen .entry)) (r .first) (now (sheet .exit)) (now (seen .exit)))
-        (surveying (now (file .entry)) (now (sheet2 .entry)) (now (seen2 .entry)) (r .second) (now (sheet2 .exit)) (now (seen2 .exit)))) ⌝ }
-{
-    let first = survey::survey(file, sheet, seen);
-    let mut place = 0u32;
-    let mut sentences = 0u32;
-    let mut sound_end = 0u32;
-    let refusal = hraunlik::hraunlik_survey(
-        file,
-        sheet2,
-        seen2,
-        &mut place,
-        &mut sentences,
-        &mut sound_end,
-    );
-    let second = Surveyed {
-        refusal,
-        place,
-        sentences,
-        sound_end,
-    };
-    Two { first, second }
-}
-
 // Demand 2: accepted exactly if it follows the paper, and then read as it is written.
 pub fn accepts(file: &[u8], sheet: &mut [u32], seen: &mut [u8]) -> bool
     ensures exactly { λ r. ⌜ (sheetsFit (now (sheet .entry)) (now (seen .entry)) ≡ true → (r ≡ true) ↔ Fits (now (file .entry))) ⌝ }
@@ -102,43 +66,4 @@ pub fn tidy(text: &[u8], sheet: &mut [u32], seen: &mut [u8]) -> Surveyed
     ensures whole { λ r. ⌜ Promised (surveying (now (text .entry)) (now (sheet .entry)) (now (seen .entry)) r (now (sheet .exit)) (now (seen .exit))) ⌝ }
 {
     survey::survey(text, sheet, seen)
-}
-
-// Demand 3: the first n bytes of any file f, with any bytes x behind them.
-pub fn restored(file: &[u8], sheet: &mut [u32], seen: &mut [u8]) -> Surveyed
-    ensures first { λ r. ⌜ ((f : List ℕ) (n : ℕ) (x : List ℕ) → n ≤ length f → length f ≤ fileLimit → now (file .entry) ≡ take n f ++ x
-        → Readable (now (file .entry)) (now (sheet .entry)) (now (seen .entry))
-        → Restored f n x (surveying (now (file .entry)) (now (sheet .entry)) (now (seen .entry)) r (now (sheet .exit)) (now (seen .exit)))) ⌝ }
-    ensures whole { λ r. ⌜ Promised (surveying (now (file .entry)) (now (sheet .entry)) (now (seen .entry)) r (now (sheet .exit)) (now (seen .exit))) ⌝ }
-{
-    survey::survey(file, sheet, seen)
-}
-
-// Demand 3: the file cut behind its first n bytes, with nothing behind them. Past its end there is nothing to cut.
-pub fn cut(file: &[u8], n: usize, sheet: &mut [u32], seen: &mut [u8]) -> Surveyed
-    ensures first { λ r. ⌜ (n ≤ length (now (file .entry)) → Readable (now (file .entry)) (now (sheet .entry)) (now (seen .entry))
-        → Restored (now (file .entry)) n [] (surveying (take n (now (file .entry))) (now (sheet .entry)) (now (seen .entry)) r (now (sheet .exit)) (now (seen .exit)))) ⌝ }
-    ensures whole { λ r. ⌜ Promised (surveying (take n (now (file .entry))) (now (sheet .entry)) (now (seen .entry)) r (now (sheet .exit)) (now (seen .exit))) ⌝ }
-{
-    if n <= file.len() {
-        return survey::survey(&file[..n], sheet, seen);
-    }
-    survey::survey(file, sheet, seen)
-}
-
-// Demand 3: the file, then its sound part by itself.
-pub fn sound_part(file: &[u8], sheet: &mut [u32], seen: &mut [u8]) -> Two
-    ensures sound { λ r. ⌜ (Readable (now (file .entry)) (now (sheet .entry)) (now (seen .entry))
-        → SoundAlone (now (file .entry)) (r .first) (r .second) (now (sheet .exit)) (now (seen .exit))) ⌝ }
-    ensures whole { λ r. ⌜ ((sheet′ : List ℕ) × (seen′ : List ℕ) × Promised (surveying (now (file .entry)) (now (sheet .entry)) (now (seen .entry)) (r .first) sheet′ seen′)
-        × Promised (surveying (take (r .first .«sound_end») (now (file .entry))) sheet′ seen′ (r .second) (now (sheet .exit)) (now (seen .exit)))) ⌝ }
-{
-    let first = survey::survey(file, sheet, seen);
-    let end = first.sound_end as usize;
-    if end <= file.len() {
-        let second = survey::survey(&file[..end], sheet, seen);
-        return Two { first, second };
-    }
-    let second = survey::survey(file, sheet, seen);
-    Two { first, second }
 }

@@ -3,3 +3,4 @@ pub mod LocalArray
 pub mod Filled
 pub mod Records
 pub mod Promised
+pub mod WritingPromised

@@ -14,32 +14,32 @@ use Rattle.rules.specs.Sentences.{Sentence}
 use Rattle.rules.specs.Survey.{Survey, surveyOf, sheetsFit, fileFits}
 use Rattle.rules.specs.SentenceFrom.{sentenceFrom}
 use Rattle.rules.specs.Opening.{Opened, OpenedAt, afterOpening, afterOpeningAt, sentenceOf, opened, openedAs}
-use Rattle.opening.specs.FlatLists.{records}
+use Rattle.opening.specs.FlatLists.{edgeRecords}
 use Rattle.opening.specs.Promise.{OpenedFlat, OpenedFlatAt, afterOpeningFlat, afterOpeningFlatAt}
 use Rattle.opening.specs.Promise as flat
 use Rattle.opening.proofs.Flattened.{length-records}
 use Rattle.edges.specs.declared.Edge.{Edge}
-use Rattle.edges.specs.Edges.{edgesFrom, filledBy}
+use Rattle.edges.specs.Edges.{firstEdges, filledBy}
 use Rattle.edges.specs.Promise.{asRecord, asRecords, outcome, outcomeAt}
 use Rattle.edges.proofs.Records.{filled-list}
 
-length-asRecords : (ys : List Edge) → length (asRecords ys) ≡ length ys
+pub length-asRecords : (ys : List Edge) → length (asRecords ys) ≡ length ys
 unfolding asRecords
 length-asRecords ys = length-map ys asRecord
 
-and-false : (b : Bool) → (b && false) ≡ false
+pub and-false : (b : Bool) → (b && false) ≡ false
 and-false true = refl
 and-false false = refl
 
 -- what stays and what is filled of a list lent beside the numbers
-abbrev list : ℕ → List EdgeRecord → List EdgeRecord → List EdgeRecord
+abbrev pub list : ℕ → List EdgeRecord → List EdgeRecord → List EdgeRecord
 list r lent filled = pick (eqb (filledBy r) 0) lent filled
 
-abbrev zeros : List ℕ
+abbrev pub zeros : List ℕ
 zeros = replicate 2048 0
 
-abbrev zeroList : List EdgeRecord
-zeroList = records 512 zeros
+abbrev pub zeroList : List EdgeRecord
+zeroList = edgeRecords 512 zeros
 
 -- ---- by the place of its first line
 
@@ -75,7 +75,7 @@ module _ (file : List ℕ) (at : ℕ) (sheet : List ℕ) where
 
     pub listed-open-at : (r k : ℕ) (sheet′ numbers : List ℕ) (zs : List Edge) → length ys ≡ 512
         → (flat.outcomeAt r sheet′ numbers ≡ afterOpeningFlatAt file at sheet zeros) × (length numbers ≡ length zeros)
-        → k ≡ filledBy r → zs ≡ edgesFrom numbers k ++ drop k ys → outcomeAt r sheet′ zs ≡ byPlace (asRecords ys)
+        → k ≡ filledBy r → zs ≡ firstEdges numbers k ++ drop k ys → outcomeAt r sheet′ zs ≡ byPlace (asRecords ys)
     listed-open-at r k sheet′ numbers zs l e ck full =
         let x : flat.outcomeAt r sheet′ numbers ≡ flat.flattenedAt (byPlace zeroList) = e .0 ∙ by-numbers-at in
         let o : OpenedAt = byPlace zeroList in
@@ -121,7 +121,7 @@ module _ (file : List ℕ) (n : ℕ) (tables seen sheet : List ℕ) where
 
     pub listed-open-sentence : (r k : ℕ) (tables′ seen′ sheet′ numbers : List ℕ) (zs : List Edge) → length ys ≡ 512
         → (flat.outcome r tables′ seen′ sheet′ numbers ≡ afterOpeningFlat file n tables seen sheet zeros) × (length numbers ≡ length zeros)
-        → k ≡ filledBy r → zs ≡ edgesFrom numbers k ++ drop k ys → outcome r tables′ seen′ sheet′ zs ≡ byNumber (asRecords ys)
+        → k ≡ filledBy r → zs ≡ firstEdges numbers k ++ drop k ys → outcome r tables′ seen′ sheet′ zs ≡ byNumber (asRecords ys)
     listed-open-sentence r k tables′ seen′ sheet′ numbers zs l e ck full =
         let x : flat.outcome r tables′ seen′ sheet′ numbers ≡ flat.flattened (byNumber zeroList) = e .0 ∙ by-numbers in
         let o : Opened = byNumber zeroList in

@@ -12,9 +12,9 @@ use Rattle.rules.specs.Lists.{pick, counting}
 use Rattle.rules.specs.Sheets.{EdgeRecord}
 use Rattle.rules.proofs.Elements.{map-map}
 use Rattle.opening.proofs.Flattened.{length-flat}
-use Rattle.opening.specs.FlatLists.{flat, firstRecord, records}
+use Rattle.opening.specs.FlatLists.{flat, firstRecord, edgeRecords}
 use Rattle.edges.specs.declared.Edge.{Edge}
-use Rattle.edges.specs.Edges.{edgeAt, edgesFrom, filledBy}
+use Rattle.edges.specs.Edges.{edgeAt, firstEdges, filledBy}
 use Rattle.edges.specs.Promise.{asRecord, asRecords}
 
 -- ---- how many are filled
@@ -44,35 +44,35 @@ record-here ns k =
     four _ _ _ _ _ _ _ _ (number-here ns k (k * 4) 0 (omega arith)) (number-here ns k (k * 4 + 1) 1 (omega arith))
     (number-here ns k (k * 4 + 2) 2 (omega arith)) (number-here ns k (k * 4 + 3) 3 (omega arith))
 
-made : (count from : ℕ) (ns : List ℕ) → map (λ (k : ℕ). asRecord (edgeAt ns k)) (counting from count) ≡ records count (drop (4 * from) ns)
-unfolding records
+made : (count from : ℕ) (ns : List ℕ) → map (λ (k : ℕ). asRecord (edgeAt ns k)) (counting from count) ≡ edgeRecords count (drop (4 * from) ns)
+unfolding edgeRecords
 made zero from ns = refl
 made (suc count) from ns =
     ap₂ (λ (e : EdgeRecord) (l : List EdgeRecord). e ∷ l) (record-here ns from)
     (made count (suc from) ns
-    ∙ ap (records count)
+    ∙ ap (edgeRecords count)
     (ap (λ (k : ℕ). drop k ns) (let m : 4 * suc from ≡ 4 * from + 4 = omega arith in m) ∙ sym (drop-drop 4 (4 * from) ns)))
 
-records-made : (count : ℕ) (ns : List ℕ) → asRecords (edgesFrom ns count) ≡ records count ns
-unfolding asRecords edgesFrom
+records-made : (count : ℕ) (ns : List ℕ) → asRecords (firstEdges ns count) ≡ edgeRecords count ns
+unfolding asRecords firstEdges
 records-made count ns = map-map asRecord (edgeAt ns) (counting 0 count) ∙ made count 0 ns
 
-pub records-back : (es : List EdgeRecord) → records (length es) (flat es) ≡ es
-unfolding records flat
+pub records-back : (es : List EdgeRecord) → edgeRecords (length es) (flat es) ≡ es
+unfolding edgeRecords flat
 records-back [] = refl
 records-back (e ∷ es) = ap (λ (l : List EdgeRecord). e ∷ l) (records-back es)
 
 -- ---- the whole list, or nothing
 
-none-filled : (ns : List ℕ) (ys zs : List Edge) (k : ℕ) → k ≡ 0 → zs ≡ edgesFrom ns k ++ drop k ys → asRecords zs ≡ asRecords ys
-unfolding edgesFrom
-none-filled ns ys zs k e full = ap asRecords (full ∙ ap (λ (m : ℕ). edgesFrom ns m ++ drop m ys) e)
+none-filled : (ns : List ℕ) (ys zs : List Edge) (k : ℕ) → k ≡ 0 → zs ≡ firstEdges ns k ++ drop k ys → asRecords zs ≡ asRecords ys
+unfolding firstEdges
+none-filled ns ys zs k e full = ap asRecords (full ∙ ap (λ (m : ℕ). firstEdges ns m ++ drop m ys) e)
 
 all-filled : (es : List EdgeRecord) (ns : List ℕ) (ys zs : List Edge) (k : ℕ) → k ≡ 512 → length ys ≡ 512 → ns ≡ flat es → length es ≡ 512
-    → zs ≡ edgesFrom ns k ++ drop k ys → asRecords zs ≡ es
+    → zs ≡ firstEdges ns k ++ drop k ys → asRecords zs ≡ es
 all-filled es ns ys zs k e l q m full =
-    ap asRecords (full ∙ ap (λ (j : ℕ). edgesFrom ns j ++ drop j ys) e ∙ ap (λ (r : List Edge). edgesFrom ns 512 ++ r) (drop-of-length-le ys {i = 512} (omega (arith, l))) ∙ append-nil (edgesFrom ns 512))
-    ∙ records-made 512 ns ∙ ap (records 512) q ∙ ap (λ (j : ℕ). records j (flat es)) (sym m) ∙ records-back es
+    ap asRecords (full ∙ ap (λ (j : ℕ). firstEdges ns j ++ drop j ys) e ∙ ap (λ (r : List Edge). firstEdges ns 512 ++ r) (drop-of-length-le ys {i = 512} (omega (arith, l))) ∙ append-nil (firstEdges ns 512))
+    ∙ records-made 512 ns ∙ ap (edgeRecords 512) q ∙ ap (λ (j : ℕ). edgeRecords j (flat es)) (sym m) ∙ records-back es
 
 twice-tested : (b c : Bool) → (_≡_ {A = ℕ} (pick b 0 (pick c 0 512)) 0) ⊎ (_≡_ {A = ℕ} (pick b 0 (pick c 0 512)) 512)
 twice-tested true c = inl refl
@@ -81,7 +81,7 @@ twice-tested false false = inr refl
 
 -- after 1 and 2 the list is as it was, after every other answer it is that of the numbers
 pub filled-list : (r k : ℕ) (es : List EdgeRecord) (ns : List ℕ) (ys zs : List Edge) → k ≡ filledBy r → length ys ≡ 512 → ns ≡ flat es → length ns ≡ 2048
-    → zs ≡ edgesFrom ns k ++ drop k ys → asRecords zs ≡ pick (eqb (filledBy r) 0) (asRecords ys) es
+    → zs ≡ firstEdges ns k ++ drop k ys → asRecords zs ≡ pick (eqb (filledBy r) 0) (asRecords ys) es
 filled-list r k es ns ys zs ck l q m full = elim (twice-tested (eqb r 1) (eqb r 2)) [
   | inl e ↦ none-filled ns ys zs k (ck ∙ e) full ∙ ap (λ (j : ℕ). pick (eqb j 0) (asRecords ys) es) (sym e)
   | inr e ↦

@@ -16,8 +16,8 @@ edgeAt ns k =
     }
 
 -- as many as count
-unfoldable pub edgesFrom : List ℕ → ℕ → List Edge
-edgesFrom ns count = map (edgeAt ns) (counting 0 count)
+unfoldable pub firstEdges : List ℕ → ℕ → List Edge
+firstEdges ns count = map (edgeAt ns) (counting 0 count)
 
 -- how many records an answer fills
 abbrev pub filledBy : ℕ → ℕ

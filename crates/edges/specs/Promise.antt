@@ -1,8 +1,11 @@
--- The promises of the openings whose list of secondary edges is lent as records.
+-- The promises of the openings and the writing whose list of secondary edges is lent as records.
 use Prim.Native.Nat.{ℕ}
 use mathlib.Core.List.{List, map}
 use Rattle.rules.specs.Sheets.{EdgeRecord}
 use Rattle.rules.specs.Opening.{Opened, OpenedAt}
+use Rattle.rules.specs.Writing.{WritingOutcome}
+use Rattle.writing.specs.declared.Written.{Written}
+use Rattle.writing.specs.Promise.{answerOf}
 use Rattle.edges.specs.declared.Edge.{Edge}
 
 -- a record of code as one of the rules
@@ -17,3 +20,7 @@ outcome r tables seen sheet edges = record { answer = r; tables = tables; seen =
 
 abbrev pub outcomeAt : ℕ → List ℕ → List Edge → OpenedAt
 outcomeAt r sheet edges = record { answer = r; sheet = sheet; edges = asRecords edges }
+
+abbrev pub writtenOutcome : Written → List ℕ → List ℕ → List ℕ → List Edge → List ℕ → WritingOutcome
+writtenOutcome r tables seen sheet edges output =
+    record { answer = answerOf r; tables = tables; seen = seen; sheet = sheet; edges = asRecords edges; output = output }

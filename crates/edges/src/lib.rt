@@ -1,13 +1,19 @@
-// The list of secondary edges as records, and the openings that lend it so.
+// The list of secondary edges as records, and the openings and the writing that lend it so.
+mod plain_lists;
+
 ghost use mathlib.Core.Path.{_≡_};
 ghost use Prim.Native.Nat.{_<_, _≤_};
 ghost use mathlib.Core.List.{_++_};
 ghost use lib.ListN.{length, drop};
-ghost use Rattle.edges.specs.Edges.{edgeAt, edgesFrom, filledBy};
+ghost use Rattle.edges.specs.Edges.{edgeAt, firstEdges, filledBy};
 ghost use Rattle.rules.specs.Opening.{afterOpening, afterOpeningAt};
-ghost use Rattle.opening.specs.Promise as flat;
-ghost use Rattle.edges.specs.Promise.{asRecords, outcome, outcomeAt};
+ghost use Rattle.rules.specs.Writing.{afterWriting};
+ghost use Rattle.edges.specs.Promise.{asRecords, outcome, outcomeAt, writtenOutcome};
+use plain_lists::open_numbers;
+use plain_lists::open_numbers_at;
+use plain_lists::write_numbers;
 use steps::refusals;
+use writing::Written;
 
 // A secondary edge: the child's number, its label's place and length, the secondary parent.
 pub struct Edge {
@@ -34,7 +40,7 @@ pub fn edge_at(numbers: &[u32; 2048], k: usize) -> Edge
 // The first records of the list are made of the numbers.
 pub fn fill(edges: &mut [Edge], numbers: &[u32; 2048], count: usize)
     requires { ⌜ (count ≤ length (now edges)) × (count ≤ 512) ⌝ }
-    ensures { λ _. ⌜ now (edges .exit) ≡ edgesFrom (now (numbers .entry)) count ++ drop count (now (edges .entry)) ⌝ }
+    ensures { λ _. ⌜ now (edges .exit) ≡ firstEdges (now (numbers .entry)) count ++ drop count (now (edges .entry)) ⌝ }
 {
     let mut k = 0;
     while k < count {
@@ -54,25 +60,6 @@ fn records_filled(answer: u32) -> usize
         return 0;
     }
     512
-}
-
-fn open_numbers(
-    file: &[u8],
-    number: u32,
-    tables: &mut [u32],
-    seen: &mut [u8],
-    sheet: &mut [u32],
-    numbers: &mut [u32; 2048],
-) -> u32
-    ensures { λ r. ⌜ (flat.outcome r (now (tables .exit)) (now (seen .exit)) (now (sheet .exit)) (now (numbers .exit)) ≡ flat.afterOpeningFlat (now (file .entry)) number (now (tables .entry)) (now (seen .entry)) (now (sheet .entry)) (now (numbers .entry))) × (length (now (numbers .exit)) ≡ length (now (numbers .entry))) ⌝ }
-{
-    opening::open_flat(file, number, tables, seen, sheet, numbers)
-}
-
-fn open_numbers_at(file: &[u8], place: u32, sheet: &mut [u32], numbers: &mut [u32; 2048]) -> u32
-    ensures { λ r. ⌜ (flat.outcomeAt r (now (sheet .exit)) (now (numbers .exit)) ≡ flat.afterOpeningFlatAt (now (file .entry)) place (now (sheet .entry)) (now (numbers .entry))) × (length (now (numbers .exit)) ≡ length (now (numbers .entry))) ⌝ }
-{
-    opening::open_flat_at(file, place, sheet, numbers)
 }
 
 // Document 01, "What the library does": open(file, number, table sheet, seen set, sentence sheet, edge list).
@@ -106,6 +93,31 @@ pub fn open_at(file: &[u8], place: u32, sheet: &mut [u32], edges: &mut [Edge]) -
     let mut numbers = [0u32; 2048];
     let answer = open_numbers_at(file, place, sheet, &mut numbers);
     let count = records_filled(answer);
+    fill(edges, &numbers, count);
+    answer
+}
+
+// Document 01, "What the library does": write(file, output, table sheet, seen set, sentence sheet, edge list).
+pub fn write_text(
+    file: &[u8],
+    output: &mut [u8],
+    tables: &mut [u32],
+    seen: &mut [u8],
+    sheet: &mut [u32],
+    edges: &mut [Edge],
+) -> Written
+    ensures { λ r. ⌜ writtenOutcome r (now (tables .exit)) (now (seen .exit)) (now (sheet .exit)) (now (edges .exit)) (now (output .exit)) ≡ afterWriting (now (file .entry)) (now (tables .entry)) (now (seen .entry)) (now (sheet .entry)) (asRecords (now (edges .entry))) (now (output .entry)) ⌝ }
+{
+    if edges.len() != 512 {
+        return Written {
+            refusal: 1,
+            place: 0,
+            length: 0,
+        };
+    }
+    let mut numbers = [0u32; 2048];
+    let answer = write_numbers(file, output, tables, seen, sheet, &mut numbers);
+    let count = records_filled(answer.refusal);
     fill(edges, &numbers, count);
     answer
 }

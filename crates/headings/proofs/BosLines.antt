@@ -15,7 +15,7 @@ use Rattle.rules.specs.Texts.{noText, reads, trim, trimFrom}
 use Rattle.rules.specs.Columns.{Column, columns, column, written, fields, comment}
 use Rattle.rules.specs.Numbers.{sentenceNumber, originId, date, number, signedId}
 use Rattle.rules.proofs.Conjunctions.{and-left, and-right}
-use Rattle.headings.specs.Headings.{whole, numbersOf, numbersOn}
+use Rattle.headings.specs.Headings.{whole, fourOf, numbersOn}
 use Rattle.headings.specs.declared.bos.FourNumbers.the-variants.{Bad}
 
 -- ---- the columns
@@ -58,7 +58,7 @@ module _ (cs : List Column) where
 
 -- ---- the numbers
 
-bad-within : (n e d o : Option ℕ) (k : ℕ) → numbersOf n e d o ≡ Bad k → k ≤ 4
+bad-within : (n e d o : Option ℕ) (k : ℕ) → fourOf n e d o ≡ Bad k → k ≤ 4
 bad-within none e d o k q = let z : 1 ≡ k = cc in omega arith
 bad-within (some n) none d o k q = let z : 2 ≡ k = cc in omega arith
 bad-within (some n) (some e) none o k q = let z : 3 ≡ k = cc in omega arith

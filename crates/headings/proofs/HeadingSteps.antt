@@ -27,7 +27,7 @@ use Rattle.steps.specs.declared.Step.{Step}
 use Rattle.steps.specs.declared.Step.the-variants.{SentenceBegins, Refused}
 use Rattle.steps.proofs.Step.{the-type}
 use Rattle.steps.proofs.StepLaws.{step-checked, fault-append}
-use Rattle.headings.specs.Headings.{whole, numbersOf, numbersOn, saidHeading, judgedHeading}
+use Rattle.headings.specs.Headings.{whole, fourOf, numbersOn, saidHeading, judgedHeading}
 use Rattle.headings.specs.declared.bos.FourNumbers.{FourNumbers}
 use Rattle.headings.specs.declared.bos.FourNumbers.the-variants.{Good, Bad}
 use Rattle.headings.proofs.BosLines.{whole-comment, whole-long}
@@ -67,7 +67,7 @@ module _ (line : Text) where
     where
       by : (w : Bool) → whole (columns line) ≡ w → (n e d o : Option ℕ)
           → unlessFault (faultIn (rules w n e d o)) (said n e d o (comment (drop 5 (columns line))))
-          ≡ pick w (behindColumns (numbersOf n e d o)) (refusal 7 (line .start))
+          ≡ pick w (behindColumns (fourOf n e d o)) (refusal 7 (line .start))
       by false q n e d o = refl
       by true q none e d o = refl
       by true q (some n) none d o = refl

@@ -26,16 +26,16 @@ use Rattle.headings.specs.declared.bos.FourNumbers.the-variants.{Good, B
 abbrev pub whole : List Column → Bool
 whole cs = ltb 4 (length cs) && empty (fields (drop 5 cs))
 
-abbrev pub numbersOf : Option ℕ → Option ℕ → Option ℕ → Option ℕ → FourNumbers
-numbersOf none e d o = Bad 1
-numbersOf (some n) none d o = Bad 2
-numbersOf (some n) (some e) none o = Bad 3
-numbersOf (some n) (some e) (some d) none = Bad 4
-numbersOf (some n) (some e) (some d) (some o) = Good (record { number = n; editor1 = e; date = d; origin = o })
+abbrev pub fourOf : Option ℕ → Option ℕ → Option ℕ → Option ℕ → FourNumbers
+fourOf none e d o = Bad 1
+fourOf (some n) none d o = Bad 2
+fourOf (some n) (some e) none o = Bad 3
+fourOf (some n) (some e) (some d) none = Bad 4
+fourOf (some n) (some e) (some d) (some o) = Good (record { number = n; editor1 = e; date = d; origin = o })
 
 unfoldable pub numbersOn : List Column → FourNumbers
 numbersOn cs =
-    numbersOf (number sentenceNumber (written cs 1 .bytes)) (signedId (written cs 2 .bytes)) (number date (written cs 3 .bytes))
+    fourOf (number sentenceNumber (written cs 1 .bytes)) (signedId (written cs 2 .bytes)) (number date (written cs 3 .bytes))
     (number originId (written cs 4 .bytes))
 
 -- the step of a line whose columns and numbers are good

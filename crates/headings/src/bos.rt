@@ -12,6 +12,7 @@ ghost use Rattle.table_sheet.specs.SheetRows.{tablesIn};
 ghost use Rattle.citations.specs.Tabled.{Counted};
 ghost use Rattle.headings.specs.Headings.{whole, numbersOn, saidHeading, judgedHeading};
 use columns::listing::Line;
+use columns::listing::Places;
 use columns::listing::column_text;
 use columns::listing::text_from;
 use numbers::Date;
@@ -40,7 +41,7 @@ const PERCENTS: usize = 5;
 const COMMENT: usize = 6;
 
 // Five columns, and behind them nothing or a comment.
-pub fn has_columns(file: &[u8], line: Line, places: &[u32; 4096]) -> bool
+pub fn has_columns(file: &[u8], line: Line, places: &Places) -> bool
     requires { ⌜ Listed (now file) line (now places) ⌝ }
     ensures { λ r. ⌜ r ≡ whole (columnsOf (now (file .entry)) line) ⌝ }
 {
@@ -66,12 +67,7 @@ pub enum FourNumbers {
     Bad(usize),
 }
 
-pub fn read_numbers(
-    file: &[u8],
-    line: Line,
-    places: &[u32; 4096],
-    classes: &[u8; 256],
-) -> FourNumbers
+pub fn read_numbers(file: &[u8], line: Line, places: &Places, classes: &[u8; 256]) -> FourNumbers
     requires { ⌜ (now classes ≡ classTable) × Listed (now file) line (now places) × (4 < line .columns) ⌝ }
     ensures { λ r. ⌜ r ≡ numbersOn (columnsOf (now (file .entry)) line) ⌝ }
 {
@@ -100,7 +96,7 @@ pub fn read_numbers(
 }
 
 // What a heading says whose columns and numbers are good.
-pub fn say_heading(line: Line, places: &[u32; 4096], four: HeadingNumbers) -> Step
+pub fn say_heading(line: Line, places: &Places, four: HeadingNumbers) -> Step
     requires { ⌜ ((file : List ℕ) × Listed file line (now places)) ⌝ }
     ensures { λ r. ⌜ ((file : List ℕ) → Listed file line (now (places .entry)) → r ≡ saidHeading (columnsOf file line) four) ⌝ }
 {
@@ -117,7 +113,7 @@ pub fn say_heading(line: Line, places: &[u32; 4096], four: HeadingNumbers) -> St
 // The heading, unless what it cites isn't there.
 pub fn judge_cited(
     line: Line,
-    places: &[u32; 4096],
+    places: &Places,
     sheet: &[u32],
     seen: &[u8],
     said: HeadingSaid,

@@ -15,6 +15,7 @@ ghost use Rattle.citations.specs.Tabled.{Counted};
 ghost use Rattle.steps.specs.Steps.{stepOf};
 use bos::FourNumbers;
 use columns::listing::Line;
+use columns::listing::Places;
 use columns::listing::column_text;
 use numbers::Number;
 use numbers::SentenceNumber;
@@ -23,7 +24,7 @@ use steps::refusals;
 use steps::refused;
 
 // #BOS number editor date origin, and a comment. What it cites isn't asked.
-pub fn heading_alone(file: &[u8], line: Line, places: &[u32; 4096], classes: &[u8; 256]) -> Step
+pub fn heading_alone(file: &[u8], line: Line, places: &Places, classes: &[u8; 256]) -> Step
     requires { ⌜ (now classes ≡ classTable) × Listed (now file) line (now places) ⌝ }
     ensures { λ r. ⌜ r ≡ stepOf (takenAs sentenceBegins (checked (headingWritten (lineOf (now (file .entry)) line)) (headingIn (lineOf (now (file .entry)) line)))) ⌝ }
 {
@@ -41,7 +42,7 @@ pub fn heading_alone(file: &[u8], line: Line, places: &[u32; 4096], classes: &[u
 pub fn heading_line(
     file: &[u8],
     line: Line,
-    places: &[u32; 4096],
+    places: &Places,
     sheet: &[u32],
     seen: &[u8],
     classes: &[u8; 256],
@@ -62,7 +63,7 @@ const END_COLUMNS: usize = 2;
 pub fn end_line(
     file: &[u8],
     line: Line,
-    places: &[u32; 4096],
+    places: &Places,
     number: u32,
     no_gap: bool,
     no_absent: bool,

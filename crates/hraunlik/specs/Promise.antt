@@ -4,6 +4,7 @@ use Prim.Native.Nat.{ℕ}
 use mathlib.Core.List.{List}
 use Rattle.rules.specs.Index.{Indexed}
 use Rattle.rules.specs.Survey.{SurveyOutcome}
+use Rattle.writing.specs.Promise.{WrittenFlat}
 
 abbrev pub outcome : ℕ → ℕ → ℕ → ℕ → List ℕ → List ℕ → SurveyOutcome
 outcome refusal place sentences soundEnd tables seen =
@@ -17,3 +18,15 @@ outcome refusal place sentences soundEnd tables seen =
 abbrev pub indexed : ℕ → ℕ → ℕ → ℕ → List ℕ → List ℕ → List ℕ → Indexed
 indexed refusal place sentences soundEnd tables seen places =
     record { answer = outcome refusal place sentences soundEnd tables seen .answer; tables = tables; seen = seen; places = places }
+
+-- after a writing: the refusal, the two numbers lent, the five buffers
+abbrev pub writtenTold : ℕ → ℕ → ℕ → List ℕ → List ℕ → List ℕ → List ℕ → List ℕ → WrittenFlat
+writtenTold refusal place length tables seen sheet edges output =
+    record {
+      answer = record { refusal = refusal; place = place; written = length };
+      tables = tables;
+      seen = seen;
+      sheet = sheet;
+      edges = edges;
+      output = output;
+    }

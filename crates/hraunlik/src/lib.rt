@@ -3,7 +3,8 @@ ghost use mathlib.Core.Path.{_≡_};
 ghost use Rattle.rules.specs.Survey.{afterSurvey};
 ghost use Rattle.rules.specs.Index.{afterIndexing};
 ghost use Rattle.opening.specs.Promise as flat;
-ghost use Rattle.hraunlik.specs.Promise.{outcome, indexed};
+ghost use Rattle.writing.specs.Promise.{afterWritingFlat};
+ghost use Rattle.hraunlik.specs.Promise.{outcome, indexed, writtenTold};
 
 // Answers with the refusal, 0 if the file is accepted; the other three numbers go where the caller wants them.
 #[no_mangle]
@@ -69,4 +70,24 @@ pub extern "C" fn hraunlik_open_at(
     ensures { λ r. ⌜ flat.outcomeAt r (now (sheet .exit)) (now (edges .exit)) ≡ flat.afterOpeningFlatAt (now (file .entry)) place (now (sheet .entry)) (now (edges .entry)) ⌝ }
 {
     opening::open_flat_at(file, place, sheet, edges)
+}
+
+// The tidy text into `output`; where it ends and where a fault stands go where the caller wants them.
+#[no_mangle]
+pub extern "C" fn hraunlik_write(
+    file: &[u8],
+    output: &mut [u8],
+    tables: &mut [u32],
+    seen: &mut [u8],
+    sheet: &mut [u32],
+    edges: &mut [u32],
+    place: &mut u32,
+    length: &mut u32,
+) -> u32
+    ensures { λ r. ⌜ writtenTold r (now (place .exit)) (now (length .exit)) (now (tables .exit)) (now (seen .exit)) (now (sheet .exit)) (now (edges .exit)) (now (output .exit)) ≡ afterWritingFlat (now (file .entry)) (now (tables .entry)) (now (seen .entry)) (now (sheet .entry)) (now (edges .entry)) (now (output .entry)) ⌝ }
+{
+    let told = writing::write_flat(file, output, tables, seen, sheet, edges);
+    *place = told.place;
+    *length = told.length;
+    told.refusal
 }

@@ -15,7 +15,7 @@ use Rattle.rules.specs.Phases as rules
 use Rattle.rules.proofs.Largest.{largest-added}
 use Rattle.rules.proofs.NoGap.{highest-added}
 use Rattle.steps.specs.Steps.{nodeSaid}
-use Rattle.judging.specs.States.{tallyOf, withWord, withPhrase}
+use Rattle.judging.specs.States.{tallyOf, countedWord, countedPhrase}
 use Rattle.nodes.specs.NodeLines.{marked}
 use Rattle.judging.proofs.Knowing.{Stamped, Telling}
 
@@ -41,7 +41,7 @@ module _ (s : Sentence) (n : Node) (first : empty (s .phrases) ≡ true) where
   pub edges-with-word : edgesOf s + length (n .secondary) ≡ edgesOf (rules.withWord s n)
   edges-with-word = omega (arith, edges-added (s .words) n)
 
-  pub tally-with-word : withWord (tallyOf s) (nodeSaid n) ≡ tallyOf (rules.withWord s n)
+  pub tally-with-word : countedWord (tallyOf s) (nodeSaid n) ≡ tallyOf (rules.withWord s n)
   tally-with-word = rw (highest-with-word, edges-with-word, ← one-more (s .words) n)
 
 -- ---- a phrase
@@ -55,7 +55,7 @@ module _ (s : Sentence) (n : Node) (low : 500 ≤ n .number) where
   pub edges-with-phrase : edgesOf s + length (n .secondary) ≡ edgesOf (rules.withPhrase s n)
   edges-with-phrase = omega (arith, edges-added (s .phrases) n)
 
-  pub tally-with-phrase : withPhrase (tallyOf s) (nodeSaid n) ≡ tallyOf (rules.withPhrase s n)
+  pub tally-with-phrase : countedPhrase (tallyOf s) (nodeSaid n) ≡ tallyOf (rules.withPhrase s n)
   tally-with-phrase =
       rw (highest-with-phrase, edges-with-phrase, ← one-more (s .phrases) n, ← highest-added (s .phrases) n low)
 

@@ -1,14 +1,13 @@
 -- Kinds of lines by their first column, and what each is taken for where it stands.
-use Prim.Native.Nat.{ℕ, zero, suc, _≤_, _<_}
+use Prim.Native.Nat.{ℕ, zero, suc, _<_}
 use native.Mathlib.Omega.{arith}
 use mathlib.Core.Path.{_≡_, refl, sym, ap, _∙_}
-use mathlib.Core.Bool.{Bool, true, false, _&&_, _||_, and-true, and-false}
+use mathlib.Core.Bool.{Bool, true, false}
 use mathlib.Core.List.{List, [], _∷_}
-use lib.Dec.{eqb}
-use lib.ListN.{length, getD, take, drop}
+use lib.ListN.{length, getD, drop}
 use borrow.Author.Tests.{eq-eqb, ne-eqb}
-use Rattle.rules.specs.Lists.{bytes, same, every}
-use Rattle.rules.specs.Bytes.{white, percents, ignored}
+use Rattle.rules.specs.Lists.{bytes, same}
+use Rattle.rules.specs.Bytes.{ignored}
 use Rattle.rules.specs.Texts.{Text, reads}
 use Rattle.rules.specs.Columns.{columns}
 use Rattle.rules.specs.Tables.{Tables, Row}
@@ -29,27 +28,6 @@ abbrev text : ℕ → List ℕ → Text
 text n xs = record { start = n; bytes = xs }
 
 -- ---- kinds
-
-pub comment-short : (xs : List ℕ) → length xs < 2 → same (take 2 xs) percents ≡ false
-comment-short [] h = refl
-comment-short (a ∷ []) h = and-false (eqb a 37)
-comment-short (a ∷ b ∷ bs) h = absurd (omega arith)
-
-pub comment-other : (xs : List ℕ) → (getD xs 0 0 ≡ 37 → ⊥) → same (take 2 xs) percents ≡ false
-comment-other [] h = refl
-comment-other (a ∷ []) h = and-false (eqb a 37)
-comment-other (a ∷ b ∷ bs) h = ap (λ (t : Bool). t && (eqb b 37 && true)) (ne-eqb a 37 h)
-
-pub comment-second : (xs : List ℕ) → 2 ≤ length xs → getD xs 0 0 ≡ 37 → same (take 2 xs) percents ≡ eqb (getD xs 1 0) 37
-comment-second [] long h = absurd (omega arith)
-comment-second (a ∷ []) long h = absurd (omega arith)
-comment-second (a ∷ b ∷ bs) long h = ap (λ (t : Bool). t && (eqb b 37 && true)) (eq-eqb a 37 h) ∙ and-true (eqb b 37)
-
-pub comment-ignored : (xs : List ℕ) → same (take 2 xs) percents ≡ true → ignored xs ≡ true
-unfolding ignored
-comment-ignored [] h = refl
-comment-ignored (a ∷ []) h = absurd (let z : _≡_ {A = ℕ} 0 1 = cc (and-false (eqb a 37), h) in omega arith)
-comment-ignored (a ∷ b ∷ bs) h = ap (λ (t : Bool). t || every white (a ∷ b ∷ bs)) h
 
 module _ (n : ℕ) where
   pub row-none : (xs : List ℕ) → length xs ≡ 0 → startsRow (text n xs) ≡ false

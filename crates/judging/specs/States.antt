@@ -1,5 +1,6 @@
 -- What a reading keeps: where it stands, as rules/Phases has it, and what it has counted.
 use Prim.Native.Nat.{ℕ, _+_}
+use mathlib.Core.Bool.{Bool, true, false}
 use mathlib.Core.List.{_++_}
 use lib.ListN.{length}
 use Rattle.rules.specs.Sentences.{Sentence, edgesOf}
@@ -42,19 +43,26 @@ stateOf count end phase =
 
 -- ---- what a reading has, wherever it stands
 
-abbrev pub tableIn : Phase → ℕ
-tableIn Start = 0
-tableIn Top = 0
-tableIn (InTable n rows) = n
-tableIn (InSentence t) = 0
-tableIn Behind = 0
+abbrev pub expectsNodes : Phase → Bool
+expectsNodes Start = false
+expectsNodes Top = false
+expectsNodes (InTable n rows) = false
+expectsNodes (InSentence t) = true
+expectsNodes Behind = false
 
-abbrev pub rowsIn : Phase → ℕ
-rowsIn Start = 0
-rowsIn Top = 0
-rowsIn (InTable n rows) = rows
-rowsIn (InSentence t) = 0
-rowsIn Behind = 0
+abbrev pub tableOpen : Phase → ℕ
+tableOpen Start = 0
+tableOpen Top = 0
+tableOpen (InTable n rows) = n
+tableOpen (InSentence t) = 0
+tableOpen Behind = 0
+
+abbrev pub rowsOpen : Phase → ℕ
+rowsOpen Start = 0
+rowsOpen Top = 0
+rowsOpen (InTable n rows) = rows
+rowsOpen (InSentence t) = 0
+rowsOpen Behind = 0
 
 abbrev pub tallyIn : Phase → Tally
 tallyIn Start = firstTally 0 0
@@ -65,8 +73,8 @@ tallyIn Behind = firstTally 0 0
 
 -- ---- one node more
 
-abbrev pub withWord : Tally → NodeSaid → Tally
-withWord t n =
+abbrev pub countedWord : Tally → NodeSaid → Tally
+countedWord t n =
     record {
       start = t .start;
       number = t .number;
@@ -77,8 +85,8 @@ withWord t n =
       «highest_parent» = larger (t .«highest_parent») (n .highest);
     }
 
-abbrev pub withPhrase : Tally → NodeSaid → Tally
-withPhrase t n =
+abbrev pub countedPhrase : Tally → NodeSaid → Tally
+countedPhrase t n =
     record {
       start = t .start;
       number = t .number;

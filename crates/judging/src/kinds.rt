@@ -1,26 +1,11 @@
 // The kinds of lines, by how they begin.
 ghost use mathlib.Core.Path.{_≡_};
 ghost use Prim.Native.Nat.{ℕ};
-ghost use lib.ListN.{take};
-ghost use Rattle.rules.specs.Lists.{same};
-ghost use Rattle.rules.specs.Bytes.{percents, classTable};
+ghost use Rattle.rules.specs.Bytes.{classTable};
 ghost use Rattle.rules.specs.Keywords.{hashAndDigits, startsRow, startsWord};
 use texts::same_text;
 
 const HASH: u8 = 35;
-
-// A line that begins with %% is ignored wherever it stands; its columns are not asked for.
-pub fn starts_comment(line: &[u8]) -> bool
-    ensures { λ r. ⌜ r ≡ same (take 2 (now (line .entry))) percents ⌝ }
-{
-    if line.len() < 2 {
-        return false;
-    }
-    if line[0] != b'%' {
-        return false;
-    }
-    line[1] == b'%'
-}
 
 // It begins with neither # nor white.
 pub fn starts_row(first: &[u8]) -> bool

@@ -3,7 +3,7 @@ ghost use mathlib.Core.Path.{_≡_};
 ghost use Prim.Native.Nat.{_+_, _≤_};
 ghost use Rattle.rules.specs.Numbers.{fileLimit};
 ghost use Rattle.rules.specs.Phases.{start};
-ghost use Rattle.judging.specs.States.{firstTally, tableIn, rowsIn, tallyIn, withWord, withPhrase, moved, stateOf};
+ghost use Rattle.judging.specs.States.{firstTally, expectsNodes, tableOpen, rowsOpen, tallyIn, countedWord, countedPhrase, moved, stateOf};
 use steps::NodeSaid;
 
 // A mark for each phrase number, 500 to 999.
@@ -53,8 +53,21 @@ pub fn first_tally(start: u32, number: u32) -> Tally
 
 // ---- what a reading has, wherever it stands
 
+// Whether words and phrases, or #EOS, can come next.
+pub fn expects_nodes(phase: Phase) -> bool
+    ensures { λ r. ⌜ r ≡ expectsNodes phase ⌝ }
+{
+    match phase {
+        Phase::Start => false,
+        Phase::Top => false,
+        Phase::InTable { table: _, rows: _ } => false,
+        Phase::InSentence(_) => true,
+        Phase::Behind => false,
+    }
+}
+
 pub fn table_in(phase: Phase) -> u32
-    ensures { λ r. ⌜ r ≡ tableIn phase ⌝ }
+    ensures { λ r. ⌜ r ≡ tableOpen phase ⌝ }
 {
     match phase {
         Phase::Start => 0,
@@ -66,7 +79,7 @@ pub fn table_in(phase: Phase) -> u32
 }
 
 pub fn rows_in(phase: Phase) -> u32
-    ensures { λ r. ⌜ r ≡ rowsIn phase ⌝ }
+    ensures { λ r. ⌜ r ≡ rowsOpen phase ⌝ }
 {
     match phase {
         Phase::Start => 0,
@@ -93,7 +106,7 @@ pub fn tally_in(phase: Phase) -> Tally
 
 pub fn with_word(t: Tally, node: NodeSaid) -> Tally
     requires { ⌜ (t .words ≤ fileLimit) × (t .edges + node .edges ≤ fileLimit) ⌝ }
-    ensures { λ r. ⌜ r ≡ withWord t node ⌝ }
+    ensures { λ r. ⌜ r ≡ countedWord t node ⌝ }
 {
     Tally {
         start: t.start,
@@ -108,7 +121,7 @@ pub fn with_word(t: Tally, node: NodeSaid) -> Tally
 
 pub fn with_phrase(t: Tally, node: NodeSaid) -> Tally
     requires { ⌜ (t .phrases ≤ fileLimit) × (t .edges + node .edges ≤ fileLimit) ⌝ }
-    ensures { λ r. ⌜ r ≡ withPhrase t node ⌝ }
+    ensures { λ r. ⌜ r ≡ countedPhrase t node ⌝ }
 {
     Tally {
         start: t.start,

@@ -2,3 +2,6 @@ pub mod Scan
 pub mod Lines
 pub mod LineSteps
 pub mod Variants
+pub mod Borders
+pub mod Passing
+pub mod FoundLines

@@ -1,9 +1,18 @@
-// Where a line ends, and whether it may be read.
+// Where a line ends, whether it may be read, and its columns.
+mod at_once;
+
 ghost use mathlib.Core.Path.{_≡_};
 ghost use Prim.Native.Nat.{_≤_};
 ghost use lib.ListN.{length};
 ghost use Rattle.rules.specs.Bytes.{classTable};
+ghost use Rattle.rules.specs.Numbers.{fileLimit};
 ghost use Rattle.lines.specs.LineEnds.{lineEnd};
+ghost use Rattle.lines.specs.NextLines.{lineEndOf, ListedBy};
+use at_once::AtOnce;
+use at_once::read_at_once;
+use columns::listing::Line;
+use columns::listing::Places;
+use columns::listing::read_line;
 
 // What is found of the line that starts at a place.
 pub enum LineEnd {
@@ -41,4 +50,48 @@ pub fn line_end(file: &[u8], from: usize, classes: &[u8; 256]) -> LineEnd
         at += 1;
     }
     LineEnd::Unended
+}
+
+// The line that starts at a place, or why it may not be read.
+pub enum NextLine {
+    Line(Line),
+    Unended,
+    Illegal,
+    TooLong,
+}
+
+// The line's end is looked for, then the reader lists its columns in `places`.
+fn read_twice(file: &[u8], from: usize, classes: &[u8; 256], places: &mut Places) -> NextLine
+    requires { ⌜ (from ≤ length (now file)) × (now classes ≡ classTable) × (length (now file) ≤ fileLimit) ⌝ }
+    ensures { λ r. ⌜ (lineEndOf r ≡ lineEnd (now (file .entry)) from) × ListedBy (now (file .entry)) from r (now (places .exit)) ⌝ }
+{
+    let found = line_end(file, from, classes);
+    match found {
+        LineEnd::At(end) => NextLine::Line(read_line(file, from, end, classes, places)),
+        LineEnd::Unended => NextLine::Unended,
+        LineEnd::Illegal => NextLine::Illegal,
+        LineEnd::TooLong => NextLine::TooLong,
+    }
+}
+
+// The columns of a line that may be read are listed in `places`. The lines of words and phrases, nearly all of a file, are
+// first tried in one pass.
+pub fn next_line(
+    file: &[u8],
+    from: usize,
+    of_node: bool,
+    classes: &[u8; 256],
+    places: &mut Places,
+) -> NextLine
+    requires { ⌜ (from ≤ length (now file)) × (now classes ≡ classTable) × (length (now file) ≤ fileLimit) ⌝ }
+    ensures { λ r. ⌜ (lineEndOf r ≡ lineEnd (now (file .entry)) from) × ListedBy (now (file .entry)) from r (now (places .exit)) ⌝ }
+{
+    if !of_node {
+        return read_twice(file, from, classes, places);
+    }
+    let once = read_at_once(file, from, classes, places);
+    if let AtOnce::Line(line) = once {
+        return NextLine::Line(line);
+    }
+    read_twice(file, from, classes, places)
 }

@@ -19,12 +19,12 @@ use Rattle.rules.specs.Phases.{lineAt, taken, judged, after, step}
 use Rattle.rules.specs.Sheets.{edgeList}
 use Rattle.rules.specs.Survey.{surveyOf}
 use Rattle.rules.specs.Opening.{afterOpening, noEdges}
-use Rattle.list_owner.specs.Promise.{firstOf}
+use Rattle.list_owner.specs.Promise.{firstParentOf}
 
 abbrev pub asked : List ℕ
 asked =
     bytes "#FORMAT 3\n#BOT ORIGIN\n1 lab\n#EOT ORIGIN\n#BOT EDITOR\n2 kim Kim\n#EOT EDITOR\n#BOS 7 2 0 1\nJa ITJ -- -- 500 SB 501\n#500 S -- -- 501\n#501 S -- -- 0\n#EOS 7\n"
 
-pub parent-told : firstOf (afterOpening asked 7 (replicate 10759 0) (replicate 8192 0) (replicate 11009 0) noEdges) .parent ≡ 501
+pub parent-told : firstParentOf (afterOpening asked 7 (replicate 10759 0) (replicate 8192 0) (replicate 11009 0) noEdges) .parent ≡ 501
 unfolding ignored rightTrim trimFrom frontBytes behindFrom columnsFrom fields comment valueFrom decimal broken checked hasId hasTag known originRow editorRow tagRow headingOf endRules endOf pairs paired parentsWritten tagsShort tagsKnown parentsRise wordOf phraseOf formatOf tableOpened tableEnded firstColumn atStart behindOne atTop amongRows amongNodes lineAt taken judged after step surveyOf edgeList afterOpening
 parent-told = refl

@@ -8,7 +8,7 @@ use Rattle.rules.specs.Opening.{Opened, afterOpening, noEdges}
 use Rattle.edges.specs.declared.Edge.{Edge}
 use Rattle.edges.specs.Promise.{asRecord, asRecords}
 use Rattle.edges.specs.Promise as lent
-use Rattle.list_owner.specs.Promise.{First, firstOf, outcome}
+use Rattle.list_owner.specs.Promise.{FirstParent, firstParentOf, outcome}
 
 abbrev pub emptyEdge : Edge
 emptyEdge = record { child = 0; label = 0; «label_len» = 0; parent = 0 }
@@ -32,7 +32,7 @@ first-parent (e ∷ es) = refl
 module _ (file : List ℕ) (n : ℕ) (tables seen sheet : List ℕ) where
   pub owned-first : (r : ℕ) (tables′ seen′ sheet′ : List ℕ) (es : List Edge)
       → lent.outcome r tables′ seen′ sheet′ es ≡ afterOpening file n tables seen sheet (asRecords emptyList)
-      → outcome (getD es 0 emptyEdge .parent) tables′ seen′ sheet′ ≡ firstOf (afterOpening file n tables seen sheet noEdges)
+      → outcome (getD es 0 emptyEdge .parent) tables′ seen′ sheet′ ≡ firstParentOf (afterOpening file n tables seen sheet noEdges)
   owned-first r tables′ seen′ sheet′ es e =
-      ap (λ (p : ℕ). outcome p tables′ seen′ sheet′) (first-parent es) ∙ ap firstOf e
-      ∙ ap (λ (zs : List EdgeRecord). firstOf (afterOpening file n tables seen sheet zs)) as-empty
+      ap (λ (p : ℕ). outcome p tables′ seen′ sheet′) (first-parent es) ∙ ap firstParentOf e
+      ∙ ap (λ (zs : List EdgeRecord). firstParentOf (afterOpening file n tables seen sheet zs)) as-empty

@@ -1,7 +1,7 @@
 // A program that owns a list of edge records: it lends the list to an opening, has it back filled, and reads a record of it.
 ghost use mathlib.Core.Path.{_≡_};
 ghost use Rattle.rules.specs.Opening.{afterOpening, noEdges};
-ghost use Rattle.list_owner.specs.Promise.{outcome, firstOf};
+ghost use Rattle.list_owner.specs.Promise.{outcome, firstParentOf};
 use edges::Edge;
 
 // The parent of the sentence's first secondary edge; 0 where there is none.
@@ -12,7 +12,7 @@ fn first_secondary_parent(
     seen: &mut [u8],
     sheet: &mut [u32],
 ) -> u32
-    ensures { λ r. ⌜ outcome r (now (tables .exit)) (now (seen .exit)) (now (sheet .exit)) ≡ firstOf (afterOpening (now (file .entry)) number (now (tables .entry)) (now (seen .entry)) (now (sheet .entry)) noEdges) ⌝ }
+    ensures { λ r. ⌜ outcome r (now (tables .exit)) (now (seen .exit)) (now (sheet .exit)) ≡ firstParentOf (afterOpening (now (file .entry)) number (now (tables .entry)) (now (seen .entry)) (now (sheet .entry)) noEdges) ⌝ }
 {
     let mut list = [Edge {
         child: 0,

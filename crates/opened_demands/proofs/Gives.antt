@@ -16,7 +16,7 @@ use Rattle.rules.specs.Index.{beginning}
 use Rattle.rules.specs.SentenceFrom.{sentenceFrom}
 use Rattle.rules.specs.Opening.{Opened, OpenedAt, sentenceOf, allFit, sentenceFits, opened, openedAs, afterOpening, afterOpeningAt}
 use Rattle.rules.proofs.AtIndex.{at-index, not-at-index}
-use Rattle.opening.specs.FlatLists.{flat, records, flatSize}
+use Rattle.opening.specs.FlatLists.{flat, edgeRecords, flatSize}
 use Rattle.opening.specs.Promise.{OpenedFlat, flattened, afterOpeningFlat, OpenedFlatAt, flattenedAt, afterOpeningFlatAt}
 
 pub record Given (o : Option Sentence) (sheet edges : List ℕ) : Type 0 where
@@ -42,7 +42,7 @@ module _ (file : List ℕ) (n : ℕ) (tables seen sheet edges : List ℕ) where
       → Given (sentenceOf n (surveyOf file .handed)) (afterOpeningFlat file n tables seen sheet edges .sheet) (afterOpeningFlat file n tables seen sheet edges .edges)
   unfolding afterOpeningFlat afterOpening
   zero-gives e =
-      zero-opened (surveyOf file) (eqb (length edges) flatSize) (allFit tables seen sheet (records edgeLimit edges)) (fileFits file) (sentenceOf n (surveyOf file .handed))
+      zero-opened (surveyOf file) (eqb (length edges) flatSize) (allFit tables seen sheet (edgeRecords edgeLimit edges)) (fileFits file) (sentenceOf n (surveyOf file .handed))
       _ _ _ refl refl refl e
 
 -- the sentence of a number begins at a place
@@ -70,5 +70,5 @@ module _ (file : List ℕ) (at : ℕ) (sheet edges : List ℕ) where
       → Given (sentenceFrom file at) (afterOpeningFlatAt file at sheet edges .sheet) (afterOpeningFlatAt file at sheet edges .edges)
   unfolding afterOpeningFlatAt afterOpeningAt
   zero-gives-at e =
-      zero-opened-at (eqb (length edges) flatSize) (sentenceFits sheet (records edgeLimit edges)) (fileFits file) (sentenceFrom file at)
+      zero-opened-at (eqb (length edges) flatSize) (sentenceFits sheet (edgeRecords edgeLimit edges)) (fileFits file) (sentenceFrom file at)
       _ _ _ refl refl refl e

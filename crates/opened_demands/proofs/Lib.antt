@@ -1,4 +1,3 @@
 pub mod Gives
 pub mod SheetsClimb
 pub mod Outcomes
-pub mod CutOpened

@@ -5,14 +5,13 @@ use mathlib.Core.Path.{_≡_, refl, sym, ap, _∙_, subst}
 use mathlib.Core.Logic.{_⊎_, inl, inr}
 use mathlib.Core.Bool.{true, _&&_}
 use mathlib.Core.Option.{some}
-use mathlib.Core.List.{List, [], _∷_, _++_, map}
+use mathlib.Core.List.{List, [], _∷_, map}
 use lib.ListN.{length, replicate}
 use lib.Dec.{leb}
 use borrow.Author.Tests.{leb-true}
 use Rattle.rules.specs.Lists.{joined, Each}
 use Rattle.rules.specs.Numbers.{edgeLimit}
-use Rattle.rules.specs.Sentences.{Edge, Node, Sentence, listed}
-use Rattle.rules.specs.Reading.{Handed}
+use Rattle.rules.specs.Sentences.{Edge, Node, Sentence}
 use Rattle.rules.specs.Sheets.{nodeRoom, nodes, sentenceSheet, EdgeRecord, noEdge, edgeRecord, edgeList}
 use Rattle.rules.specs.Climbing.{parentIn, parentOn, Climbs}
 use Rattle.rules.specs.SentenceFrom.{sentenceFrom}
@@ -21,21 +20,20 @@ use Rattle.rules.proofs.Conjunctions.{and-left, and-right}
 use Rattle.rules.proofs.EachElement.{each-then, each-joined, each-map}
 use Rattle.rules.proofs.NoGap.{listed-is}
 use Rattle.rules.proofs.NodeNumbers.{numbered-apart}
-use Rattle.rules.proofs.ReadFromPlace.{begun-at, first-keeps}
-use Rattle.rules.proofs.Climbable.{Climbable, PhaseRises, one-rises}
+use Rattle.rules.proofs.Climbable.{Climbable}
 use Rattle.rules.proofs.Chains.{ZeroOrAbove, climbed-same, climbs-same}
 use Rattle.rules.proofs.ParentsClimb.{parent-above, sentence-climbs}
-use Rattle.rules.proofs.ParentsOnSheet.{parent-on-sheet}
-use Rattle.rules.proofs.BeginsThere.{stands-there}
-use Rattle.opening.specs.FlatLists.{flat, records}
+use Rattle.rules.proofs.ParentsOnSheet.{parent-in-room, parent-on-sheet}
+use Rattle.rules.proofs.BeginsThere.{its-climbing, stands-there}
+use Rattle.opening.specs.FlatLists.{flat, edgeRecords}
 use Rattle.opening.specs.Promise.{OpenedFlat, afterOpeningFlat, OpenedFlatAt, afterOpeningFlatAt}
-use Rattle.opened_demands.specs.ClimbingSheets.{phrasesOn, PhraseAbove, SheetClimbs}
+use Rattle.opened_demands.specs.ClimbingSheets.{phrasesOn, PhraseAboveOn, SheetClimbs}
 use Rattle.opened_demands.proofs.Gives.{Given, zero-gives, begins-somewhere, zero-gives-at}
 
 -- ---- records lent as numbers, zeros behind them
 
-each-record : (P : EdgeRecord → Type 0) → P noEdge → (count : ℕ) (es : List EdgeRecord) → Each P es → Each P (records count (flat es))
-unfolding records flat
+each-record : (P : EdgeRecord → Type 0) → P noEdge → (count : ℕ) (es : List EdgeRecord) → Each P es → Each P (edgeRecords count (flat es))
+unfolding edgeRecords flat
 each-record P z zero es a = tt
 each-record P z (suc count) [] a = (z, each-record P z count [] tt)
 each-record P z (suc count) (e ∷ es) a = (a .0, each-record P z count es (a .1))
@@ -51,28 +49,19 @@ module _ (file : List ℕ) (at : ℕ) (s : Sentence) (e : sentenceFrom file at �
   sheet = sentenceSheet s
 
   climbable : Climbable s
-  climbable =
-      first-keeps file (λ bs. PhaseRises) (λ (h : Handed). Climbable (h .sentence)) (λ done l rest phase used parts o k. one-rises done l phase used k) at s
-      (begun-at file at s e) (record { words = tt; phrases = tt; apart = tt })
+  climbable = its-climbing file at s e
 
   phrases-on : phrasesOn sheet ≡ length (s .phrases)
   unfolding sentenceSheet
   phrases-on = refl
 
-  parent-in-room : (n : ℕ) → parentIn s n < nodeRoom
-  parent-in-room n = by (parent-above s climbable n)
-    where
-      by : ZeroOrAbove (length (s .phrases)) n (parentIn s n) → parentIn s n < nodeRoom
-      by (inl e) = omega (arith, e)
-      by (inr a) = omega (arith, a .highest)
-
-  zero-or-above : (n : ℕ) → n < nodeRoom → (parentOn sheet n ≡ 0) ⊎ PhraseAbove sheet n (parentOn sheet n)
+  zero-or-above : (n : ℕ) → n < nodeRoom → (parentOn sheet n ≡ 0) ⊎ PhraseAboveOn sheet n (parentOn sheet n)
   zero-or-above n h = by (parent-above s climbable n)
     where
       same : parentOn sheet n ≡ parentIn s n
       same = parent-on-sheet s n h
 
-      by : ZeroOrAbove (length (s .phrases)) n (parentIn s n) → (parentOn sheet n ≡ 0) ⊎ PhraseAbove sheet n (parentOn sheet n)
+      by : ZeroOrAbove (length (s .phrases)) n (parentIn s n) → (parentOn sheet n ≡ 0) ⊎ PhraseAboveOn sheet n (parentOn sheet n)
       by (inl z) = inl (same ∙ z)
       by (inr a) =
           inr (record {
@@ -85,12 +74,12 @@ module _ (file : List ℕ) (at : ℕ) (s : Sentence) (e : sentenceFrom file at �
   climbs-from n h =
       subst (λ (count : ℕ). Climbs (parentOn sheet) (suc count) n) (sym phrases-on)
       (climbs-same (parentIn s) (parentOn sheet) (suc (length (s .phrases))) n
-      (λ j. climbed-same (parentIn s) (parentOn sheet) nodeRoom (parent-on-sheet s) (λ m l. parent-in-room m) j n h) (sentence-climbs s climbable n))
+      (λ j. climbed-same (parentIn s) (parentOn sheet) nodeRoom (parent-on-sheet s) (λ m l. parent-in-room s climbable m) j n h) (sentence-climbs s climbable n))
 
   abbrev EdgeAbove : EdgeRecord → Type 0
-  EdgeAbove e = (e ≡ noEdge) ⊎ PhraseAbove sheet (e .child) (e .parent)
+  EdgeAbove e = (e ≡ noEdge) ⊎ PhraseAboveOn sheet (e .child) (e .parent)
 
-  listed-above : (n parent : ℕ) → ListedAbove s n parent → PhraseAbove sheet n parent
+  listed-above : (n parent : ℕ) → ListedAbove s n parent → PhraseAboveOn sheet n parent
   listed-above n parent a =
       let ps = s .phrases in
       let b : (leb 500 parent && leb parent (499 + length ps)) ≡ true = sym (listed-is ps (numbered-apart ps (climbable .numbered) (climbable .apart)) (climbable .whole) parent) ∙ a .0 in

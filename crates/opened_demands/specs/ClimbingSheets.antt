@@ -8,20 +8,20 @@ use Rattle.rules.specs.Lists.{Each}
 use Rattle.rules.specs.Numbers.{edgeLimit}
 use Rattle.rules.specs.Sheets.{nodeRoom, EdgeRecord, noEdge}
 use Rattle.rules.specs.Climbing.{parentOn, Climbs}
-use Rattle.opening.specs.FlatLists.{records}
+use Rattle.opening.specs.FlatLists.{edgeRecords}
 
 -- how many phrases the sheet has; their records stand from 500 on
 abbrev pub phrasesOn : List ℕ → ℕ
 phrasesOn sheet = getD sheet 7 0
 
 -- the number of a phrase on the sheet, larger than the node's
-pub record PhraseAbove (sheet : List ℕ) (node parent : ℕ) : Type 0 where
+pub record PhraseAboveOn (sheet : List ℕ) (node parent : ℕ) : Type 0 where
   pub larger : node < parent
   pub phrase : 500 ≤ parent
   pub there : parent < 500 + phrasesOn sheet
 
 -- of every record of the sheet, and of every record of the list
 pub record SheetClimbs (sheet edges : List ℕ) : Type 0 where
-  pub parents : (n : ℕ) → n < nodeRoom → (parentOn sheet n ≡ 0) ⊎ PhraseAbove sheet n (parentOn sheet n)
+  pub parents : (n : ℕ) → n < nodeRoom → (parentOn sheet n ≡ 0) ⊎ PhraseAboveOn sheet n (parentOn sheet n)
   pub chains : (n : ℕ) → n < nodeRoom → Climbs (parentOn sheet) (suc (phrasesOn sheet)) n
-  pub secondary : Each (λ (e : EdgeRecord). (e ≡ noEdge) ⊎ PhraseAbove sheet (e .child) (e .parent)) (records edgeLimit edges)
+  pub secondary : Each (λ (e : EdgeRecord). (e ≡ noEdge) ⊎ PhraseAboveOn sheet (e .child) (e .parent)) (edgeRecords edgeLimit edges)

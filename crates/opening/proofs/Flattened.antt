@@ -11,31 +11,31 @@ use Rattle.rules.specs.Sentences.{Node, Sentence}
 use Rattle.rules.specs.Sheets.{filledUp, nodes, EdgeRecord, noEdge, edgeRecord, edgeList}
 use Rattle.rules.proofs.Elements.{map-append, map-map, joined-append}
 use Rattle.sentence_sheet.specs.FlatEdges.{edgeWidth, edgeNumbers, edgesAmong, flatEdges}
-use Rattle.opening.specs.FlatLists.{recordNumbers, flat, firstRecord, records, flatSize}
+use Rattle.opening.specs.FlatLists.{edgeFields, flat, firstRecord, edgeRecords, flatSize}
 
 -- ---- numbers taken for records, and back
 
-pub length-records : (count : ℕ) (ns : List ℕ) → length (records count ns) ≡ count
-unfolding records
+pub length-records : (count : ℕ) (ns : List ℕ) → length (edgeRecords count ns) ≡ count
+unfolding edgeRecords
 length-records zero ns = refl
 length-records (suc count) ns = ap suc (length-records count (drop edgeWidth ns))
 
-first-four : (ns : List ℕ) → edgeWidth ≤ length ns → recordNumbers (firstRecord ns) ++ drop edgeWidth ns ≡ ns
+first-four : (ns : List ℕ) → edgeWidth ≤ length ns → edgeFields (firstRecord ns) ++ drop edgeWidth ns ≡ ns
 first-four [] h = absurd (omega arith)
 first-four (a ∷ []) h = absurd (omega arith)
 first-four (a ∷ b ∷ []) h = absurd (omega arith)
 first-four (a ∷ b ∷ c ∷ []) h = absurd (omega arith)
 first-four (a ∷ b ∷ c ∷ d ∷ ns) h = refl
 
-pub flat-records : (count : ℕ) (ns : List ℕ) → length ns ≡ edgeWidth * count → flat (records count ns) ≡ ns
-unfolding records flat
+pub flat-records : (count : ℕ) (ns : List ℕ) → length ns ≡ edgeWidth * count → flat (edgeRecords count ns) ≡ ns
+unfolding edgeRecords flat
 flat-records zero [] e = refl
 flat-records zero (n ∷ ns) e = absurd (omega arith)
 flat-records (suc count) ns e =
     let m : edgeWidth * suc count ≡ edgeWidth * count + edgeWidth = mul-suc edgeWidth count in
     let four : edgeWidth ≤ length ns = omega arith in
     let l : length (drop edgeWidth ns) ≡ edgeWidth * count = length-drop edgeWidth ns ∙ (let z : length ns - edgeWidth ≡ edgeWidth * count = omega arith in z) in
-    ap (λ (rest : List ℕ). recordNumbers (firstRecord ns) ++ rest) (flat-records count (drop edgeWidth ns) l)
+    ap (λ (rest : List ℕ). edgeFields (firstRecord ns) ++ rest) (flat-records count (drop edgeWidth ns) l)
     ∙ first-four ns four
 
 -- ---- zeros stay zeros
@@ -59,8 +59,8 @@ length-flat (e ∷ es) =
 flat-filled : (es : List EdgeRecord) → flat (filledUp edgeLimit noEdge es) ≡ filledUp flatSize 0 (flat es)
 unfolding flat
 flat-filled es =
-    ap joined (map-append recordNumbers es (replicate (edgeLimit - length es) noEdge))
-    ∙ joined-append (map recordNumbers es) (map recordNumbers (replicate (edgeLimit - length es) noEdge))
+    ap joined (map-append edgeFields es (replicate (edgeLimit - length es) noEdge))
+    ∙ joined-append (map edgeFields es) (map edgeFields (replicate (edgeLimit - length es) noEdge))
     ∙ ap (λ (rest : List ℕ). flat es ++ rest) (flat-none (edgeLimit - length es))
     ∙ ap (λ (k : ℕ). flat es ++ replicate k 0)
     (let l : length (flat es) ≡ edgeWidth * length es = length-flat es in
@@ -73,9 +73,9 @@ flat-among [] = refl
 flat-among (n ∷ ns) =
     let es : List EdgeRecord = map (edgeRecord (n .number)) (n .secondary) in
     let rest : List EdgeRecord = joined (map (λ (n : Node). map (edgeRecord (n .number)) (n .secondary)) ns) in
-    ap joined (map-append recordNumbers es rest)
-    ∙ joined-append (map recordNumbers es) (map recordNumbers rest)
-    ∙ ap₂ (λ (a b : List ℕ). a ++ b) (ap joined (map-map recordNumbers (edgeRecord (n .number)) (n .secondary))) (flat-among ns)
+    ap joined (map-append edgeFields es rest)
+    ∙ joined-append (map edgeFields es) (map edgeFields rest)
+    ∙ ap₂ (λ (a b : List ℕ). a ++ b) (ap joined (map-map edgeFields (edgeRecord (n .number)) (n .secondary))) (flat-among ns)
     ∙ sym (joined-append (map (edgeNumbers (n .number)) (n .secondary)) (edgesAmong ns))
 
 pub flat-list : (s : Sentence) → flat (edgeList s) ≡ flatEdges (edgesAmong (nodes s))

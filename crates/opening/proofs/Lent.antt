@@ -16,16 +16,16 @@ use Rattle.rules.specs.Survey.{Survey, surveyOf, sheetsFit, fileFits}
 use Rattle.rules.specs.SentenceFrom.{sentenceFrom}
 use Rattle.rules.specs.Opening.{sentenceOf, opened, openedAs, afterOpening, afterOpeningAt}
 use Rattle.rules.proofs.Conjunctions.{and-right}
-use Rattle.opening.specs.FlatLists.{flat, records, flatSize}
+use Rattle.opening.specs.FlatLists.{flat, edgeRecords, flatSize}
 use Rattle.opening.specs.Promise.{allFlatFit, flatFits, OpenedFlat, flattened, afterOpeningFlat, outcome, OpenedFlatAt, flattenedAt, afterOpeningFlatAt, outcomeAt}
 use Rattle.opening.proofs.Flattened.{length-records, flat-records}
 
 -- the list's length is tested as numbers; as records it then has its own
 module _ (front : Bool) (edges : List ℕ) where
-  pub records-fit : eqb (length edges) flatSize ≡ true → (front && eqb (length (records edgeLimit edges)) edgeLimit) ≡ (front && eqb (length edges) flatSize)
+  pub records-fit : eqb (length edges) flatSize ≡ true → (front && eqb (length (edgeRecords edgeLimit edges)) edgeLimit) ≡ (front && eqb (length edges) flatSize)
   records-fit e = rw (length-records edgeLimit edges, e)
 
-back-flat : (edges : List ℕ) → eqb (length edges) flatSize ≡ true → flat (records edgeLimit edges) ≡ edges
+back-flat : (edges : List ℕ) → eqb (length edges) flatSize ≡ true → flat (edgeRecords edgeLimit edges) ≡ edges
 back-flat edges e = flat-records edgeLimit edges (eqb-true (length edges) flatSize e)
 
 -- ---- by the sentence's number
@@ -42,7 +42,7 @@ module _ (file : List ℕ) (n : ℕ) (tables seen sheet edges : List ℕ) where
   Promised r tables′ seen′ sheet′ edges′ = outcome r tables′ seen′ sheet′ edges′ ≡ afterOpeningFlat file n tables seen sheet edges
 
   abbrev es : List EdgeRecord
-  es = records edgeLimit edges
+  es = edgeRecords edgeLimit edges
 
   abbrev front : Bool
   front = sheetsFit tables seen && eqb (length sheet) sentenceSheetSize
@@ -83,7 +83,7 @@ module _ (file : List ℕ) (at : ℕ) (sheet edges : List ℕ) where
   unfolding afterOpeningFlatAt afterOpeningAt
   unfit-at e = go (eqb (length edges) flatSize) refl where
     go : (t : Bool) → eqb (length edges) flatSize ≡ t → outcomeAt 1 sheet edges
-        ≡ pick t (flattenedAt (afterOpeningAt file at sheet (records edgeLimit edges))) (outcomeAt 1 sheet edges)
+        ≡ pick t (flattenedAt (afterOpeningAt file at sheet (edgeRecords edgeLimit edges))) (outcomeAt 1 sheet edges)
     go true l = rw (records-fit (eqb (length sheet) sentenceSheetSize) edges l, e, back-flat edges l)
     go false l = refl
 

@@ -7,19 +7,19 @@ use Rattle.rules.specs.Numbers.{edgeLimit}
 use Rattle.rules.specs.Sheets.{EdgeRecord}
 use Rattle.sentence_sheet.specs.FlatEdges.{edgeWidth}
 
-abbrev pub recordNumbers : EdgeRecord → List ℕ
-recordNumbers e = e .child ∷ e .labelStart ∷ e .labelLength ∷ e .parent ∷ []
+abbrev pub edgeFields : EdgeRecord → List ℕ
+edgeFields e = e .child ∷ e .labelStart ∷ e .labelLength ∷ e .parent ∷ []
 
 unfoldable pub flat : List EdgeRecord → List ℕ
-flat es = joined (map recordNumbers es)
+flat es = joined (map edgeFields es)
 
 abbrev pub firstRecord : List ℕ → EdgeRecord
 firstRecord ns = record { child = getD ns 0 0; labelStart = getD ns 1 0; labelLength = getD ns 2 0; parent = getD ns 3 0 }
 
 -- as many records as count
-unfoldable pub records : ℕ → List ℕ → List EdgeRecord
-records zero ns = []
-records (suc count) ns = firstRecord ns ∷ records count (drop edgeWidth ns)
+unfoldable pub edgeRecords : ℕ → List ℕ → List EdgeRecord
+edgeRecords zero ns = []
+edgeRecords (suc count) ns = firstRecord ns ∷ edgeRecords count (drop edgeWidth ns)
 
 abbrev pub flatSize : ℕ
 flatSize = edgeLimit * edgeWidth

@@ -13,7 +13,7 @@ use Rattle.rules.specs.SentenceFrom.{sentenceFrom}
 use Rattle.rules.specs.Sheets.{sentenceSheetSize}
 use Rattle.rules.specs.Survey.{sheetsFit}
 use Rattle.rules.specs.Opening.{Opened, OpenedAt, afterOpening, afterOpeningAt}
-use Rattle.opening.specs.FlatLists.{flat, records, flatSize}
+use Rattle.opening.specs.FlatLists.{flat, edgeRecords, flatSize}
 
 -- ---- by the sentence's number
 
@@ -34,16 +34,16 @@ flattened o = record { answer = o .answer; tables = o .tables; seen = o .seen; s
 unfoldable pub afterOpeningFlat : List ℕ → ℕ → List ℕ → List ℕ → List ℕ → List ℕ → OpenedFlat
 afterOpeningFlat file n tables seen sheet edges =
     pick (eqb (length edges) flatSize)
-    (flattened (afterOpening file n tables seen sheet (records edgeLimit edges)))
+    (flattened (afterOpening file n tables seen sheet (edgeRecords edgeLimit edges)))
     (record { answer = 1; tables = tables; seen = seen; sheet = sheet; edges = edges })
 
 abbrev pub outcome : ℕ → List ℕ → List ℕ → List ℕ → List ℕ → OpenedFlat
 outcome r tables seen sheet edges = record { answer = r; tables = tables; seen = seen; sheet = sheet; edges = edges }
 
 -- the sentence whose beginning is noted so: one more than the place of its first line, or 0
-abbrev pub begunAt : List ℕ → ℕ → Option Sentence
-begunAt file zero = none
-begunAt file (suc at) = sentenceFrom file at
+abbrev pub notedSentence : List ℕ → ℕ → Option Sentence
+notedSentence file zero = none
+notedSentence file (suc at) = sentenceFrom file at
 
 -- ---- by the place of its first line
 
@@ -61,7 +61,7 @@ flattenedAt o = record { answer = o .answer; sheet = o .sheet; edges = flat (o .
 unfoldable pub afterOpeningFlatAt : List ℕ → ℕ → List ℕ → List ℕ → OpenedFlatAt
 afterOpeningFlatAt file at sheet edges =
     pick (eqb (length edges) flatSize)
-    (flattenedAt (afterOpeningAt file at sheet (records edgeLimit edges)))
+    (flattenedAt (afterOpeningAt file at sheet (edgeRecords edgeLimit edges)))
     (record { answer = 1; sheet = sheet; edges = edges })
 
 abbrev pub outcomeAt : ℕ → List ℕ → List ℕ → OpenedFlatAt

@@ -8,10 +8,10 @@ ghost use Rattle.rules.specs.Sheets.{sentenceSheetSize};
 ghost use Rattle.rules.specs.SentenceFrom.{sentenceFrom};
 ghost use Rattle.rules.specs.Opening.{openedAs};
 ghost use Rattle.opening.specs.FlatLists.{flatSize};
-ghost use Rattle.opening.specs.Promise.{begunAt, flatFits, outcome, afterOpeningFlat, outcomeAt, flattenedAt, afterOpeningFlatAt};
+ghost use Rattle.opening.specs.Promise.{notedSentence, flatFits, outcome, afterOpeningFlat, outcomeAt, flattenedAt, afterOpeningFlatAt};
 use steps::refusals;
 
-fn sentence_fits(sheet: &[u32], edges: &[u32]) -> bool
+pub fn sentence_fits(sheet: &[u32], edges: &[u32]) -> bool
     ensures { λ r. ⌜ r ≡ flatFits (now (sheet .entry)) (now (edges .entry)) ⌝ }
 {
     if sheet.len() != sentence_sheet::SIZE {
@@ -34,7 +34,7 @@ fn open_there(file: &[u8], place: usize, sheet: &mut [u32], edges: &mut [u32]) -
 // `begin` is one more than the place of the sentence's first line, or 0 where there is none.
 fn open_begun(file: &[u8], begin: u32, sheet: &mut [u32], edges: &mut [u32]) -> u32
     requires { ⌜ (length (now file) ≤ fileLimit) × (length (now sheet) ≡ sentenceSheetSize) × (length (now edges) ≡ flatSize) ⌝ }
-    ensures { λ r. ⌜ outcomeAt r (now (sheet .exit)) (now (edges .exit)) ≡ flattenedAt (openedAs (begunAt (now (file .entry)) begin)) ⌝ }
+    ensures { λ r. ⌜ outcomeAt r (now (sheet .exit)) (now (edges .exit)) ≡ flattenedAt (openedAs (notedSentence (now (file .entry)) begin)) ⌝ }
 {
     if begin == 0 {
         table_sheet::clear(sheet);

@@ -21,14 +21,15 @@ use Rattle.rules.specs.Reading.{Reading, begin, numbers, ended, read, verdict}
 use Rattle.rules.specs.Index.{beginnings}
 use Rattle.rules.proofs.ReadLines.{read-part, read-fault}
 use Rattle.lines.specs.LineEnds.{firstLine, lineEnd, lineRefusal}
-use Rattle.lines.specs.declared.LineEnd.{LineEnd}
-use Rattle.lines.specs.declared.LineEnd.the-variants.{At, Unended, Illegal, TooLong}
-use Rattle.lines.proofs.LineEnd.{the-type}
+use Rattle.lines.specs.NextLines.{lineEndOf}
+use Rattle.lines.specs.declared.NextLine.{NextLine}
+use Rattle.lines.specs.declared.NextLine.the-variants.{Line, Unended, Illegal, TooLong}
+use Rattle.lines.proofs.NextLine.{the-type}
 use Rattle.lines.proofs.Lines.{unended-none}
 use Rattle.seen.proofs.SeenSets.{length-seen-set}
 use Rattle.table_sheet.proofs.OpenSheets.{sheet-given-up, count-of-table}
 use Rattle.steps.specs.declared.Fault.{Fault}
-use Rattle.judging.specs.States.{phaseOf, stateOf, tableIn, tallyIn}
+use Rattle.judging.specs.States.{phaseOf, stateOf, tableOpen, tallyIn}
 use Rattle.reading.specs.Effects.{Kept, kept}
 use Rattle.reading.specs.Closing.{reachedAt, stateAfter, faultSaid, reachedBy, closingNumber, givenUp, Walked}
 use Rattle.judging.specs.declared.state.State.{State}
@@ -94,7 +95,7 @@ module _ (file ns : List ℕ) where
   gives-up (inSentence p s) k = refl
   gives-up (behindSentence p) k = refl
 
-  seat : (ph : Phase) → Known file ns ph → tableIn (phaseOf ph) < tableCount
+  seat : (ph : Phase) → Known file ns ph → tableOpen (phaseOf ph) < tableCount
   seat start k = omega arith
   seat (top p) k = omega arith
   seat (inTable p n rs) k = k .place
@@ -166,8 +167,8 @@ module _ (file : List ℕ) (from size at : ℕ) (k : Kept) (g : Going file from 
   abbrev unread : List ℕ
   unread = 1 ∷ 2 ∷ 3 ∷ []
 
-  pub stop-unread : at < length file → (found : LineEnd) → lineEnd file at ≡ found → OneOf unread (tagOf the-type found) → Stops (reachedAt (k .state) (lineRefusal found) at)
-  stop-unread h (At e) q n = absurd (not-among 0 unread refl n)
+  pub stop-unread : at < length file → (found : NextLine) → lineEnd file at ≡ lineEndOf found → OneOf unread (tagOf the-type found) → Stops (reachedAt (k .state) (lineRefusal (lineEndOf found)) at)
+  stop-unread h (Line l) q n = absurd (not-among 0 unread refl n)
   stop-unread h Unended q n =
       let l = drop at file in
       let some : 0 < length (reverse l ++ r .part) = rw (g .unbegun, append-nil) (omega (arith, length-reverse l, length-drop at file)) in

@@ -3,8 +3,6 @@
 use Prim.Native.Nat.{ℕ, suc, _+_, _≤_, _<_}
 use native.Mathlib.Omega.{arith}
 use mathlib.Core.Path.{_≡_, refl, sym, ap, _∙_, subst}
-use mathlib.Core.Bool.{true}
-use mathlib.Core.Logic.{inl}
 use mathlib.Core.List.{List, [], _∷_, _++_}
 use lib.ListN.{length, drop}
 use types.Run.{OneOf}
@@ -27,13 +25,12 @@ use Rattle.steps.specs.declared.Fault.{Fault}
 use Rattle.steps.specs.declared.Step.{Step}
 use Rattle.steps.specs.declared.Step.the-variants as steps
 use Rattle.steps.proofs.Step.{the-type}
-use Rattle.reading.specs.Effects.{Kept, kept, effect, begunBy, Applicable}
+use Rattle.reading.specs.Effects.{Kept, kept, effect, notedBy, Applicable}
 use Rattle.judging.specs.Judging.{judgedBy, Judgeable}
 use Rattle.judging.specs.declared.state.State.{State}
 use Rattle.reading.specs.Closing.{reachedAt, faultAt, Walked}
 use Rattle.reading.proofs.Keeping.{keptOf, Tied}
 use Rattle.reading.proofs.Moving.{handing, RowSound, Left, MovesBy, chosen, ignored-moves, line-moves}
-use Rattle.judging.proofs.FirstColumns.{judged-ignored}
 use Rattle.judging.proofs.SameTaking.{same-taking, judgeable}
 use Rattle.lines.proofs.Variants.{not-among}
 use Rattle.lines.proofs.LineSteps.{lineRead, lineHere, taken-step}
@@ -189,8 +186,8 @@ module _ (file : List ℕ) (from size at : ℕ) (k : Kept) (g : Going file from 
           by (granted t) u s = rw s (u .0, λ k′ h. subst (Going file from size (e + 1)) (sym h) (u .1))
 
       -- the beginnings are noted apart
-      pub goes-on-noted : OneOf taking (tagOf the-type y) → (s′ : State) (sheet′ seen′ marks′ begins′ : List ℕ) → begins′ ≡ begunBy from y (k .state) (k .begins)
-          → kept s′ sheet′ seen′ marks′ (begunBy from y (k .state) (k .begins)) ≡ effect from y at (e + 1) k → Going file from size (e + 1) (kept s′ sheet′ seen′ marks′ begins′)
+      pub goes-on-noted : OneOf taking (tagOf the-type y) → (s′ : State) (sheet′ seen′ marks′ begins′ : List ℕ) → begins′ ≡ notedBy from y (k .state) (k .begins)
+          → kept s′ sheet′ seen′ marks′ (notedBy from y (k .state) (k .begins)) ≡ effect from y at (e + 1) k → Going file from size (e + 1) (kept s′ sheet′ seen′ marks′ begins′)
       goes-on-noted o s′ sheet′ seen′ marks′ begins′ b p =
           subst (λ (bs : List ℕ). Going file from size (e + 1) (kept s′ sheet′ seen′ marks′ bs)) (sym b) (goes-on o .1 _ p)
 
@@ -202,9 +199,3 @@ module _ (file : List ℕ) (from size at : ℕ) (k : Kept) (g : Going file from 
               let n : f .number ≡ b .number = cc in
               subst (λ (m : ℕ). Walked file from size (reachedAt (k .state) m at) (k .sheet) (k .seen) (k .begins)) (sym n) t
           by (granted t) u s = absurd (never-refused t f s)
-
-    -- a line that is ignored changes nothing
-    pub passes : ignored (line .bytes) ≡ true → Going file from size (e + 1) k
-    unfolding effect
-    passes h =
-        goes-on steps.Ignored (judged-ignored file line (k .state) (k .sheet) (k .seen) (k .marks) h) (inl refl) .1 k refl

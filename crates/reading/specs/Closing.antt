@@ -14,7 +14,7 @@ use Rattle.rules.specs.Survey.{Told, lastEnd, answered, told}
 use Rattle.rules.specs.Index.{beginnings}
 use Rattle.columns.specs.Splices.{splice}
 use Rattle.steps.specs.declared.Fault.{Fault}
-use Rattle.judging.specs.States.{stateOf, tableIn}
+use Rattle.judging.specs.States.{stateOf, tableOpen}
 use Rattle.judging.specs.declared.state.Phase.{Phase}
 use Rattle.judging.specs.declared.state.Phase.the-variants.{Start, Top, InTable, InSentence, Behind}
 use Rattle.judging.specs.declared.state.State.{State}
@@ -59,7 +59,7 @@ givenUp Behind sheet = sheet
 -- on
 pub record Walked (file : List ℕ) (from size : ℕ) (r : Reached) (sheet seen begins : List ℕ) : Type 0 where
   pub reached-is : r ≡ reachedBy (read begin file)
-  pub place : tableIn (r .state .phase) < tableCount
+  pub place : tableOpen (r .state .phase) < tableCount
   pub sheet-size : length sheet ≡ tableSheetSize
   pub given-up : givenUp (r .state .phase) sheet ≡ tableSheet (tablesAt (read begin file .phase))
   pub seen-is : seen ≡ seenSet (numbers (read begin file .handed))

@@ -14,7 +14,7 @@ use Rattle.columns.specs.Splices.{splice}
 use Rattle.steps.specs.declared.RowSaid.{RowSaid}
 use Rattle.steps.specs.declared.Step.{Step}
 use Rattle.steps.specs.declared.Step.the-variants.{Ignored, Format, TableBegins, Row, TableEnds, SentenceBegins, Word, Phrase, SentenceEnds, Refused}
-use Rattle.judging.specs.States.{firstTally, tableIn, rowsIn, tallyIn, withWord, withPhrase, moved}
+use Rattle.judging.specs.States.{firstTally, tableOpen, rowsOpen, tallyIn, countedWord, countedPhrase, moved}
 use Rattle.judging.specs.declared.state.Tally.{Tally}
 use Rattle.judging.specs.declared.state.Phase.the-variants.{Top, InTable, InSentence, Behind}
 use Rattle.judging.specs.declared.state.State.{State}
@@ -44,12 +44,12 @@ handedOut s end = record { phase = Behind; format = s .format; handed = s .hande
 
 -- one row more in the table that is being read
 abbrev pub rowCounted : State → State
-rowCounted s = moved s (InTable (tableIn (s .phase)) (rowsIn (s .phase) + 1))
+rowCounted s = moved s (InTable (tableOpen (s .phase)) (rowsOpen (s .phase) + 1))
 
 abbrev pub withRow : RowSaid → Kept → Kept
 withRow r k =
     let phase = k .state .phase in
-    kept (rowCounted (k .state)) (splice (rowPlace (tableIn phase) (rowsIn phase)) (sixOf r) (k .sheet)) (k .seen) (k .marks) (k .begins)
+    kept (rowCounted (k .state)) (splice (rowPlace (tableOpen phase) (rowsOpen phase)) (sixOf r) (k .sheet)) (k .seen) (k .marks) (k .begins)
 
 abbrev pub tableLeft : State → State
 tableLeft s = moved s Top
@@ -57,7 +57,7 @@ tableLeft s = moved s Top
 abbrev pub tableClosed : Kept → Kept
 tableClosed k =
     let phase = k .state .phase in
-    kept (tableLeft (k .state)) (set (k .sheet) (tableIn phase) (rowsIn phase + 1)) (k .seen) (k .marks) (k .begins)
+    kept (tableLeft (k .state)) (set (k .sheet) (tableOpen phase) (rowsOpen phase + 1)) (k .seen) (k .marks) (k .begins)
 
 -- a list of beginnings tells of the numbers from one on, and others are not noted in it
 abbrev pub noted : ℕ → Tally → List ℕ → List ℕ
@@ -76,22 +76,22 @@ effect from (TableBegins n) at end k = withState k (moved (k .state) (InTable n 
 effect from (Row r) at end k = withRow r k
 effect from TableEnds at end k = tableClosed k
 effect from (SentenceBegins h) at end k = withState k (moved (k .state) (InSentence (firstTally at (h .number))))
-effect from (Word n) at end k = withState k (moved (k .state) (InSentence (withWord (tallyIn (k .state .phase)) n)))
+effect from (Word n) at end k = withState k (moved (k .state) (InSentence (countedWord (tallyIn (k .state .phase)) n)))
 effect from (Phrase n) at end k =
-    kept (moved (k .state) (InSentence (withPhrase (tallyIn (k .state .phase)) n))) (k .sheet) (k .seen)
+    kept (moved (k .state) (InSentence (countedPhrase (tallyIn (k .state .phase)) n))) (k .sheet) (k .seen)
     (set (k .marks) (n .number - 500) (k .state .handed + 1)) (k .begins)
 effect from SentenceEnds at end k = sentenceKept from (tallyIn (k .state .phase)) end k
 effect from (Refused f) at end k = k
 
 -- the list of beginnings behind a step, whatever else is kept
-abbrev pub begunBy : ℕ → Step → State → List ℕ → List ℕ
-begunBy from step s begins = effect from step 0 0 (kept s [] [] [] begins) .begins
+abbrev pub notedBy : ℕ → Step → State → List ℕ → List ℕ
+notedBy from step s begins = effect from step 0 0 (kept s [] [] [] begins) .begins
 
 -- ---- what a step needs; size is the file's length
 
 abbrev pub RowApplies : RowSaid → ℕ → Kept → Type 0
 RowApplies r size k =
-    (tableIn (k .state .phase) < tableCount) × (rowsIn (k .state .phase) < rowLimit) × (r .first .start + r .first .len ≤ size)
+    (tableOpen (k .state .phase) < tableCount) × (rowsOpen (k .state .phase) < rowLimit) × (r .first .start + r .first .len ≤ size)
     × (length (k .sheet) ≡ tableSheetSize)
 
 abbrev pub EndApplies : Tally → Kept → Type 0
@@ -104,7 +104,7 @@ Applicable (Format n) size k = Unit {0}
 Applicable (TableBegins n) size k = Unit {0}
 Applicable (Row r) size k = RowApplies r size k
 Applicable TableEnds size k =
-    (tableIn (k .state .phase) < tableCount) × (rowsIn (k .state .phase) ≤ rowLimit) × (length (k .sheet) ≡ tableSheetSize)
+    (tableOpen (k .state .phase) < tableCount) × (rowsOpen (k .state .phase) ≤ rowLimit) × (length (k .sheet) ≡ tableSheetSize)
 Applicable (SentenceBegins h) size k = Unit {0}
 Applicable (Word n) size k =
     (tallyIn (k .state .phase) .words ≤ fileLimit) × (tallyIn (k .state .phase) .edges + n .edges ≤ fileLimit)

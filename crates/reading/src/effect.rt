@@ -5,7 +5,7 @@ ghost use Prim.Native.Nat.{ℕ, _+_, _-_, _≤_};
 ghost use lib.ListN.{length, set};
 ghost use Rattle.rules.specs.Numbers.{fileLimit};
 ghost use Rattle.judging.specs.States.{tallyIn};
-ghost use Rattle.reading.specs.Effects.{kept, formatRead, handedOut, noted, effect, begunBy, Applicable};
+ghost use Rattle.reading.specs.Effects.{kept, formatRead, handedOut, noted, effect, notedBy, Applicable};
 use crate::rows::end_table;
 use crate::rows::take_row;
 use columns::listing::Line;
@@ -48,7 +48,7 @@ fn note_beginning(tally: Tally, from: u32, begins: &mut [u32])
 // A sentence that ends is noted, and nothing else.
 pub fn note_end(step: Step, s: State, from: u32, begins: &mut [u32])
     requires { ⌜ tallyIn (s .phase) .start ≤ fileLimit ⌝ }
-    ensures { λ _. ⌜ now (begins .exit) ≡ begunBy from step s (now (begins .entry)) ⌝ }
+    ensures { λ _. ⌜ now (begins .exit) ≡ notedBy from step s (now (begins .entry)) ⌝ }
 {
     let phase = s.phase;
     let Step::SentenceEnds = step else {
@@ -89,7 +89,7 @@ pub fn apply(
     hints: &mut [u8; table_sheet::HINTS],
 ) -> State
     requires { ⌜ (line .start ≤ fileLimit) × (line .end ≤ fileLimit) × Applicable step (length (now file)) (kept s (now sheet) (now seen) (now marks) []) ⌝ }
-    ensures { λ r. ⌜ ((from : ℕ) (begins : List ℕ) → kept r (now (sheet .exit)) (now (seen .exit)) (now (marks .exit)) (begunBy from step s begins) ≡ effect from step (line .start) (line .end + 1) (kept s (now (sheet .entry)) (now (seen .entry)) (now (marks .entry)) begins)) ⌝ }
+    ensures { λ r. ⌜ ((from : ℕ) (begins : List ℕ) → kept r (now (sheet .exit)) (now (seen .exit)) (now (marks .exit)) (notedBy from step s begins) ≡ effect from step (line .start) (line .end + 1) (kept s (now (sheet .entry)) (now (seen .entry)) (now (marks .entry)) begins)) ⌝ }
 {
     let phase = s.phase;
     match step {

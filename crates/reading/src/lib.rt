@@ -14,13 +14,11 @@ ghost use Rattle.rules.specs.Sheets.{tableSheetSize, tableSheet, seenSetSize, s
 ghost use Rattle.rules.specs.Reading.{begin, read};
 ghost use Rattle.rules.specs.Index.{beginnings};
 ghost use Rattle.reading.specs.Closing.{reachedAt, faultAt, Walked, FileRead};
-use columns::listing;
 use effect::apply;
 use effect::note_end;
-use judging::kinds;
 use judging::state;
 use judging::state::State;
-use lines::LineEnd;
+use lines::NextLine;
 use steps::Fault;
 use steps::Step;
 use stopping::closing;
@@ -79,15 +77,12 @@ fn take_lines(
     let mut s = state::first_state();
     let mut at = 0;
     while at < file.len() {
-        let found = lines::line_end(file, at, classes);
-        let LineEnd::At(end) = found else {
+        let phase = s.phase;
+        let of_node = state::expects_nodes(phase);
+        let found = lines::next_line(file, at, of_node, classes, &mut places);
+        let NextLine::Line(line) = found else {
             return stop_at(s, line_refusal(found), at as u32);
         };
-        if kinds::starts_comment(&file[at..end]) {
-            at = end + 1;
-            continue;
-        }
-        let line = listing::read_line(file, at, end, classes, &mut places);
         let step = judging::judge(file, line, &places, s, sheet, &hints, seen, &marks, classes);
         if let Step::Refused(fault) = step {
             let fault = fault_at(at as u32, fault);
@@ -95,7 +90,7 @@ fn take_lines(
         }
         note_end(step, s, from, begins);
         s = apply(step, line, s, file, sheet, seen, &mut marks, &mut hints);
-        at = end + 1;
+        at = line.end + 1;
     }
     let phase = s.phase;
     stop_at(s, closing(phase, sheet), at as u32)

@@ -5,7 +5,7 @@ ghost use lib.ListN.{length, set};
 ghost use Rattle.rules.specs.Numbers.{rowLimit};
 ghost use Rattle.rules.specs.Sheets.{tableCount, rowPlace, tableSheetSize};
 ghost use Rattle.columns.specs.Splices.{splice};
-ghost use Rattle.judging.specs.States.{tableIn, rowsIn};
+ghost use Rattle.judging.specs.States.{tableOpen, rowsOpen};
 ghost use Rattle.reading.specs.Effects.{sixOf, rowCounted, tableLeft};
 use judging::state::Phase;
 use judging::state::State;
@@ -49,8 +49,8 @@ pub fn take_row(
     sheet: &mut [u32],
     hints: &mut [u8; table_sheet::HINTS],
 ) -> State
-    requires { ⌜ (tableIn (s .phase) < tableCount) × (rowsIn (s .phase) < rowLimit) × (row .first .start + row .first .len ≤ length (now file)) × (length (now sheet) ≡ tableSheetSize) ⌝ }
-    ensures { λ r. ⌜ (r ≡ rowCounted s) × (now (sheet .exit) ≡ splice (rowPlace (tableIn (s .phase)) (rowsIn (s .phase))) (sixOf row) (now (sheet .entry))) ⌝ }
+    requires { ⌜ (tableOpen (s .phase) < tableCount) × (rowsOpen (s .phase) < rowLimit) × (row .first .start + row .first .len ≤ length (now file)) × (length (now sheet) ≡ tableSheetSize) ⌝ }
+    ensures { λ r. ⌜ (r ≡ rowCounted s) × (now (sheet .exit) ≡ splice (rowPlace (tableOpen (s .phase)) (rowsOpen (s .phase))) (sixOf row) (now (sheet .entry))) ⌝ }
 {
     let phase = s.phase;
     let table = table_in(phase);
@@ -61,8 +61,8 @@ pub fn take_row(
 }
 
 pub fn end_table(s: State, sheet: &mut [u32]) -> State
-    requires { ⌜ (tableIn (s .phase) < tableCount) × (rowsIn (s .phase) ≤ rowLimit) × (length (now sheet) ≡ tableSheetSize) ⌝ }
-    ensures { λ r. ⌜ (r ≡ tableLeft s) × (now (sheet .exit) ≡ set (now (sheet .entry)) (tableIn (s .phase)) (rowsIn (s .phase) + 1)) ⌝ }
+    requires { ⌜ (tableOpen (s .phase) < tableCount) × (rowsOpen (s .phase) ≤ rowLimit) × (length (now sheet) ≡ tableSheetSize) ⌝ }
+    ensures { λ r. ⌜ (r ≡ tableLeft s) × (now (sheet .exit) ≡ set (now (sheet .entry)) (tableOpen (s .phase)) (rowsOpen (s .phase) + 1)) ⌝ }
 {
     let phase = s.phase;
     let place = table_in(phase) as usize;

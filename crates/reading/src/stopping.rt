@@ -4,21 +4,22 @@ ghost use Prim.Native.Nat.{_<_};
 ghost use lib.ListN.{length};
 ghost use Rattle.rules.specs.Sheets.{tableCount, tableSheetSize};
 ghost use Rattle.lines.specs.LineEnds.{lineRefusal};
-ghost use Rattle.judging.specs.States.{tableIn};
+ghost use Rattle.lines.specs.NextLines.{lineEndOf};
+ghost use Rattle.judging.specs.States.{tableOpen};
 ghost use Rattle.reading.specs.Closing.{closingNumber, givenUp};
 use judging::state::Phase;
-use lines::LineEnd;
+use lines::NextLine;
 use steps::refusals;
 
 // The refusals of a line that may not be read: 3, 4 and 5.
-pub fn line_refusal(found: LineEnd) -> u32
-    ensures { λ r. ⌜ r ≡ lineRefusal found ⌝ }
+pub fn line_refusal(found: NextLine) -> u32
+    ensures { λ r. ⌜ r ≡ lineRefusal (lineEndOf found) ⌝ }
 {
     match found {
-        LineEnd::At(_) => 0,
-        LineEnd::Unended => refusals::UNENDED,
-        LineEnd::Illegal => refusals::ILLEGAL_BYTE,
-        LineEnd::TooLong => refusals::LINE_TOO_LONG,
+        NextLine::Line(_) => 0,
+        NextLine::Unended => refusals::UNENDED,
+        NextLine::Illegal => refusals::ILLEGAL_BYTE,
+        NextLine::TooLong => refusals::LINE_TOO_LONG,
     }
 }
 
@@ -46,7 +47,7 @@ pub fn closing(phase: Phase, sheet: &[u32]) -> u32
 
 // The rows of a table that was not closed are taken out of the sheet.
 pub fn give_up(phase: Phase, sheet: &mut [u32])
-    requires { ⌜ (tableIn phase < tableCount) × (length (now sheet) ≡ tableSheetSize) ⌝ }
+    requires { ⌜ (tableOpen phase < tableCount) × (length (now sheet) ≡ tableSheetSize) ⌝ }
     ensures { λ _. ⌜ now (sheet .exit) ≡ givenUp phase (now (sheet .entry)) ⌝ }
 {
     match phase {

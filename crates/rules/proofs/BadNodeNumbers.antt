@@ -22,7 +22,7 @@ use Rattle.rules.specs.Phases.{Preamble, inSentence, Answer, next}
 use Rattle.rules.specs.GrammarNumbers.{phraseRange}
 use Rattle.rules.specs.GrammarNodes.{EdgeSaid, NodeLine, nodeColumns}
 use Rattle.rules.specs.Refusals.{Clean, InsideSentence, Exactly}
-use Rattle.rules.specs.BrokenNumbers.{Written, LineRead, NodeWritten, ParentsWritten, Digits, BadNodeNumbers}
+use Rattle.rules.specs.BrokenNumbers.{WellWritten, LineRead, NodeWritten, ParentsWritten, Digits, BadNodeNumbers}
 use Rattle.rules.proofs.Conjunctions.{false-if-never, every-append}
 use Rattle.rules.proofs.EachElement.{each-of, each-map, each-mapped}
 use Rattle.rules.proofs.SaidOfLists.{and-both-ways, every-each, each-every}
@@ -54,9 +54,9 @@ each-edge P Q f [] (e ∷ es) a h = absurd a
 each-edge P Q f (p ∷ ps) [] a h = absurd a
 each-edge P Q f (p ∷ ps) (e ∷ es) a h = (f p e (a .0 .1) (h .0), each-edge P Q f ps es (a .1) (h .1))
 
-number-written : (xs ys : List ℕ) → xs ≡ ys → (good (number phraseNumber xs) ≡ true) ↔ Written phraseRange ys
+number-written : (xs ys : List ℕ) → xs ≡ ys → (good (number phraseNumber xs) ≡ true) ↔ WellWritten phraseRange ys
 number-written xs ys e = (
-  λ g. subst (Written phraseRange) e (value (number phraseNumber xs), number-said phraseNumber xs (value (number phraseNumber xs)) .0 (good-some (number phraseNumber xs) g)),
+  λ g. subst (WellWritten phraseRange) e (value (number phraseNumber xs), number-said phraseNumber xs (value (number phraseNumber xs)) .0 (good-some (number phraseNumber xs) g)),
   λ w. some-good (number phraseNumber xs) (w .0) (ap (number phraseNumber) e ∙ number-said phraseNumber ys (w .0) .1 (w .1)),
 )
 
@@ -77,7 +77,7 @@ module _ (format : ℕ) (fs : List Text) where
           record {
             parent = (value (itsParent format fs), parent-said (n .parentText) (value (itsParent format fs)) .0 (ap parentNumber (sym (sh .at-parent)) ∙ good-some (itsParent format fs) (h .0)));
             secondary =
-                each-edge (λ (e : EdgeSaid). Written phraseRange (e .parentText)) (λ (p : Pair). good (secondaryParent p) ≡ true)
+                each-edge (λ (e : EdgeSaid). WellWritten phraseRange (e .parentText)) (λ (p : Pair). good (secondaryParent p) ≡ true)
                 (λ p e q g. number-written (p .parent .bytes) (e .parentText) q .0 g) (itsPairs format fs) (n .secondary) (sh .at-pairs)
                 (each-mapped pairRule (λ (q : Rule). q .holds ≡ true) (itsPairs format fs) (every-each holdsOf (map pairRule (itsPairs format fs)) (h .1)));
           }
@@ -87,7 +87,7 @@ module _ (format : ℕ) (fs : List Text) where
           and-both-ways (good (itsParent format fs)) (every holdsOf (map pairRule (itsPairs format fs))) .1 (
             some-good (itsParent format fs) (w .parent .0) (ap parentNumber (sh .at-parent) ∙ parent-said (n .parentText) (w .parent .0) .1 (w .parent .1)),
             each-every holdsOf (map pairRule (itsPairs format fs)) (each-map pairRule (λ (q : Rule). q .holds ≡ true) (itsPairs format fs)
-                (each-pair (λ (e : EdgeSaid). Written phraseRange (e .parentText)) (λ (p : Pair). good (secondaryParent p) ≡ true)
+                (each-pair (λ (e : EdgeSaid). WellWritten phraseRange (e .parentText)) (λ (p : Pair). good (secondaryParent p) ≡ true)
                 (λ p e l q g. number-written (p .parent .bytes) (e .parentText) q .1 g) (itsPairs format fs) (n .secondary) (sh .at-pairs) (w .secondary))),
           )
 
@@ -136,14 +136,14 @@ module _ (line : Text) (format : ℕ) (ts : Tables) (so : SoFar) (f : Node → A
       (node-eight format fs wordTags ts (rule 16 line (ltb (so .words) wordLimit && roomy format (so .edges) fs) ∷ []) (so .words) [] refl refl (parents-said format fs n sh))))
 
   phrase-eight : Shaped format (fields (columns line)) n → (ds : List ℕ) → n .first ≡ bytes "#" ++ ds
-      → (refusalOf (next f (phraseOf format ts so line)) ≡ 8) ↔ (Written phraseRange ds × ParentsWritten n → ⊥)
+      → (refusalOf (next f (phraseOf format ts so line)) ≡ 8) ↔ (WellWritten phraseRange ds × ParentsWritten n → ⊥)
   unfolding phraseOf
   phrase-eight sh ds e =
       let o = number phraseNumber (behindHash (text fs 0) .bytes) in
       let own = number-written (behindHash (text fs 0) .bytes) ds (ap (drop 1) (sh .at-first ∙ e)) in
       let parents = parents-said format fs n sh in
       let all = and-both-ways (good o) (every holdsOf (parentsWritten format fs)) in
-      subst (λ (m : ℕ). (m ≡ 8) ↔ (Written phraseRange ds × ParentsWritten n → ⊥)) (sym (checked-number f _ _ (zeros _)))
+      subst (λ (m : ℕ). (m ≡ 8) ↔ (WellWritten phraseRange ds × ParentsWritten n → ⊥)) (sym (checked-number f _ _ (zeros _)))
       (held-first (rule 7 line _) _ (sh .whole)
       (node-eight format fs nodeTags ts (rule 16 line (roomy format (so .edges) fs) ∷ rule 17 line (not (so .given-before (value o))) ∷ []) (value o)
       (rule 8 (text fs 0) (good o) ∷ []) refl refl
@@ -197,12 +197,12 @@ module _ (front : List ℕ) (c : Clean front) (inside : InsideSentence front) (n
       (node-word its first p s (false-if-never (reads (bytes "#EOS") first) (word-no-end first started)) (false-if-never (startsPhrase first) (word-no-phrase first started)) (word-starts first given started))
       (word-eight its (p .format) (p .tables) (soFar s) (goWord p s) (λ m. refl) n its-shape (ap empty none-yet))
 
-  phrase-line : (ds : List ℕ) → n .first ≡ bytes "#" ++ ds → Digits ds → Exactly 8 front (n .line) (Written phraseRange ds × ParentsWritten n → ⊥)
+  phrase-line : (ds : List ℕ) → n .first ≡ bytes "#" ++ ds → Digits ds → Exactly 8 front (n .line) (WellWritten phraseRange ds × ParentsWritten n → ⊥)
   phrase-line ds e d =
       let p = inside .0 in
       let s = inside .1 in
       let sign : startsPhrase (firstColumn its) ≡ true = sign-phrase (firstColumn its .bytes) ds (first-is ∙ e) (digits-are ds d) in
-      exactly-so (Written phraseRange ds × ParentsWritten n → ⊥) (next (goPhrase p s) (phraseOf (p .format) (p .tables) (soFar s) its))
+      exactly-so (WellWritten phraseRange ds × ParentsWritten n → ⊥) (next (goPhrase p s) (phraseOf (p .format) (p .tables) (soFar s) its))
       (node-phrase its (firstColumn its) p s (false-if-never (reads (bytes "#EOS") (firstColumn its)) (phrase-no-end (firstColumn its) sign)) sign)
       (phrase-eight its (p .format) (p .tables) (soFar s) (goPhrase p s) (λ m. refl) n its-shape ds e)
 

@@ -127,7 +127,7 @@ module _ (file : List ℕ) (at : ℕ) (s : Sentence) (e : sentenceFrom file at �
   its-place : s .start ≡ at
   its-place = first-keeps file (Started at) (StartsAt at) (λ done l rest phase used parts o k. one-starts at done l used phase k) at s b (refl, refl)
 
-  its-climbing : Climbable s
+  pub its-climbing : Climbable s
   its-climbing = first-keeps file (λ bs. PhaseRises) (λ (h : Handed). Climbable (h .sentence)) (λ done l rest phase used parts o k. one-rises done l phase used k) at s b (record { words = tt; phrases = tt; apart = tt })
 
   head-lies : SentenceLies file (begun at (b .heading))

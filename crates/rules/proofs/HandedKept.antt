@@ -12,13 +12,13 @@ use Rattle.rules.specs.Survey.{Survey, answered, nothingRead, surveyOf, 
 use Rattle.rules.specs.Meaning.{meantTables}
 use Rattle.rules.proofs.EachElement.{each-mapped-then}
 use Rattle.rules.proofs.SentencesKept.{bareSentence, SentenceKept}
-use Rattle.rules.proofs.Kept.{Kept}
+use Rattle.rules.proofs.Kept.{PhaseKept}
 use Rattle.rules.proofs.KeptReading.{bares, file-kept}
 
 none-kept : (P : Sentence → Type 0) (ss : List Sentence) → ss ≡ [] → Each P ss
 none-kept P ss e = subst (λ (l : List Sentence). Each P l) (sym e) tt
 
-phase-kept : (phase : Phase) (ss : List Sentence) → Kept phase ss → Each (SentenceKept (formatAt phase) (meantTables (tablesAt phase))) ss
+phase-kept : (phase : Phase) (ss : List Sentence) → PhaseKept phase ss → Each (SentenceKept (formatAt phase) (meantTables (tablesAt phase))) ss
 phase-kept start ss k = none-kept _ ss k
 phase-kept (top p) ss k = none-kept _ ss (k .1)
 phase-kept (inTable p n rs) ss k = none-kept _ ss (k .nothing)

@@ -69,14 +69,14 @@ pub record KeptInTable (p : Preamble) (n : ℕ) (rs : List Row) (ss : List Sente
   pub rows : RowsKept n [] (map bareRow rs)
   pub nothing : ss ≡ []
 
-abbrev pub Kept : Phase → List Sentence → Type 0
-Kept start ss = ss ≡ []
-Kept (top p) ss = PreambleKept p × (ss ≡ [])
-Kept (inTable p n rs) ss = KeptInTable p n rs ss
-Kept (inSentence p s) ss = KeptInSentence p s ss
-Kept (behindSentence p) ss = BehindSentence p ss
+abbrev pub PhaseKept : Phase → List Sentence → Type 0
+PhaseKept start ss = ss ≡ []
+PhaseKept (top p) ss = PreambleKept p × (ss ≡ [])
+PhaseKept (inTable p n rs) ss = KeptInTable p n rs ss
+PhaseKept (inSentence p s) ss = KeptInSentence p s ss
+PhaseKept (behindSentence p) ss = BehindSentence p ss
 
 abbrev pub KeptAnswer : List Sentence → Answer → Type 0
 KeptAnswer ss (refuse r) = 1 ≤ r .number
-KeptAnswer ss (go p) = Kept p ss
+KeptAnswer ss (go p) = PhaseKept p ss
 KeptAnswer ss (hand p s) = BehindSentence p (ss ++ (bareSentence s ∷ []))

@@ -20,7 +20,7 @@ use Rattle.rules.proofs.Elements.{map-append, any-map}
 use Rattle.rules.proofs.Sorting.{has}
 use Rattle.rules.proofs.MeantTables.{present-meant}
 use Rattle.rules.proofs.SentencesKept.{bareSentence, byNumber, meant-by-number}
-use Rattle.rules.proofs.Kept.{PreambleKept, SentencesKept, bothPresent, means, Kept, KeptAnswer}
+use Rattle.rules.proofs.Kept.{PreambleKept, SentencesKept, bothPresent, means, PhaseKept, KeptAnswer}
 use Rattle.rules.proofs.KeptSteps.{step-kept}
 
 -- the sentences handed out, without places
@@ -34,7 +34,7 @@ used-same hs n =
     ∙ sym (any-map (λ (s : Sentence). eqb n (sentenceNumberOf s)) (λ (h : Handed). bareSentence (h .sentence)) hs)
 
 pub record ReadingKept (r : Reading) : Type 0 where
-  pub phase : Kept (r .phase) (bares (r .handed))
+  pub phase : PhaseKept (r .phase) (bares (r .handed))
   pub fault : (f : Fault) → r .fault ≡ some f → 1 ≤ f .number
 
 no-fault : (f : Fault) → _≡_ {A = Option Fault} none (some f) → 1 ≤ f .number
@@ -46,7 +46,7 @@ ended-kept r (go p) k h = record { phase = h; fault = no-fault }
 ended-kept r (hand p s) k h =
     record {
       phase =
-          subst (λ (ss : List Sentence). Kept (behindSentence p) ss)
+          subst (λ (ss : List Sentence). PhaseKept (behindSentence p) ss)
           (sym (map-append (λ (h : Handed). bareSentence (h .sentence)) (r .handed) (record { end = suc (r .at); sentence = s } ∷ []))) h;
       fault = no-fault;
     }
@@ -92,10 +92,10 @@ thirteen : (t : Bool) → _≡_ {A = ℕ} (pick t 0 13) 0 → t ≡ true
 thirteen true e = refl
 thirteen false e = absurd (omega (arith, e))
 
-ends : (r : Reading) → Kept (r .phase) (bares (r .handed)) → atEnd (r .phase) ≡ 0 → Ends r
+ends : (r : Reading) → PhaseKept (r .phase) (bares (r .handed)) → atEnd (r .phase) ≡ 0 → Ends r
 ends r k e = by (r .phase) refl k e
   where
-    by : (phase : Phase) → r .phase ≡ phase → Kept phase (bares (r .handed)) → atEnd phase ≡ 0 → Ends r
+    by : (phase : Phase) → r .phase ≡ phase → PhaseKept phase (bares (r .handed)) → atEnd phase ≡ 0 → Ends r
     by start q k e = absurd (some-number 8 e)
     by (top p) q k e =
         record {

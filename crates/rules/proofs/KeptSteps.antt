@@ -30,7 +30,7 @@ use Rattle.rules.proofs.Headings.{heading-cases}
 use Rattle.rules.proofs.RowsKept.{RowsKept, rows-last}
 use Rattle.rules.proofs.RowLines.{row-cases}
 use Rattle.rules.proofs.SentencesKept.{part-begun}
-use Rattle.rules.proofs.Kept.{tables-closed, PreambleKept, SentencesKept, means, KeptInTable, Kept, KeptAnswer}
+use Rattle.rules.proofs.Kept.{tables-closed, PreambleKept, SentencesKept, means, KeptInTable, PhaseKept, KeptAnswer}
 use Rattle.rules.proofs.FirstColumns.{reads-given}
 use Rattle.rules.proofs.KeptNodes.{nodes-kept}
 
@@ -154,7 +154,7 @@ module _ (ss : List Sentence) (line : Text) where
         either P (reads (bytes "#BOT") first) _ _ (λ e. table-kept z)
         (λ e. begin-kept used same (subst (SentencesKept (p .format) (means p)) (sym z) (record { each = tt; distinct = tt })))
 
-  line-kept : (phase : Phase) (used : List ℕ) → ((n : ℕ) → member n used ≡ has sentenceNumberOf n ss) → Kept phase ss → LineFit (line .bytes) → P (answerAt phase used line first)
+  line-kept : (phase : Phase) (used : List ℕ) → ((n : ℕ) → member n used ≡ has sentenceNumberOf n ss) → PhaseKept phase ss → LineFit (line .bytes) → P (answerAt phase used line first)
   unfolding answerAt
   line-kept start used same k f = start-kept k
   line-kept (top p) used same k f = top-kept f p (k .0) used same (k .1)
@@ -162,5 +162,5 @@ module _ (ss : List Sentence) (line : Text) where
   line-kept (inSentence p s) used same k f = nodes-kept ss line f p (k .preamble) s k
   line-kept (behindSentence p) used same k f = begin-kept f p (k .preamble) used same (k .sentences)
 
-  pub step-kept : (phase : Phase) (used : List ℕ) → ((n : ℕ) → member n used ≡ has sentenceNumberOf n ss) → Kept phase ss → P (step phase used line)
+  pub step-kept : (phase : Phase) (used : List ℕ) → ((n : ℕ) → member n used ≡ has sentenceNumberOf n ss) → PhaseKept phase ss → P (step phase used line)
   step-kept phase used same k = step-cases P bad phase used line k (line-kept phase used same k)

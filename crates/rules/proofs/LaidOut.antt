@@ -2,7 +2,7 @@
 -- numbers of a sentence differ and are below 1,000, and it has at most 512 secondary edges. From what the reading keeps.
 use Prim.Native.Nat.{ℕ, suc, _+_, _≤_}
 use native.Mathlib.Omega.{arith}
-use mathlib.Core.Path.{refl}
+use mathlib.Core.Path.{_≡_, refl}
 use mathlib.Core.Bool.{Bool, true, false}
 use mathlib.Core.Option.{none, some}
 use mathlib.Core.List.{List, [], _∷_, _++_, map}
@@ -14,10 +14,10 @@ use Rattle.rules.specs.Phases.{Preamble, Phase, start, top, inTable, inS
 use Rattle.rules.specs.Reading.{begin, read, numbers}
 use Rattle.rules.specs.Survey.{Survey, answered, nothingRead, surveyOf, fileFits}
 use Rattle.rules.specs.Meaning.{bareRow, meantTables}
-use Rattle.rules.specs.Layout.{TablesLaid, SentenceLaid, LaidOut}
+use Rattle.rules.specs.Layout.{SentenceLaid, LaidOut}
 use Rattle.rules.proofs.RowsKept.{RowsKept}
 use Rattle.rules.proofs.SentencesKept.{bareSentence, SentenceKept, edges-bare}
-use Rattle.rules.proofs.Kept.{TablesKept, PreambleKept, Kept}
+use Rattle.rules.proofs.Kept.{TablesKept, PreambleKept, PhaseKept}
 use Rattle.rules.proofs.KeptReading.{bares, file-kept}
 use Rattle.rules.proofs.HandedKept.{handed-kept}
 use Rattle.rules.proofs.NodeNumbers.{distinct-placed, nodes-distinct, each-numbered, few-words, each-in-room}
@@ -39,18 +39,20 @@ tables-fit n (none ∷ ts) k = (omega arith, tables-fit (suc n) ts (k .1))
 tables-fit n (some rs ∷ ts) k =
     (omega (arith, length-map rs bareRow, rows-fit n [] (map bareRow rs) (omega arith) (k .0)), tables-fit (suc n) ts (k .1))
 
-preamble-laid : (p : Preamble) → PreambleKept p → TablesLaid (p .tables)
-preamble-laid p k = tables-laid (p .tables) (k .seven) (tables-fit 0 (p .tables) (k .tables))
+-- the seven tables of any reading, none with more rows than there is room for
+pub record SevenFew (ts : Tables) : Type 0 where
+  pub seven : length ts ≡ 7
+  pub few : Each FewRows ts
 
-no-tables-laid : TablesLaid (tablesAt start)
-no-tables-laid = tables-laid (tablesAt start) refl (tables-fit 0 (tablesAt start) (tt, (tt, (tt, (tt, (tt, (tt, (tt, tt))))))))
+preamble-few : (p : Preamble) → PreambleKept p → SevenFew (p .tables)
+preamble-few p k = record { seven = k .seven; few = tables-fit 0 (p .tables) (k .tables) }
 
-phase-laid : (phase : Phase) (ss : List Sentence) → Kept phase ss → TablesLaid (tablesAt phase)
-phase-laid start ss k = no-tables-laid
-phase-laid (top p) ss k = preamble-laid p (k .0)
-phase-laid (inTable p n rs) ss k = preamble-laid p (k .preamble)
-phase-laid (inSentence p s) ss k = preamble-laid p (k .preamble)
-phase-laid (behindSentence p) ss k = preamble-laid p (k .preamble)
+phase-few : (phase : Phase) (ss : List Sentence) → PhaseKept phase ss → SevenFew (tablesAt phase)
+phase-few start ss k = record { seven = refl; few = tables-fit 0 (tablesAt start) (tt, (tt, (tt, (tt, (tt, (tt, (tt, tt))))))) }
+phase-few (top p) ss k = preamble-few p (k .0)
+phase-few (inTable p n rs) ss k = preamble-few p (k .preamble)
+phase-few (inSentence p s) ss k = preamble-few p (k .preamble)
+phase-few (behindSentence p) ss k = preamble-few p (k .preamble)
 
 -- ---- sentences
 
@@ -63,18 +65,18 @@ kept-laid v s k =
 
 -- ---- every file
 
-tables-of : (f : List ℕ) → TablesLaid (surveyOf f .tables)
+pub tables-few : (f : List ℕ) → SevenFew (surveyOf f .tables)
 unfolding surveyOf
-tables-of f = by (fileFits f)
+tables-few f = by (fileFits f)
   where
-    by : (t : Bool) → TablesLaid (pick t (answered (read begin f)) (nothingRead 2) .tables)
-    by true = phase-laid (read begin f .phase) (bares (read begin f .handed)) (file-kept f .phase)
-    by false = no-tables-laid
+    by : (t : Bool) → SevenFew (pick t (answered (read begin f)) (nothingRead 2) .tables)
+    by true = phase-few (read begin f .phase) (bares (read begin f .handed)) (file-kept f .phase)
+    by false = phase-few start [] refl
 
 pub laid-out : (f : List ℕ) → LaidOut (surveyOf f)
 laid-out f =
     record {
-      tables = tables-of f;
+      tables = tables-laid (surveyOf f .tables) (tables-few f .seven) (tables-few f .few);
       seen = seen-laid (numbers (surveyOf f .handed));
       sentences = handed-kept (λ (v : Survey) (s : Sentence). SentenceLaid s) kept-laid f;
     }

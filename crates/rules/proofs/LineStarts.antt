@@ -13,7 +13,7 @@ use Rattle.rules.specs.Lists.{pick}
 use Rattle.rules.specs.Bytes.{newline}
 use Rattle.rules.specs.Places.{StartsLine}
 use Rattle.rules.specs.Refusals.{OneLine}
-use Rattle.rules.specs.SentenceFrom.{startsLine, inFront, endedLine}
+use Rattle.rules.specs.SentenceFrom.{startsLine, putInFront, endedLine}
 use Rattle.rules.proofs.Conjunctions.{or-found, or-false}
 
 -- ---- the byte at a place
@@ -73,7 +73,7 @@ line-first [] l e = absurd (let z : _≡_ {A = ℕ} 0 1 = cc in omega arith)
 line-first (b ∷ bs) l e = by (eqb b newline) refl (endedLine bs) refl (line-first bs) e
   where
     by : (t : Bool) → eqb b newline ≡ t → (o : Option (List ℕ)) → endedLine bs ≡ o → ((k : List ℕ) → endedLine bs ≡ some k → FirstLine bs k)
-        → pick t (some []) (inFront b o) ≡ some l → FirstLine (b ∷ bs) l
+        → pick t (some []) (putInFront b o) ≡ some l → FirstLine (b ∷ bs) l
     by true n o q more e =
         let nothing : [] ≡ l = cc in
         subst (FirstLine (b ∷ bs)) nothing (record { rest = bs; parts = ap (λ (c : ℕ). c ∷ bs) (eqb-true b newline n); one-line = tt })

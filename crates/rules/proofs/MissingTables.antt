@@ -16,7 +16,7 @@ use Rattle.rules.specs.Refusals.{Clean, AtItsEnd, EndRule}
 use Rattle.rules.proofs.Conjunctions.{false-if-never}
 use Rattle.rules.proofs.SaidOfLists.{and-both-ways, true-or-not, never-both}
 use Rattle.rules.proofs.MeantTables.{present-meant}
-use Rattle.rules.proofs.Kept.{bothPresent, Kept}
+use Rattle.rules.proofs.Kept.{bothPresent, PhaseKept}
 use Rattle.rules.proofs.KeptReading.{bares, file-kept}
 use Rattle.rules.proofs.CleanFronts.{survey-is, ends-by}
 use Rattle.rules.proofs.LastLine.{front-lines}
@@ -59,7 +59,7 @@ module _ (front : List ℕ) (c : Clean front) where
   end-numbers (inSentence p s) = inr (inr (inr refl))
   end-numbers (behindSentence p) = inl refl
 
-  thirteen : (phase : Phase) → Kept phase (bares (read begin front .handed)) → (atEnd phase ≡ 9 → ⊥) → (atEnd phase ≡ 23 → ⊥)
+  thirteen : (phase : Phase) → PhaseKept phase (bares (read begin front .handed)) → (atEnd phase ≡ 9 → ⊥) → (atEnd phase ≡ 23 → ⊥)
       → (atEnd phase ≡ 13) ↔ ((table 0 (tablesAt phase) ≡ none) ⊎ (table 1 (tablesAt phase) ≡ none))
   thirteen start k a b = absurd (a refl)
   thirteen (top p) k a b = (λ e. lacks (p .tables) (which (bothPresent (p .tables)) e), λ l. rw (false-if-never (bothPresent (p .tables)) (not-present (p .tables) l)))

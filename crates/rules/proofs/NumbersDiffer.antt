@@ -17,7 +17,7 @@ use Rattle.rules.specs.Same.{handedNumber}
 use Rattle.rules.proofs.Sorting.{Distinct}
 use Rattle.rules.proofs.RowsKept.{RowNew, distinct-rows}
 use Rattle.rules.proofs.SentencesKept.{bareSentence}
-use Rattle.rules.proofs.Kept.{TableKept, TablesKept, PreambleKept, Kept}
+use Rattle.rules.proofs.Kept.{TableKept, TablesKept, PreambleKept, PhaseKept}
 use Rattle.rules.proofs.KeptReading.{bares, file-kept}
 use Rattle.rules.proofs.HandedKept.{handed-kept}
 use Rattle.rules.proofs.AlikeLists.{distinct-mapped}
@@ -48,7 +48,7 @@ tables-differ (o ∷ p ∷ ts) e k = record { seven = e; origin-ids = ids-differ
 preamble-differs : (p : Preamble) → PreambleKept p → TablesDiffer (p .tables)
 preamble-differs p k = tables-differ (p .tables) (k .seven) (k .tables)
 
-phase-tables : (phase : Phase) (ss : List Sentence) → Kept phase ss → TablesDiffer (tablesAt phase)
+phase-tables : (phase : Phase) (ss : List Sentence) → PhaseKept phase ss → TablesDiffer (tablesAt phase)
 phase-tables start ss k = record { seven = refl; origin-ids = tt; editor-ids = tt }
 phase-tables (top p) ss k = preamble-differs p (k .0)
 phase-tables (inTable p n rs) ss k = preamble-differs p (k .preamble)
@@ -58,7 +58,7 @@ phase-tables (behindSentence p) ss k = preamble-differs p (k .preamble)
 none-differ : (ss : List Sentence) → ss ≡ [] → Distinct sentenceNumberOf ss
 none-differ ss e = subst (Distinct sentenceNumberOf) (sym e) tt
 
-phase-sentences : (phase : Phase) (ss : List Sentence) → Kept phase ss → Distinct sentenceNumberOf ss
+phase-sentences : (phase : Phase) (ss : List Sentence) → PhaseKept phase ss → Distinct sentenceNumberOf ss
 phase-sentences start ss k = none-differ ss k
 phase-sentences (top p) ss k = none-differ ss (k .1)
 phase-sentences (inTable p n rs) ss k = none-differ ss (k .nothing)

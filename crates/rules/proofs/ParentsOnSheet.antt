@@ -73,7 +73,7 @@ parent-on-sheet s n h =
 -- ---- a sentence whose chains climb
 
 module _ (s : Sentence) (k : Climbable s) where
-  parent-in-room : (n : ℕ) → parentIn s n < nodeRoom
+  pub parent-in-room : (n : ℕ) → parentIn s n < nodeRoom
   parent-in-room n = by (parent-above s k n)
     where
       by : ZeroOrAbove (length (s .phrases)) n (parentIn s n) → parentIn s n < nodeRoom

@@ -18,8 +18,8 @@ use Rattle.rules.specs.GrammarNodes.{EdgeSaid, NodeLine, nodeColumns}
 use Rattle.rules.specs.Refusals.{InsideSentence, Exactly}
 
 -- these bytes are a number of this range
-abbrev pub Written : Range → List ℕ → Type 0
-Written r xs = (v : ℕ) × NumberIn r xs v
+abbrev pub WellWritten : Range → List ℕ → Type 0
+WellWritten r xs = (v : ℕ) × NumberIn r xs v
 
 -- a line that is read, and starts with its first column
 pub record LineRead (l : List ℕ) : Type 0 where
@@ -37,7 +37,7 @@ pub record NodeWritten (format : ℕ) (n : NodeLine) : Type 0 where
 -- a parent is 0 or 500 to 999, a secondary parent is 500 to 999
 pub record ParentsWritten (n : NodeLine) : Type 0 where
   pub parent : (v : ℕ) × ParentWritten (n .parentText) v
-  pub secondary : Each (λ (e : EdgeSaid). Written phraseRange (e .parentText)) (n .secondary)
+  pub secondary : Each (λ (e : EdgeSaid). WellWritten phraseRange (e .parentText)) (n .secondary)
 
 -- one digit or more
 pub record Digits (ds : List ℕ) : Type 0 where
@@ -50,7 +50,7 @@ pub record BadNodeNumbers (front : List ℕ) : Type 0 where
       → (n .first ≡ bytes "#") ⊎ ((rest : List ℕ) → n .first ≡ bytes "#" ++ rest → ⊥) → Exactly 8 front (n .line) (ParentsWritten n → ⊥)
   -- a phrase begins with # and digits; its own number is 500 to 999
   pub phrase : (inside : InsideSentence front) → (n : NodeLine) (ds : List ℕ) → NodeWritten (inside .0 .format) n → n .first ≡ bytes "#" ++ ds → Digits ds
-      → Exactly 8 front (n .line) (Written phraseRange ds × ParentsWritten n → ⊥)
+      → Exactly 8 front (n .line) (WellWritten phraseRange ds × ParentsWritten n → ⊥)
 
 -- ---- rows
 
@@ -83,7 +83,7 @@ pub record RowWritten (which : ℕ) (id l : List ℕ) : Type 0 where
 
 -- an origin's id is 1 to 65,535, an editor's or a tag's -1 to 65,535
 abbrev pub RowIdWritten : ℕ → List ℕ → Type 0
-RowIdWritten zero id = Written originRange id
+RowIdWritten zero id = WellWritten originRange id
 RowIdWritten (suc which) id = (i : ℕ) × IdIn id i
 
 abbrev pub BadRowNumbers : List ℕ → Type 0

@@ -21,14 +21,14 @@ use Rattle.rules.specs.Reading.{Handed, Reading, read}
 abbrev pub startsLine : List ℕ → ℕ → Bool
 startsLine file at = eqb at 0 || eqb (getD file (at - 1) 0) newline
 
-abbrev pub inFront : ℕ → Option (List ℕ) → Option (List ℕ)
-inFront b none = none
-inFront b (some bs) = some (b ∷ bs)
+abbrev pub putInFront : ℕ → Option (List ℕ) → Option (List ℕ)
+putInFront b none = none
+putInFront b (some bs) = some (b ∷ bs)
 
 -- the bytes in front of the first newline, if there is one
 unfoldable pub endedLine : List ℕ → Option (List ℕ)
 endedLine [] = none
-endedLine (b ∷ bs) = let later = inFront b (endedLine bs) in pick (eqb b newline) (some []) later
+endedLine (b ∷ bs) = let later = putInFront b (endedLine bs) in pick (eqb b newline) (some []) later
 
 -- a #BOS line, as it is written
 unfoldable pub headingAlone : Text → Verdict Heading

@@ -5,7 +5,7 @@ use mathlib.Core.Path.{_≡_, refl, sym, ap, _∙_, subst}
 use mathlib.Core.Bool.{Bool, true, false}
 use mathlib.Core.Option.{Option, none, some}
 use mathlib.Core.List.{List}
-use lib.ListN.{replicate}
+use lib.ListN.{length, replicate, length-replicate}
 use Rattle.rules.specs.Numbers.{edgeLimit}
 use Rattle.rules.specs.Sentences.{Sentence}
 use Rattle.rules.specs.Sheets.{sentenceSheetSize}
@@ -17,6 +17,13 @@ use Rattle.sentences.specs.declared.beginning.Begun.{Begun}
 use Rattle.sentences.specs.declared.beginning.Begun.the-variants.{Behind, Nowhere}
 use Rattle.sentences.specs.SentenceRead.{Gathered, SentenceRead}
 use Rattle.sentences.proofs.Gathering.{goneOn, begun-on}
+
+-- a list cleared is zero, as long as it was
+pub cleared : {l : List ℕ} {m n : ℕ} → l ≡ replicate m 0 → m ≡ n → l ≡ replicate n 0
+cleared e h = e ∙ ap (λ (k : ℕ). replicate k 0) h
+
+pub as-long : {n : ℕ} {l : List ℕ} → l ≡ replicate n 0 → length l ≡ n
+as-long {n} e = ap length e ∙ length-replicate {A = ℕ} n 0
 
 -- what was found of the first line
 module _ (file : List ℕ) (place : ℕ) (lent sheet : List ℕ) (r : Begun) (b : BegunAs file place r lent sheet) where

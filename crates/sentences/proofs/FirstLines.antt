@@ -19,7 +19,7 @@ use Rattle.rules.specs.Rules.{Rule, rule, Verdict, refused, granted, unless, ch
 use Rattle.rules.specs.Sentences.{Heading, headingWritten, headingIn}
 use Rattle.rules.specs.Keywords.{firstColumn}
 use Rattle.rules.specs.Lines.{takenAs, sentenceBegins}
-use Rattle.rules.specs.SentenceFrom.{startsLine, inFront, endedLine, headingAlone}
+use Rattle.rules.specs.SentenceFrom.{startsLine, putInFront, endedLine, headingAlone}
 use Rattle.rules.proofs.RuleLaws.{holdsOf, granted-holds, passes}
 use Rattle.lines.specs.LineEnds.{ends, hasEnd, firstLine, lineEnd}
 use Rattle.lines.specs.declared.LineEnd.{LineEnd}
@@ -62,14 +62,14 @@ unfolding endedLine firstLine
 first-line [] = refl
 first-line (b ∷ bs) = by (ends b) (first-line bs)
   where
-    behind : (t : Bool) (l : List ℕ) → inFront b (pick t (some l) none) ≡ pick t (some (b ∷ l)) none
+    behind : (t : Bool) (l : List ℕ) → putInFront b (pick t (some l) none) ≡ pick t (some (b ∷ l)) none
     behind true l = refl
     behind false l = refl
 
     by : (t : Bool) → endedLine bs ≡ pick (hasEnd bs) (some (firstLine bs)) none
-        → pick t (some []) (inFront b (endedLine bs)) ≡ pick (t || hasEnd bs) (some (pick t [] (b ∷ firstLine bs))) none
+        → pick t (some []) (putInFront b (endedLine bs)) ≡ pick (t || hasEnd bs) (some (pick t [] (b ∷ firstLine bs))) none
     by true e = refl
-    by false e = ap (inFront b) e ∙ behind (hasEnd bs) (firstLine bs)
+    by false e = ap (putInFront b) e ∙ behind (hasEnd bs) (firstLine bs)
 
 module _ (file : List ℕ) (place : ℕ) where
   abbrev here : List ℕ

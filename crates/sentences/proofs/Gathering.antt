@@ -20,9 +20,10 @@ use Rattle.rules.specs.SentenceFrom.{endedLine, headingAlone, firstHanded, head
 use Rattle.rules.proofs.ReadLines.{read-part, read-fault}
 use Rattle.columns.specs.Splices.{splice}
 use Rattle.lines.specs.LineEnds.{firstLine, lineEnd}
-use Rattle.lines.specs.declared.LineEnd.{LineEnd}
-use Rattle.lines.specs.declared.LineEnd.the-variants.{At, Unended, Illegal, TooLong}
-use Rattle.lines.proofs.LineEnd.{the-type}
+use Rattle.lines.specs.NextLines.{lineEndOf}
+use Rattle.lines.specs.declared.NextLine.{NextLine}
+use Rattle.lines.specs.declared.NextLine.the-variants.{Line, Unended, Illegal, TooLong}
+use Rattle.lines.proofs.NextLine.{the-type}
 use Rattle.lines.proofs.Lines.{unended-none}
 use Rattle.lines.proofs.LineSteps.{lineRead, illegal-step, long-step}
 use Rattle.lines.proofs.Variants.{not-among}
@@ -38,8 +39,8 @@ use Rattle.judging.specs.declared.state.Tally.{Tally}
 use Rattle.judging.proofs.Knowing.{SentenceKept, Telling}
 use Rattle.judging.proofs.Counts.{none-marked, fresh-marks}
 use Rattle.judging.proofs.KeptOn.{kept-begun}
-use Rattle.sentences.specs.Keeping.{Kept, kept}
-use Rattle.sentences.specs.Beginnings.{begunAt, Opened, openedIf, openedBy, openedAt, Headed}
+use Rattle.sentences.specs.Keeping.{Stored, stored}
+use Rattle.sentences.specs.Beginnings.{begunAt, FoundHeading, openedIf, openedBy, openedAt, Headed}
 use Rattle.sentences.specs.SentenceRead.{Gathered}
 use Rattle.sentences.proofs.NodeTakings.{bare}
 
@@ -47,7 +48,7 @@ use Rattle.sentences.proofs.NodeTakings.{bare}
 abbrev pub readingAt : ℕ → Sentence → Reading
 readingAt at s = record { at = at; lineStart = at; part = []; phase = inSentence bare s; handed = []; fault = none }
 
-pub record Gathering (file : List ℕ) (sought : Option Sentence) (at : ℕ) (k : Kept) : Type 0 where
+pub record Gathering (file : List ℕ) (sought : Option Sentence) (at : ℕ) (k : Stored) : Type 0 where
   pub sentence : Sentence
   pub in-file : at ≤ length file
   pub rest : firstHanded (read (readingAt at sentence) (drop at file) .handed) ≡ sought
@@ -65,7 +66,7 @@ pub record Gathering (file : List ℕ) (sought : Option Sentence) (at : ℕ) (k 
 -- ---- the start
 
 -- the lines behind a heading decide
-abbrev pub goneOn : List ℕ → ℕ → Option Opened → Option Sentence
+abbrev pub goneOn : List ℕ → ℕ → Option FoundHeading → Option Sentence
 goneOn file place none = none
 goneOn file place (some o) = firstHanded (read (readingAt (o .next) (begun place (o .heading))) (drop (o .next) file) .handed)
 
@@ -82,7 +83,7 @@ begun-on file place = by (endedLine (drop place file))
 
 pub gathering-start : (file : List ℕ) (place from : ℕ) (t : Tally) (sheet edges marks : List ℕ) → Headed file place from t (replicate sentenceSheetSize 0) sheet
     → length sheet ≡ sentenceSheetSize → edges ≡ replicate (edgeLimit * edgeWidth) 0 → marks ≡ replicate 500 0
-    → Gathering file (begunAt file place) from (kept t sheet edges marks)
+    → Gathering file (begunAt file place) from (stored t sheet edges marks)
 gathering-start file place from t sheet edges marks h size zeros unmarked =
     rw (unmarked)
     (record {
@@ -106,7 +107,7 @@ gathering-start file place from t sheet edges marks h size zeros unmarked =
 pub none-gathered : {sought : Option Sentence} (sheet edges : List ℕ) → sought ≡ none → Gathered sought false sheet edges
 none-gathered sheet edges e = subst (λ (o : Option Sentence). Gathered o false sheet edges) (sym e) refl
 
-module _ (file : List ℕ) (sought : Option Sentence) (at : ℕ) (k : Kept) (g : Gathering file sought at k) where
+module _ (file : List ℕ) (sought : Option Sentence) (at : ℕ) (k : Stored) (g : Gathering file sought at k) where
   abbrev r : Reading
   r = readingAt at (g .sentence)
 
@@ -126,8 +127,8 @@ module _ (file : List ℕ) (sought : Option Sentence) (at : ℕ) (k : Kept) (g :
   abbrev bytesHere : List ℕ
   bytesHere = firstLine (drop at file)
 
-  pub none-unread : (found : LineEnd) → lineEnd file at ≡ found → OneOf unread (tagOf the-type found) → sought ≡ none
-  none-unread (At e) q n = absurd (not-among 0 unread refl n)
+  pub none-unread : (found : NextLine) → lineEnd file at ≡ lineEndOf found → OneOf unread (tagOf the-type found) → sought ≡ none
+  none-unread (Line l) q n = absurd (not-among 0 unread refl n)
   none-unread Unended q n = sym (g .rest) ∙ ap first (read-part r (drop at file) refl (unended-none file at q))
   none-unread Illegal q n =
       none-refused bytesHere (drop (at + length bytesHere + 1) file) (rule 4 (record { start = at; bytes = bytesHere }) false) (illegal-step file at r refl refl q)

@@ -1,11 +1,11 @@
 -- One node more in the sheet and in the list of a sentence.
-use Prim.Native.Nat.{ℕ, _+_, _*_}
+use Prim.Native.Nat.{ℕ, zero, suc, _+_, _-_, _*_, _≤_}
 use native.Mathlib.Omega.{arith}
 use mathlib.Core.Path.{_≡_, refl, sym, ap, ap₂, _∙_}
 use mathlib.Core.Bool.{true, false}
 use mathlib.Core.List.{List, [], _∷_, _++_, append-assoc, append-nil, map}
 use lib.Dec.{eqb}
-use lib.ListN.{length, length-append, length-map}
+use lib.ListN.{length, getD, replicate, length-append, length-map}
 use Rattle.rules.specs.Lists.{empty, joined}
 use Rattle.rules.specs.Numbers.{edgeLimit}
 use Rattle.rules.specs.Sentences.{Edge, Node, Sentence, edgeCount, edgesOf, listed}
@@ -14,6 +14,7 @@ use Rattle.rules.specs.Phases.{withWord, withPhrase}
 use Rattle.rules.proofs.Conjunctions.{or-left, or-right}
 use Rattle.rules.proofs.Elements.{map-append, joined-append}
 use Rattle.rules.proofs.EachElement.{each-joined}
+use Rattle.rules.proofs.Rooms.{behind-at}
 use Rattle.columns.specs.Splices.{splice}
 use Rattle.table_sheet.proofs.Rooms.{Wide, length-joined, splice-filled}
 use Rattle.sentence_sheet.specs.FlatEdges.{edgeWidth, edgeNumbers, edgesAmong, flatEdges}
@@ -79,3 +80,23 @@ flat-node s n =
     ap (λ (m : ℕ). splice (edgeWidth * m) (joined (edgesBy n)) (flatEdges (edgesAmong (nodes s)))) count
     ∙ flat-joined (edgesAmong (nodes s)) (edgesBy n) (wide-among (nodes s))
     ∙ ap flatEdges (sym (among-more (nodes s) n))
+
+-- ---- behind them
+
+pub length-among : (ns : List Node) → length (joined (edgesAmong ns)) ≡ edgeWidth * edgeCount ns
+length-among ns = length-joined edgeWidth (edgesAmong ns) (wide-among ns) ∙ ap (λ (n : ℕ). edgeWidth * n) (count-among ns)
+
+zeros-at : (n k : ℕ) → getD {A = ℕ} (replicate n 0) k 0 ≡ 0
+zeros-at zero k = refl
+zeros-at (suc n) zero = refl
+zeros-at (suc n) (suc k) = zeros-at n k
+
+pub flat-behind : (ns : List Node) (k : ℕ) → edgeWidth * edgeCount ns ≤ k → getD (flatEdges (edgesAmong ns)) k 0 ≡ 0
+unfolding flatEdges
+flat-behind ns k h =
+    let l = joined (edgesAmong ns) in
+    let zeros : List ℕ = replicate (edgeLimit * edgeWidth - length l) 0 in
+    let p : k ≡ edgeWidth * edgeCount ns + (k - edgeWidth * edgeCount ns) = omega (arith, h) in
+    ap (λ (i : ℕ). getD (l ++ zeros) i 0) p
+    ∙ behind-at l zeros (edgeWidth * edgeCount ns) (k - edgeWidth * edgeCount ns) 0 (length-among ns)
+    ∙ zeros-at (edgeLimit * edgeWidth - length l) (k - edgeWidth * edgeCount ns)

@@ -8,3 +8,4 @@ pub mod FirstLines
 pub mod OtherSteps
 pub mod Answers
 pub mod ListedLines
+pub mod Unused

@@ -21,7 +21,7 @@ use Rattle.steps.specs.declared.Step.the-variants.{Ignored, Format, TableBegins
 use Rattle.steps.proofs.Step.{the-type}
 use Rattle.judging.specs.Judging.{soFarBy}
 use Rattle.judging.specs.declared.state.Tally.{Tally}
-use Rattle.sentences.specs.Keeping.{takenBy, Kept, effect}
+use Rattle.sentences.specs.Keeping.{takenBy, Stored, storedBy}
 
 module _ (file : List ℕ) (line : Text) (t : Tally) (marks : List ℕ) where
   pub taken-ignored : ignored (line .bytes) ≡ true → Ignored ≡ stepOf (takenBy line t marks)
@@ -38,8 +38,8 @@ module _ (file : List ℕ) (line : Text) (t : Tally) (marks : List ℕ) where
 abbrev others : List ℕ
 others = 0 ∷ 1 ∷ 2 ∷ 3 ∷ 4 ∷ 5 ∷ 8 ∷ 9 ∷ []
 
-pub others-keep : (fs : List Text) (x : Step) (k : Kept) → OneOf others (tagOf the-type x) → k ≡ effect fs x k
-unfolding effect
+pub others-keep : (fs : List Text) (x : Step) (k : Stored) → OneOf others (tagOf the-type x) → k ≡ storedBy fs x k
+unfolding storedBy
 others-keep fs Ignored k o = refl
 others-keep fs (Format n) k o = refl
 others-keep fs (TableBegins n) k o = refl

@@ -21,7 +21,7 @@ use Rattle.sentence_sheet.specs.FlatEdges.{edgeWidth, edgeNumbers}
 use Rattle.nodes.specs.NodeLines.{fieldsOf, phraseIn, FieldAt, Whole}
 use Rattle.nodes.proofs.ListedFields.{field-of}
 use Rattle.nodes.proofs.PairWalks.{pairAt, pairs-more, pairs-end}
-use Rattle.sentences.specs.LineEdges.{edgesFrom}
+use Rattle.sentences.specs.LineEdges.{pairEdges}
 
 -- ---- one splice behind another
 
@@ -51,20 +51,20 @@ module _ (at : ℕ) (vs ws l : List ℕ) (room : at + length vs ≤ length l) wh
 -- ---- the edges of a line's pairs
 
 module _ (fs : List Text) (child k : ℕ) where
-  edges-more : k + 1 < length fs → edgesFrom fs child k ≡ edgeNumbers child (asEdge (pairAt fs k)) ∷ edgesFrom fs child (k + 2)
+  edges-more : k + 1 < length fs → pairEdges fs child k ≡ edgeNumbers child (asEdge (pairAt fs k)) ∷ pairEdges fs child (k + 2)
   edges-more h = ap (λ (ps : List Pair). map (edgeNumbers child) (map asEdge ps)) (pairs-more fs k h)
 
-  edges-end : length fs ≤ k → edgesFrom fs child k ≡ []
+  edges-end : length fs ≤ k → pairEdges fs child k ≡ []
   edges-end h = ap (λ (ps : List Pair). map (edgeNumbers child) (map asEdge ps)) (pairs-end fs k h)
 
 -- so many pairs are put, behind the edges that stood there
 pub record Putting (fs : List Text) (child from : ℕ) (lent : List ℕ) (j : ℕ) (edges : List ℕ) : Type 0 where
   pub room : length edges ≡ edgeLimit * edgeWidth
-  pub rest : splice (edgeWidth * (from + j)) (joined (edgesFrom fs child (5 + 2 * j))) edges ≡ splice (edgeWidth * from) (joined (edgesFrom fs child 5)) lent
+  pub rest : splice (edgeWidth * (from + j)) (joined (pairEdges fs child (5 + 2 * j))) edges ≡ splice (edgeWidth * from) (joined (pairEdges fs child 5)) lent
 
 pub putting-start : (fs : List Text) (child from : ℕ) (lent : List ℕ) → length lent ≡ edgeLimit * edgeWidth → Putting fs child from lent 0 lent
 putting-start fs child from lent r =
-    record { room = r; rest = ap (λ (n : ℕ). splice (edgeWidth * n) (joined (edgesFrom fs child 5)) lent) (add-zero from) }
+    record { room = r; rest = ap (λ (n : ℕ). splice (edgeWidth * n) (joined (pairEdges fs child 5)) lent) (add-zero from) }
 
 module _ {file : List ℕ} {line : Line} {places : List ℕ} (count : ℕ) (w : Whole file line places (5 + 2 * count)) {child from j : ℕ} {lent edges : List ℕ}
     (p : Putting (fieldsOf file line) child from lent j edges) where
@@ -74,7 +74,7 @@ module _ {file : List ℕ} {line : Line} {places : List ℕ} (count : ℕ) (w : 
   abbrev k : ℕ
   k = 5 + 2 * j
 
-  pub putting-end : count ≤ j → edges ≡ splice (edgeWidth * from) (joined (edgesFrom fs child 5)) lent
+  pub putting-end : count ≤ j → edges ≡ splice (edgeWidth * from) (joined (pairEdges fs child 5)) lent
   putting-end h =
       sym (ap (λ (es : List (List ℕ)). splice (edgeWidth * (from + j)) (joined es) edges) (edges-end fs child k (omega (arith, w .counted)))
       ∙ splice-none edges (edgeWidth * (from + j)))
@@ -92,7 +92,7 @@ module _ {file : List ℕ} {line : Line} {places : List ℕ} (count : ℕ) (w : 
         → Putting fs child from lent (j + 1) more
     putting-more few label parent more l n e s =
         let put = edgeNumbers child (asEdge (pairAt fs k)) in
-        let later = edgesFrom fs child (k + 2) in
+        let later = pairEdges fs child (k + 2) in
         let at = edgeWidth * (from + j) in
         let one : edgeWidth * (from + (j + 1)) ≡ at + 4 = omega arith in
         let two : 5 + 2 * (j + 1) ≡ k + 2 = omega arith in

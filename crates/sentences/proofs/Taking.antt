@@ -40,7 +40,7 @@ use Rattle.judging.specs.declared.state.Tally.{Tally}
 use Rattle.judging.proofs.Knowing.{Telling}
 use Rattle.judging.proofs.Granted.{PhraseGranted, word-granted, phrase-granted}
 use Rattle.judging.proofs.Counts.{one-more, tally-with-word, tally-with-phrase, telling-more}
-use Rattle.sentences.specs.Keeping.{Kept, withRecord, withEdges, effect, NodeFits, Applicable}
+use Rattle.sentences.specs.Keeping.{Stored, withRecord, withEdges, storedBy, NodeStorable, Storable}
 use Rattle.sentences.proofs.Growing.{listed-apart, nodes-with-word, nodes-with-phrase, flat-node}
 use Rattle.sentences.proofs.NodeTakings.{bare, NodeHere, word-here, phrase-here}
 use Rattle.judging.proofs.KeptOn.{kept-with-word, kept-with-phrase}
@@ -51,14 +51,14 @@ none-listed [] m e = refl
 none-listed (p ∷ ps) m e = cc
 
 -- what is known where a line is listed
-pub record LineHere (file : List ℕ) (sought : Option Sentence) (at : ℕ) (k : Kept) (e : ℕ) (l : Line) (places : List ℕ) : Type 0 where
+pub record LineHere (file : List ℕ) (sought : Option Sentence) (at : ℕ) (k : Stored) (e : ℕ) (l : Line) (places : List ℕ) : Type 0 where
   pub going : Gathering file sought at k
   pub short : length file ≤ fileLimit
   pub ends : lineEnd file at ≡ At e
   pub is : listing.lineOf file l ≡ listing.textBetween file at e
   pub listed : listing.Listed file l places
 
-module _ {file : List ℕ} {sought : Option Sentence} {at : ℕ} {k : Kept} {e : ℕ} {l : Line} {places : List ℕ} (t : LineHere file sought at k e l places) where
+module _ {file : List ℕ} {sought : Option Sentence} {at : ℕ} {k : Stored} {e : ℕ} {l : Line} {places : List ℕ} (t : LineHere file sought at k e l places) where
   abbrev g : Gathering file sought at k
   g = t .going
 
@@ -138,7 +138,7 @@ module _ {file : List ℕ} {sought : Option Sentence} {at : ℕ} {k : Kept} {e :
   -- ---- one node more
 
   module _ (n : Node) (x : NodeHere file l places n) where
-    fits : n .number < nodeRoom → edgesOf s + length (n .secondary) ≤ edgeLimit → NodeFits file l places (nodeSaid n) (k .tally) (k .sheet) (k .edges)
+    fits : n .number < nodeRoom → edgesOf s + length (n .secondary) ≤ edgeLimit → NodeStorable file l places (nodeSaid n) (k .tally) (k .sheet) (k .edges)
     fits low few =
         record { whole = x .whole; number = low; few = rw (g .tally-is) few; sheet-size = g .sheet-size; edges-size = g .edges-size }
 
@@ -161,7 +161,7 @@ module _ {file : List ℕ} {sought : Option Sentence} {at : ℕ} {k : Kept} {e :
     low : n .number < nodeRoom
     low = omega (arith, its-number, g .known .words)
 
-    pub word-applies : Applicable file l places y k
+    pub word-applies : Storable file l places y k
     word-applies = (
       fits n (word-here (t .listed) s n granted-so .0) low (word-granted 3 noTables (soFar s) (listing.lineOf file l) n granted-so .few),
       rw (g .tally-is) (omega (arith, g .known .words)),
@@ -178,8 +178,8 @@ module _ {file : List ℕ} {sought : Option Sentence} {at : ℕ} {k : Kept} {e :
     new-word : listed (nodes s) (n .number) ≡ false
     new-word = listed-apart (s .words) (s .phrases) (n .number) (g .above (n .number) (omega (arith, its-number))) (none-listed (s .phrases) (n .number) words-first)
 
-    pub word-on : (k′ : Kept) → k′ ≡ effect fs y k → length (k′ .sheet) ≡ length (k .sheet) → length (k′ .edges) ≡ length (k .edges) → Gathering file sought (e + 1) k′
-    unfolding effect after
+    pub word-on : (k′ : Stored) → k′ ≡ storedBy fs y k → length (k′ .sheet) ≡ length (k .sheet) → length (k′ .edges) ≡ length (k .edges) → Gathering file sought (e + 1) k′
+    unfolding storedBy after
     word-on k′ is a b =
         record {
           sentence = withWord s n;
@@ -188,16 +188,16 @@ module _ {file : List ℕ} {sought : Option Sentence} {at : ℕ} {k : Kept} {e :
           known = kept-with-word file [] 3 noTables s (g .known) (listing.lineOf file l) n granted-so;
           above = above⁺;
           phrases = omega (arith, g .phrases, behind);
-          telling = subst (λ (ms : List ℕ). Telling ms 0 (withWord s n)) (sym (ap (λ (z : Kept). z .marks) is)) (record { stamped = g .telling .stamped; tell = g .telling .tell });
-          marks-size = ap (λ (z : Kept). length (z .marks)) is ∙ g .marks-size;
+          telling = subst (λ (ms : List ℕ). Telling ms 0 (withWord s n)) (sym (ap (λ (z : Stored). z .marks) is)) (record { stamped = g .telling .stamped; tell = g .telling .tell });
+          marks-size = ap (λ (z : Stored). length (z .marks)) is ∙ g .marks-size;
           tally-is =
-              ap (λ (z : Kept). z .tally) is ∙ ap (λ (y : Tally). states.withWord y (nodeSaid n)) (g .tally-is) ∙ tally-with-word s n words-first;
+              ap (λ (z : Stored). z .tally) is ∙ ap (λ (y : Tally). states.countedWord y (nodeSaid n)) (g .tally-is) ∙ tally-with-word s n words-first;
           sheet-is =
-              ap (λ (z : Kept). z .sheet) is ∙ with-record n (word-here (t .listed) s n granted-so .0) low new-word
+              ap (λ (z : Stored). z .sheet) is ∙ with-record n (word-here (t .listed) s n granted-so .0) low new-word
               ∙ ap (openSentence (s .heading)) (sym (nodes-with-word s n words-first));
           sheet-size = a ∙ g .sheet-size;
           edges-are =
-              ap (λ (z : Kept). z .edges) is ∙ with-edges n (word-here (t .listed) s n granted-so .0)
+              ap (λ (z : Stored). z .edges) is ∙ with-edges n (word-here (t .listed) s n granted-so .0)
               ∙ ap (λ (ns : List Node). flatEdges (edgesAmong ns)) (sym (nodes-with-word s n words-first));
           edges-size = b ∙ g .edges-size;
         }
@@ -209,7 +209,7 @@ module _ {file : List ℕ} {sought : Option Sentence} {at : ℕ} {k : Kept} {e :
     told : PhraseGranted (soFar s) n
     told = phrase-granted 3 noTables (soFar s) (listing.lineOf file l) n granted-so
 
-    pub phrase-applies : Applicable file l places z k
+    pub phrase-applies : Storable file l places z k
     phrase-applies = (
       fits n (phrase-here (t .listed) s n granted-so) (omega (arith, told .high)) (told .few),
       rw (g .tally-is) (omega (arith, g .phrases, g .in-file, t .short)),
@@ -219,8 +219,8 @@ module _ {file : List ℕ} {sought : Option Sentence} {at : ℕ} {k : Kept} {e :
     new-phrase : listed (nodes s) (n .number) ≡ false
     new-phrase = listed-apart (s .words) (s .phrases) (n .number) (g .above (n .number) (omega (arith, told .low, g .known .words))) (told .new)
 
-    pub phrase-on : (k′ : Kept) → k′ ≡ effect fs z k → length (k′ .sheet) ≡ length (k .sheet) → length (k′ .edges) ≡ length (k .edges) → Gathering file sought (e + 1) k′
-    unfolding effect after
+    pub phrase-on : (k′ : Stored) → k′ ≡ storedBy fs z k → length (k′ .sheet) ≡ length (k .sheet) → length (k′ .edges) ≡ length (k .edges) → Gathering file sought (e + 1) k′
+    unfolding storedBy after
     phrase-on k′ is a b =
         record {
           sentence = withPhrase s n;
@@ -230,17 +230,17 @@ module _ {file : List ℕ} {sought : Option Sentence} {at : ℕ} {k : Kept} {e :
           above = g .above;
           phrases = omega (arith, g .phrases, behind, one-more (s .phrases) n);
           telling =
-              subst (λ (ms : List ℕ). Telling ms 0 (withPhrase s n)) (sym (ap (λ (z : Kept). z .marks) is))
+              subst (λ (ms : List ℕ). Telling ms 0 (withPhrase s n)) (sym (ap (λ (z : Stored). z .marks) is))
               (telling-more (k .marks) 0 s (g .telling) n (told .low) (omega (arith, told .high, g .marks-size)));
-          marks-size = ap (λ (z : Kept). length (z .marks)) is ∙ length-set (k .marks) (n .number - 500) 1 ∙ g .marks-size;
+          marks-size = ap (λ (z : Stored). length (z .marks)) is ∙ length-set (k .marks) (n .number - 500) 1 ∙ g .marks-size;
           tally-is =
-              ap (λ (z : Kept). z .tally) is ∙ ap (λ (y : Tally). states.withPhrase y (nodeSaid n)) (g .tally-is) ∙ tally-with-phrase s n (told .low);
+              ap (λ (z : Stored). z .tally) is ∙ ap (λ (y : Tally). states.countedPhrase y (nodeSaid n)) (g .tally-is) ∙ tally-with-phrase s n (told .low);
           sheet-is =
-              ap (λ (z : Kept). z .sheet) is ∙ with-record n (phrase-here (t .listed) s n granted-so) (omega (arith, told .high)) new-phrase
+              ap (λ (z : Stored). z .sheet) is ∙ with-record n (phrase-here (t .listed) s n granted-so) (omega (arith, told .high)) new-phrase
               ∙ ap (openSentence (s .heading)) (sym (nodes-with-phrase s n));
           sheet-size = a ∙ g .sheet-size;
           edges-are =
-              ap (λ (z : Kept). z .edges) is ∙ with-edges n (phrase-here (t .listed) s n granted-so)
+              ap (λ (z : Stored). z .edges) is ∙ with-edges n (phrase-here (t .listed) s n granted-so)
               ∙ ap (λ (ns : List Node). flatEdges (edgesAmong ns)) (sym (nodes-with-phrase s n));
           edges-size = b ∙ g .edges-size;
         }

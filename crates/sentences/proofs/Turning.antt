@@ -25,12 +25,12 @@ use Rattle.steps.proofs.Step.{the-type}
 use Rattle.nodes.specs.NodeLines.{fieldsOf}
 use Rattle.judging.specs.States as states
 use Rattle.judging.specs.declared.state.Tally.{Tally}
-use Rattle.sentences.specs.Keeping.{takenBy, Kept, effect, Applicable}
+use Rattle.sentences.specs.Keeping.{takenBy, Stored, storedBy, Storable}
 use Rattle.sentences.proofs.NodeTakings.{bare, taken-same, Taken, node-taken}
 use Rattle.sentences.proofs.Gathering.{Gathering}
 use Rattle.sentences.proofs.Taking.{LineHere, refused-here, found-here, ignored-on, word-applies, word-on, phrase-applies, phrase-on}
 
-module _ {file : List ℕ} {sought : Option Sentence} {at : ℕ} {k : Kept} {e : ℕ} {l : Line} {places : List ℕ} (t : LineHere file sought at k e l places) where
+module _ {file : List ℕ} {sought : Option Sentence} {at : ℕ} {k : Stored} {e : ℕ} {l : Line} {places : List ℕ} (t : LineHere file sought at k e l places) where
   abbrev g : Gathering file sought at k
   g = t .going
 
@@ -50,8 +50,8 @@ module _ {file : List ℕ} {sought : Option Sentence} {at : ℕ} {k : Kept} {e :
 
   abbrev Goes : Step → Type 0
   Goes y =
-      Applicable file l places y k
-      × ((k′ : Kept) → k′ ≡ effect fs y k → length (k′ .sheet) ≡ length (k .sheet) → length (k′ .edges) ≡ length (k .edges) → Gathering file sought (e + 1) k′)
+      Storable file l places y k
+      × ((k′ : Stored) → k′ ≡ storedBy fs y k → length (k′ .sheet) ≡ length (k .sheet) → length (k′ .edges) ≡ length (k .edges) → Gathering file sought (e + 1) k′)
 
   abbrev Turned : Step → Type 0
   Turned steps.Ignored = Goes steps.Ignored
@@ -66,7 +66,7 @@ module _ {file : List ℕ} {sought : Option Sentence} {at : ℕ} {k : Kept} {e :
   Turned (steps.Refused f) = sought ≡ none
 
   by-verdict : (v : Verdict Taking) → taken ph [] line ≡ v → Taken s line v → Turned (stepOf v)
-  unfolding effect
+  unfolding storedBy
   by-verdict (refused b) h w = refused-here t b h
   by-verdict (granted ignoredLine) h w = (tt, λ k′ is a b. subst (Gathering file sought (e + 1)) (sym is) (ignored-on t h))
   by-verdict (granted (formatLine n)) h w = w

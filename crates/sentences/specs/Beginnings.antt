@@ -20,20 +20,20 @@ abbrev pub begunAt : List ℕ → ℕ → Option Sentence
 begunAt file place = begunBy file place (endedLine (drop place file))
 
 -- a heading that is granted, and the place behind its line
-pub record Opened : Type 0 where
+pub record FoundHeading : Type 0 where
   pub heading : Heading
   pub next : ℕ
 
-abbrev pub openedIf : ℕ → Verdict Heading → Option Opened
+abbrev pub openedIf : ℕ → Verdict Heading → Option FoundHeading
 openedIf next (refused r) = none
 openedIf next (granted h) = some (record { heading = h; next = next })
 
-abbrev pub openedBy : ℕ → Option (List ℕ) → Option Opened
+abbrev pub openedBy : ℕ → Option (List ℕ) → Option FoundHeading
 openedBy place none = none
 openedBy place (some l) = openedIf (suc (place + length l)) (headingAlone (record { start = place; bytes = l }))
 
 -- the heading that stands at a place
-abbrev pub openedAt : List ℕ → ℕ → Option Opened
+abbrev pub openedAt : List ℕ → ℕ → Option FoundHeading
 openedAt file place = openedBy place (endedLine (drop place file))
 
 pub record Headed (file : List ℕ) (place next : ℕ) (t : Tally) (lent sheet : List ℕ) : Type 0 where

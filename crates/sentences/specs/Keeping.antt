@@ -22,10 +22,10 @@ use Rattle.steps.specs.declared.NodeSaid.{NodeSaid}
 use Rattle.steps.specs.declared.Step.{Step}
 use Rattle.steps.specs.declared.Step.the-variants.{Ignored, Format, TableBegins, Row, TableEnds, SentenceBegins, Word, Phrase, SentenceEnds, Refused}
 use Rattle.nodes.specs.NodeLines.{Whole}
-use Rattle.judging.specs.States.{withWord, withPhrase}
+use Rattle.judging.specs.States.{countedWord, countedPhrase}
 use Rattle.judging.specs.Judging.{soFarBy}
 use Rattle.judging.specs.declared.state.Tally.{Tally}
-use Rattle.sentences.specs.LineEdges.{edgesFrom}
+use Rattle.sentences.specs.LineEdges.{pairEdges}
 
 -- there are no tables, and the stamp of the phrases' marks is 1: no sentence is handed out in front
 unfoldable pub takenBy : Text → Tally → List ℕ → Verdict Taking
@@ -33,14 +33,14 @@ takenBy line t marks =
     pick (ignored (line .bytes)) (granted ignoredLine) (amongNodes line (firstColumn line) 3 noTables (soFarBy t marks 1))
 
 -- the counts, the sentence sheet, the flat list of secondary edges, the marks of the phrases
-pub record Kept : Type 0 where
+pub record Stored : Type 0 where
   pub tally : Tally
   pub sheet : List ℕ
   pub edges : List ℕ
   pub marks : List ℕ
 
-abbrev pub kept : Tally → List ℕ → List ℕ → List ℕ → Kept
-kept t sheet edges marks = record { tally = t; sheet = sheet; edges = edges; marks = marks }
+abbrev pub stored : Tally → List ℕ → List ℕ → List ℕ → Stored
+stored t sheet edges marks = record { tally = t; sheet = sheet; edges = edges; marks = marks }
 
 -- ---- one node more
 
@@ -65,25 +65,25 @@ withRecord n sheet = splice (fieldPlace 0 (n .number)) (recordNumbers (recordSai
 
 -- the fields of its line give its secondary edges, which stand behind those counted
 abbrev pub withEdges : List Text → NodeSaid → Tally → List ℕ → List ℕ
-withEdges fs n t edges = splice (edgeWidth * t .edges) (joined (edgesFrom fs (n .number) 5)) edges
+withEdges fs n t edges = splice (edgeWidth * t .edges) (joined (pairEdges fs (n .number) 5)) edges
 
-unfoldable pub effect : List Text → Step → Kept → Kept
-effect fs Ignored k = k
-effect fs (Format n) k = k
-effect fs (TableBegins n) k = k
-effect fs (Row r) k = k
-effect fs TableEnds k = k
-effect fs (SentenceBegins h) k = k
-effect fs (Word n) k =
-    kept (withWord (k .tally) n) (withRecord n (k .sheet)) (withEdges fs n (k .tally) (k .edges)) (k .marks)
-effect fs (Phrase n) k =
-    kept (withPhrase (k .tally) n) (withRecord n (k .sheet)) (withEdges fs n (k .tally) (k .edges)) (set (k .marks) (n .number - 500) 1)
-effect fs SentenceEnds k = k
-effect fs (Refused f) k = k
+unfoldable pub storedBy : List Text → Step → Stored → Stored
+storedBy fs Ignored k = k
+storedBy fs (Format n) k = k
+storedBy fs (TableBegins n) k = k
+storedBy fs (Row r) k = k
+storedBy fs TableEnds k = k
+storedBy fs (SentenceBegins h) k = k
+storedBy fs (Word n) k =
+    stored (countedWord (k .tally) n) (withRecord n (k .sheet)) (withEdges fs n (k .tally) (k .edges)) (k .marks)
+storedBy fs (Phrase n) k =
+    stored (countedPhrase (k .tally) n) (withRecord n (k .sheet)) (withEdges fs n (k .tally) (k .edges)) (set (k .marks) (n .number - 500) 1)
+storedBy fs SentenceEnds k = k
+storedBy fs (Refused f) k = k
 
 -- ---- what a step needs
 
-pub record NodeFits (file : List ℕ) (line : Line) (places : List ℕ) (n : NodeSaid) (t : Tally) (sheet edges : List ℕ) : Type 0 where
+pub record NodeStorable (file : List ℕ) (line : Line) (places : List ℕ) (n : NodeSaid) (t : Tally) (sheet edges : List ℕ) : Type 0 where
   pub whole : Whole file line places (5 + 2 * n .edges)
   pub number : n .number < nodeRoom
   pub few : t .edges + n .edges ≤ edgeLimit
@@ -91,15 +91,15 @@ pub record NodeFits (file : List ℕ) (line : Line) (places : List ℕ) (n : Nod
   pub edges-size : length edges ≡ edgeLimit * edgeWidth
 
 module _ (file : List ℕ) (line : Line) (places : List ℕ) where
-  abbrev pub Applicable : Step → Kept → Type 0
-  Applicable Ignored k = Unit {0}
-  Applicable (Format n) k = Unit {0}
-  Applicable (TableBegins n) k = Unit {0}
-  Applicable (Row r) k = Unit {0}
-  Applicable TableEnds k = Unit {0}
-  Applicable (SentenceBegins h) k = Unit {0}
-  Applicable (Word n) k = NodeFits file line places n (k .tally) (k .sheet) (k .edges) × (k .tally .words ≤ fileLimit)
-  Applicable (Phrase n) k =
-      NodeFits file line places n (k .tally) (k .sheet) (k .edges) × (k .tally .phrases ≤ fileLimit) × (500 ≤ n .number)
-  Applicable SentenceEnds k = Unit {0}
-  Applicable (Refused f) k = Unit {0}
+  abbrev pub Storable : Step → Stored → Type 0
+  Storable Ignored k = Unit {0}
+  Storable (Format n) k = Unit {0}
+  Storable (TableBegins n) k = Unit {0}
+  Storable (Row r) k = Unit {0}
+  Storable TableEnds k = Unit {0}
+  Storable (SentenceBegins h) k = Unit {0}
+  Storable (Word n) k = NodeStorable file line places n (k .tally) (k .sheet) (k .edges) × (k .tally .words ≤ fileLimit)
+  Storable (Phrase n) k =
+      NodeStorable file line places n (k .tally) (k .sheet) (k .edges) × (k .tally .phrases ≤ fileLimit) × (500 ≤ n .number)
+  Storable SentenceEnds k = Unit {0}
+  Storable (Refused f) k = Unit {0}

@@ -7,5 +7,5 @@ use Rattle.sentence_sheet.specs.FlatEdges.{edgeNumbers}
 use Rattle.nodes.specs.NodeLines.{pairsFrom}
 
 -- those from a field on
-abbrev pub edgesFrom : List Text → ℕ → ℕ → List (List ℕ)
-edgesFrom fs child k = map (edgeNumbers child) (map asEdge (pairsFrom fs k))
+abbrev pub pairEdges : List Text → ℕ → ℕ → List (List ℕ)
+pairEdges fs child k = map (edgeNumbers child) (map asEdge (pairsFrom fs k))

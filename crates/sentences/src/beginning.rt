@@ -2,11 +2,13 @@
 ghost use mathlib.Core.Path.{_≡_};
 ghost use Prim.Native.Nat.{_≤_};
 ghost use lib.ListN.{length};
+ghost use Rattle.rules.specs.Bytes.{classTable};
 ghost use Rattle.rules.specs.Numbers.{fileLimit};
 ghost use Rattle.rules.specs.Sheets.{sentenceSheetSize};
 ghost use Rattle.rules.specs.SentenceFrom.{startsLine};
 ghost use Rattle.sentences.specs.Beginnings.{BegunAs};
 use columns::listing;
+use columns::listing::Places;
 use judging::state;
 use judging::state::Tally;
 use lines::LineEnd;
@@ -34,21 +36,25 @@ pub fn starts_line(file: &[u8], place: usize) -> bool
 }
 
 // The heading goes into the sheet.
-pub fn begin(file: &[u8], place: usize, sheet: &mut [u32]) -> Begun
-    requires { ⌜ (length (now file) ≤ fileLimit) × (place ≤ length (now file)) × (length (now sheet) ≡ sentenceSheetSize) ⌝ }
+pub fn begin(
+    file: &[u8],
+    place: usize,
+    sheet: &mut [u32],
+    places: &mut Places,
+    classes: &[u8; 256],
+) -> Begun
+    requires { ⌜ (now classes ≡ classTable) × (length (now file) ≤ fileLimit) × (place ≤ length (now file)) × (length (now sheet) ≡ sentenceSheetSize) ⌝ }
     ensures { λ r. ⌜ BegunAs (now (file .entry)) place r (now (sheet .entry)) (now (sheet .exit)) ⌝ }
 {
-    let classes = classes::byte_classes();
-    let mut places = [0u32; 4096];
-    let found = lines::line_end(file, place, &classes);
+    let found = lines::line_end(file, place, classes);
     let LineEnd::At(end) = found else {
         return Begun::Nowhere;
     };
-    let line = listing::read_line(file, place, end, &classes, &mut places);
-    if !same_text(listing::first_column(file, line, &places), b"#BOS") {
+    let line = listing::read_line(file, place, end, classes, places);
+    if !same_text(listing::first_column(file, line, places), b"#BOS") {
         return Begun::Nowhere;
     }
-    let step = headings::heading_alone(file, line, &places, &classes);
+    let step = headings::heading_alone(file, line, places, classes);
     let Step::SentenceBegins(h) = step else {
         return Begun::Nowhere;
     };

@@ -4,7 +4,7 @@ ghost use Prim.Native.Nat.{_-_, _≤_};
 ghost use lib.ListN.{set};
 ghost use Rattle.rules.specs.Bytes.{classTable};
 ghost use Rattle.nodes.specs.NodeLines.{fieldsOf};
-ghost use Rattle.sentences.specs.Keeping.{kept, recordSaid, withRecord, withEdges, NodeFits, Applicable, effect};
+ghost use Rattle.sentences.specs.Keeping.{stored, recordSaid, withRecord, withEdges, NodeStorable, Storable, storedBy};
 use crate::pairs::put_pairs;
 use columns::listing::Line;
 use columns::listing::Places;
@@ -60,7 +60,7 @@ fn put_node(
     edges: &mut [u32],
     classes: &[u8; 256],
 )
-    requires { ⌜ (now classes ≡ classTable) × NodeFits (now file) line (now places) node t (now sheet) (now edges) ⌝ }
+    requires { ⌜ (now classes ≡ classTable) × NodeStorable (now file) line (now places) node t (now sheet) (now edges) ⌝ }
     ensures { λ _. ⌜ (now (sheet .exit) ≡ withRecord node (now (sheet .entry))) × (now (edges .exit) ≡ withEdges (fieldsOf (now (file .entry)) line) node t (now (edges .entry))) ⌝ }
 {
     sentence_sheet::put_node(sheet, node.number as usize, record_said(node));
@@ -78,8 +78,8 @@ pub fn keep(
     marks: &mut [u32; MARKS],
     classes: &[u8; 256],
 ) -> Tally
-    requires { ⌜ (now classes ≡ classTable) × Applicable (now file) line (now places) step (kept t (now sheet) (now edges) (now marks)) ⌝ }
-    ensures { λ r. ⌜ kept r (now (sheet .exit)) (now (edges .exit)) (now (marks .exit)) ≡ effect (fieldsOf (now (file .entry)) line) step (kept t (now (sheet .entry)) (now (edges .entry)) (now (marks .entry))) ⌝ }
+    requires { ⌜ (now classes ≡ classTable) × Storable (now file) line (now places) step (stored t (now sheet) (now edges) (now marks)) ⌝ }
+    ensures { λ r. ⌜ stored r (now (sheet .exit)) (now (edges .exit)) (now (marks .exit)) ≡ storedBy (fieldsOf (now (file .entry)) line) step (stored t (now (sheet .entry)) (now (edges .entry)) (now (marks .entry))) ⌝ }
 {
     match step {
         Step::Word(node) => {

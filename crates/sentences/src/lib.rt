@@ -1,5 +1,6 @@
 // The sentence that begins at a place of a file, read from there on into a sentence sheet and a list of secondary edges.
 mod beginning;
+pub mod clearing;
 mod keeping;
 mod pairs;
 
@@ -23,7 +24,7 @@ use columns::listing::Line;
 use columns::listing::Places;
 use judging::state::MARKS;
 use judging::state::Tally;
-use lines::LineEnd;
+use lines::NextLine;
 use steps::Step;
 
 // What a line behind the heading is taken for. There are no tables, and no sentence is handed out in front of this one.
@@ -59,23 +60,28 @@ fn judge(
 }
 
 // The lines behind the heading, up to #EOS; false if one of them is refused, or if there is none.
-fn take_nodes(file: &[u8], from: usize, first: Tally, sheet: &mut [u32], edges: &mut [u32]) -> bool
-    requires { ⌜ (length (now file) ≤ fileLimit) × Headed (now file) (first .start) from first (replicate sentenceSheetSize 0) (now sheet) × (length (now sheet) ≡ sentenceSheetSize) × (now edges ≡ replicate (edgeLimit * edgeWidth) 0) ⌝ }
+fn take_nodes(
+    file: &[u8],
+    from: usize,
+    first: Tally,
+    sheet: &mut [u32],
+    edges: &mut [u32],
+    places: &mut Places,
+    hints: &[u8; table_sheet::HINTS],
+    classes: &[u8; 256],
+) -> bool
+    requires { ⌜ (now classes ≡ classTable) × (length (now file) ≤ fileLimit) × Headed (now file) (first .start) from first (replicate sentenceSheetSize 0) (now sheet) × (length (now sheet) ≡ sentenceSheetSize) × (now edges ≡ replicate (edgeLimit * edgeWidth) 0) ⌝ }
     ensures { λ r. ⌜ Gathered (begunAt (now (file .entry)) (first .start)) r (now (sheet .exit)) (now (edges .exit)) ⌝ }
 {
-    let classes = classes::byte_classes();
-    let hints = [0u8; table_sheet::HINTS];
     let mut marks = [0u32; MARKS];
-    let mut places = [0u32; 4096];
     let mut t = first;
     let mut at = from;
     while at < file.len() {
-        let found = lines::line_end(file, at, &classes);
-        let LineEnd::At(end) = found else {
+        let found = lines::next_line(file, at, true, classes, places);
+        let NextLine::Line(line) = found else {
             return false;
         };
-        let line = listing::read_line(file, at, end, &classes, &mut places);
-        let step = judge(file, line, &places, t, &hints, &marks, &classes);
+        let step = judge(file, line, places, t, hints, &marks, classes);
         if let Step::Refused(_) = step {
             return false;
         }
@@ -87,15 +93,44 @@ fn take_nodes(file: &[u8], from: usize, first: Tally, sheet: &mut [u32], edges: 
             step,
             file,
             line,
-            &places,
+            places,
             t,
             sheet,
             edges,
             &mut marks,
-            &classes,
+            classes,
         );
-        at = end + 1;
+        at = line.end + 1;
     }
+    false
+}
+
+// The lent sheet and list are zero, and again if no sentence stands there (false). `places` is room for the columns of a line,
+// `hints` tell where to look first for a tag: what these two hold makes no difference.
+pub fn read_into(
+    file: &[u8],
+    place: usize,
+    sheet: &mut [u32],
+    edges: &mut [u32],
+    places: &mut Places,
+    hints: &[u8; table_sheet::HINTS],
+    classes: &[u8; 256],
+) -> bool
+    requires { ⌜ (now classes ≡ classTable) × (length (now file) ≤ fileLimit) × (now sheet ≡ replicate sentenceSheetSize 0) × (now edges ≡ replicate (edgeLimit * edgeWidth) 0) ⌝ }
+    ensures { λ r. ⌜ SentenceRead (sentenceFrom (now (file .entry)) place) r (now (sheet .exit)) (now (edges .exit)) ⌝ }
+{
+    if !beginning::starts_line(file, place) {
+        return false;
+    }
+    let begun = beginning::begin(file, place, sheet, places, classes);
+    let Begun::Behind(next, tally) = begun else {
+        return false;
+    };
+    if take_nodes(file, next, tally, sheet, edges, places, hints, classes) {
+        return true;
+    }
+    table_sheet::clear(sheet);
+    table_sheet::clear(edges);
     false
 }
 
@@ -106,17 +141,8 @@ pub fn read_sentence(file: &[u8], place: usize, sheet: &mut [u32], edges: &mut [
 {
     table_sheet::clear(sheet);
     table_sheet::clear(edges);
-    if !beginning::starts_line(file, place) {
-        return false;
-    }
-    let begun = beginning::begin(file, place, sheet);
-    let Begun::Behind(next, tally) = begun else {
-        return false;
-    };
-    if take_nodes(file, next, tally, sheet, edges) {
-        return true;
-    }
-    table_sheet::clear(sheet);
-    table_sheet::clear(edges);
-    false
+    let mut places = [0u32; 4096];
+    let hints = [0u8; table_sheet::HINTS];
+    let classes = classes::byte_classes();
+    read_into(file, place, sheet, edges, &mut places, &hints, &classes)
 }

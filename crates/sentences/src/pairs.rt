@@ -8,7 +8,7 @@ ghost use Rattle.rules.specs.Numbers.{phraseNumber, number, value, edgeLimit};
 ghost use Rattle.columns.specs.Splices.{splice};
 ghost use Rattle.sentence_sheet.specs.FlatEdges.{edgeWidth};
 ghost use Rattle.nodes.specs.NodeLines.{fieldsOf, Whole};
-ghost use Rattle.sentences.specs.LineEdges.{edgesFrom};
+ghost use Rattle.sentences.specs.LineEdges.{pairEdges};
 use columns::listing;
 use columns::listing::Line;
 use columns::listing::Places;
@@ -39,7 +39,7 @@ pub fn put_pairs(
     classes: &[u8; 256],
 )
     requires { ⌜ (now classes ≡ classTable) × Whole (now file) line (now places) (5 + 2 * node .edges) × (from + node .edges ≤ edgeLimit) × (length (now edges) ≡ edgeLimit * edgeWidth) ⌝ }
-    ensures { λ _. ⌜ now (edges .exit) ≡ splice (edgeWidth * from) (joined (edgesFrom (fieldsOf (now (file .entry)) line) (node .number) 5)) (now (edges .entry)) ⌝ }
+    ensures { λ _. ⌜ now (edges .exit) ≡ splice (edgeWidth * from) (joined (pairEdges (fieldsOf (now (file .entry)) line) (node .number) 5)) (now (edges .entry)) ⌝ }
 {
     let count = node.edges as usize;
     let mut j = 0;

@@ -38,13 +38,13 @@ pub struct HeadingSaid {
 
 // A word or a phrase; `edges` counts its secondary edges, `highest` is the largest of its parents, secondary ones too.
 pub struct NodeSaid {
-    pub number: u32,
     pub word: Span,
     pub tag: Span,
     pub morphology: Span,
     pub edge: Span,
-    pub parent: u32,
     pub comment: Span,
+    pub number: u32,
+    pub parent: u32,
     pub edges: u32,
     pub highest: u32,
 }

@@ -15,7 +15,7 @@ use Rattle.rules.specs.Survey.{nothingRead, told, sheetsFit, fileFits, surveyOf
 use Rattle.reading.specs.Closing.{FileRead}
 use Rattle.reading.specs.declared.Read.{Read}
 use Rattle.survey.specs.declared.Surveyed.{Surveyed}
-use Rattle.survey.specs.Promise.{outcome, numbersOf, surveyedAs, indexed}
+use Rattle.survey.specs.Promise.{outcome, asSurveyed, surveyedAs, indexed}
 
 -- the sheets that fit have their sizes
 pub fitting : (sheet seen : List ℕ) → sheetsFit sheet seen ≡ true → (length sheet ≡ tableSheetSize) × (length seen ≡ seenSetSize)
@@ -28,11 +28,11 @@ module _ (file sheet seen : List ℕ) (r : Surveyed) where
   abbrev Promised : List ℕ → List ℕ → Type 0
   Promised sheet′ seen′ = outcome r sheet′ seen′ ≡ afterSurvey file sheet seen
 
-  pub unsized : sheetsFit sheet seen ≡ false → r ≡ numbersOf (told (nothingRead 1)) → Promised sheet seen
+  pub unsized : sheetsFit sheet seen ≡ false → r ≡ asSurveyed (told (nothingRead 1)) → Promised sheet seen
   unfolding afterSurvey
   unsized h q = rw (h, q)
 
-  pub too-long : sheetsFit sheet seen ≡ true → fileFits file ≡ false → r ≡ numbersOf (told (nothingRead 2)) → Promised sheet seen
+  pub too-long : sheetsFit sheet seen ≡ true → fileFits file ≡ false → r ≡ asSurveyed (told (nothingRead 2)) → Promised sheet seen
   unfolding afterSurvey
   too-long h i q = rw (h, i, q)
 
@@ -47,12 +47,12 @@ module _ (file sheet seen places : List ℕ) (r : Surveyed) where
   abbrev Indexes : List ℕ → List ℕ → List ℕ → Type 0
   Indexes sheet′ seen′ places′ = indexed r sheet′ seen′ places′ ≡ afterIndexing file sheet seen places
 
-  pub unsized-index : (sheetsFit sheet seen && eqb (length places) indexSize) ≡ false → r ≡ numbersOf (told (nothingRead 1)) → Indexes sheet seen places
+  pub unsized-index : (sheetsFit sheet seen && eqb (length places) indexSize) ≡ false → r ≡ asSurveyed (told (nothingRead 1)) → Indexes sheet seen places
   unfolding afterIndexing
   unsized-index h q = rw (h, q)
 
   module _ (sized : sheetsFit sheet seen ≡ true) (long : length places ≡ indexSize) where
-    pub too-long-index : fileFits file ≡ false → r ≡ numbersOf (told (nothingRead 2)) → Indexes sheet seen places
+    pub too-long-index : fileFits file ≡ false → r ≡ asSurveyed (told (nothingRead 2)) → Indexes sheet seen places
     unfolding afterIndexing
     too-long-index i q = rw (sized, eq-eqb (length places) indexSize long, i, q)
 

@@ -15,8 +15,8 @@ outcome r tables seen =
     }
 
 -- the four numbers that are told
-abbrev pub numbersOf : Told → Surveyed
-numbersOf t = record { refusal = t .refusal; place = t .place; sentences = t .sentences; «sound_end» = t .soundEnd }
+abbrev pub asSurveyed : Told → Surveyed
+asSurveyed t = record { refusal = t .refusal; place = t .place; sentences = t .sentences; «sound_end» = t .soundEnd }
 
 abbrev pub surveyedAs : Read → Surveyed
 surveyedAs r = record { refusal = r .refusal; place = r .place; sentences = r .sentences; «sound_end» = r .«sound_end» }

@@ -2,7 +2,7 @@
 ghost use mathlib.Core.Path.{_≡_};
 ghost use Rattle.rules.specs.Survey.{told, nothingRead, sheetsFit, afterSurvey};
 ghost use Rattle.rules.specs.Index.{afterIndexing};
-ghost use Rattle.survey.specs.Promise.{outcome, numbersOf, surveyedAs, indexed};
+ghost use Rattle.survey.specs.Promise.{outcome, asSurveyed, surveyedAs, indexed};
 use reading::Read;
 use steps::refusals;
 
@@ -17,7 +17,7 @@ pub struct Surveyed {
 }
 
 fn nothing_read(refusal: u32) -> Surveyed
-    ensures { λ r. ⌜ r ≡ numbersOf (told (nothingRead refusal)) ⌝ }
+    ensures { λ r. ⌜ r ≡ asSurveyed (told (nothingRead refusal)) ⌝ }
 {
     Surveyed {
         refusal,

@@ -1,2 +1,3 @@
 pub mod Trims
 pub mod Percents
+pub mod AsNumbers

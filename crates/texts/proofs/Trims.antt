@@ -16,7 +16,7 @@ use Rattle.rules.specs.Texts.{Text, noText, unlessWhite, rightTrim, trimFrom}
 use Rattle.rules.proofs.TrimLaws.{right-trim-white, right-length}
 use Rattle.columns.specs.Listing.{spanOf}
 use Rattle.columns.specs.declared.listing.Span.{Span}
-use Rattle.columns.specs.Leading.{leading}
+use Rattle.columns.specs.Leading.{runLength}
 use Rattle.columns.proofs.Leading.{leading-behind}
 
 -- ---- the end
@@ -81,13 +81,13 @@ end-none s start end e = rw (e, sub-self, add-zero)
 -- ---- the start
 
 -- white bytes in front are right-trim-white
-past-white : (at : ℕ) (s : List ℕ) → trimFrom at s ≡ trimFrom (at + leading white s) (drop (leading white s) s)
-unfolding trimFrom leading
+past-white : (at : ℕ) (s : List ℕ) → trimFrom at s ≡ trimFrom (at + runLength white s) (drop (runLength white s) s)
+unfolding trimFrom runLength
 past-white at [] = refl
 past-white at (b ∷ bs) = go (white b) refl (past-white (suc at) bs)
   where
-    go : (t : Bool) → white b ≡ t → trimFrom (suc at) bs ≡ trimFrom (suc at + leading white bs) (drop (leading white bs) bs)
-        → trimFrom at (b ∷ bs) ≡ trimFrom (at + leading white (b ∷ bs)) (drop (leading white (b ∷ bs)) (b ∷ bs))
+    go : (t : Bool) → white b ≡ t → trimFrom (suc at) bs ≡ trimFrom (suc at + runLength white bs) (drop (runLength white bs) bs)
+        → trimFrom at (b ∷ bs) ≡ trimFrom (at + runLength white (b ∷ bs)) (drop (runLength white (b ∷ bs)) (b ∷ bs))
     go true e h = rw (e, add-suc, ← suc-add) h
     go false e h = rw (e, add-zero, e)
 
@@ -96,11 +96,11 @@ unfolding trimFrom
 starts at [] h w = absurd (omega arith)
 starts at (b ∷ bs) h w = rw (w b bs refl)
 
-module _ (s : List ℕ) (at start : ℕ) (first : start ≡ at + leading white (drop at s)) where
+module _ (s : List ℕ) (at start : ℕ) (first : start ≡ at + runLength white (drop at s)) where
   from-start : trimFrom at (drop at s) ≡ trimFrom start (drop start s)
   from-start =
       past-white at (drop at s)
-      ∙ ap (trimFrom (at + leading white (drop at s))) (drop-drop (leading white (drop at s)) at s)
+      ∙ ap (trimFrom (at + runLength white (drop at s))) (drop-drop (runLength white (drop at s)) at s)
       ∙ ap (λ (k : ℕ). trimFrom k (drop k s)) (sym first)
 
   pub trimmed-none : length s ≤ start → trimFrom at (drop at s) ≡ noText
@@ -110,7 +110,7 @@ module _ (s : List ℕ) (at start : ℕ) (first : start ≡ at + leading white (
   pub trimmed-some : start < length s → trimFrom at (drop at s) ≡ record { start = start; bytes = rightTrim (drop start s) }
   trimmed-some h =
       from-start
-      ∙ starts start (drop start s) (omega (arith, length-drop start s)) (λ b bs q. leading-behind white (drop at s) b bs (drop-drop (leading white (drop at s)) at s ∙ ap (λ (k : ℕ). drop k s) (sym first) ∙ q))
+      ∙ starts start (drop start s) (omega (arith, length-drop start s)) (λ b bs q. leading-behind white (drop at s) b bs (drop-drop (runLength white (drop at s)) at s ∙ ap (λ (k : ℕ). drop k s) (sym first) ∙ q))
 
   -- the span of places that the code has come to
   pub span-none : length s ≤ start → spanOf (trimFrom at (drop at s)) ≡ record { start = 0; len = 0 }
@@ -131,7 +131,7 @@ lies : (s : List ℕ) (at : ℕ) → Lies s (trimFrom at (drop at s))
 lies s at = go (ltb start (length s)) refl
   where
     start : ℕ
-    start = at + leading white (drop at s)
+    start = at + runLength white (drop at s)
 
     go : (t : Bool) → ltb start (length s) ≡ t → Lies s (trimFrom at (drop at s))
     go true e =

@@ -1,4 +1,6 @@
 // The texts of a line: compared, without the white bytes at their ends, and cut at two percent signs.
+mod words;
+
 ghost use mathlib.Core.Path.{_≡_};
 ghost use Prim.Native.Nat.{_+_, _≤_};
 ghost use lib.ListN.{length, drop};
@@ -9,12 +11,11 @@ ghost use Rattle.rules.specs.Numbers.{fileLimit};
 ghost use Rattle.columns.specs.Listing.{spanOf};
 use columns::listing::Span;
 
-pub fn same_text(a: &[u8], b: &[u8]) -> bool
+// Byte by byte.
+fn same_bytes(a: &[u8], b: &[u8]) -> bool
+    requires { ⌜ length (now a) ≡ length (now b) ⌝ }
     ensures { λ r. ⌜ r ≡ same (now (a .entry)) (now (b .entry)) ⌝ }
 {
-    if a.len() != b.len() {
-        return false;
-    }
     let mut i = 0;
     while i < a.len() {
         if a[i] != b[i] {
@@ -23,6 +24,26 @@ pub fn same_text(a: &[u8], b: &[u8]) -> bool
         i += 1;
     }
     true
+}
+
+// Tags are compared most often, and have 4 to 16 bytes or fewer.
+pub fn same_text(a: &[u8], b: &[u8]) -> bool
+    ensures { λ r. ⌜ r ≡ same (now (a .entry)) (now (b .entry)) ⌝ }
+{
+    let n = a.len();
+    if n != b.len() {
+        return false;
+    }
+    if n < 4 {
+        return same_bytes(a, b);
+    }
+    if n <= 8 {
+        return words::same_fours(a, b);
+    }
+    if n <= 16 {
+        return words::same_eights(a, b);
+    }
+    same_bytes(a, b)
 }
 
 // The place behind the last byte from `start` on that isn't white, or `start`.

@@ -6,13 +6,13 @@ use mathlib.Core.Path.{_≡_, sym, ap, _∙_}
 use mathlib.Core.Bool.{Bool, not}
 use mathlib.Core.List.{List}
 use lib.ListN.{length, drop, getD}
-use Rattle.columns.specs.Leading.{leading, inRun}
+use Rattle.columns.specs.Leading.{runLength, inRun}
 use Rattle.columns.proofs.Leading.{leading-stop, leading-more, leading-end, in-run}
 use Rattle.columns.proofs.skip_run.Statement.{statement}
 use Rattle.columns.proofs.skip_run.Tie as tie
 
 abbrev Inv-loop : tie.InvT-loop
-Inv-loop head at in-column classes end₀ end = at + leading (inRun in-column) (drop at head) ≡ end + leading (inRun in-column) (drop end head)
+Inv-loop head at in-column classes end₀ end = at + runLength (inRun in-column) (drop at head) ≡ end + runLength (inRun in-column) (drop end head)
 
 abbrev μ-loop : tie.MeasureT-loop
 μ-loop head at in-column classes end₀ end = length head - end

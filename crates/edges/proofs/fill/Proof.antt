@@ -49,7 +49,7 @@ use denote.Triple.Table.{entered, cited}
 use denote.Triple.Walked.{says, needs, Stays, stay-slice, stay-none, walkOf, AllGo, goes-slice, goes-none, Walks, ends-at, walked, walk-meets}
 use denote.Exit.{yes}
 use Rattle.edges.specs.declared.Edge.{Edge}
-use Rattle.edges.specs.Edges.{edgeAt, edgesFrom}
+use Rattle.edges.specs.Edges.{edgeAt, firstEdges}
 use Rattle.edges.proofs.Pieces.{tail}
 use Rattle.edges.proofs.Filled.{filled, filled-length, filled-from}
 use Rattle.edges.proofs.Edge as T
@@ -126,7 +126,7 @@ module _ {M : Type 1} (𝓤 : URA M) (H : Heap 𝓤) (A : Atoms 𝓤) (W : Given
   said i r = exE 𝓤 _ (λ ws. snd∗ 𝓤 (sem 𝓤 H A (lasts g.ended (κ₁, tt) (x₁, (i, tt)) ws)) (fact 𝓤 (r ≡ edgeAt fs i)))
 
   -- ---- the exit
-  exits : Room T.the-row n → count < 2 ^ 64 → (zs : List Edge) → length zs ≡ n → zs ≡ edgesFrom fs count ++ without count ys
+  exits : Room T.the-row n → count < 2 ^ 64 → (zs : List Edge) → length zs ≡ n → zs ≡ firstEdges fs count ++ without count ys
       → ent 𝓤 (⋆ 𝓤 H A (‵ (fobs γ (codedHoleys T.the-row .code (heres T.the-row zs))) ∷ ‵ (fbor κ₀ (Held T.the-row (length zs) b o γ)) ∷ ‵ (flft κ₀ q₀) ∷ (‵ (flft κ₁ q₁) ⊛ ‵ ftrue) ∷ ‵ Own ∷ [])) (Post vunit)
   exits room fits zs e full =
       qed W (‵ (fobs γ (codedHoleys T.the-row .code (heres T.the-row zs))) ∷ ‵ (fbor κ₀ (Held T.the-row (length zs) b o γ)) ∷ ‵ (flft κ₀ q₀) ∷ (‵ (flft κ₁ q₁) ⊛ ‵ ftrue) ∷ ‵ Own ∷ []) ∵

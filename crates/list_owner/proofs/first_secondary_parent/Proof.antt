@@ -54,7 +54,7 @@ use Rattle.edges.proofs.open_sentence as g
 use Rattle.edges.proofs.open_sentence.Symbol as g-def
 use Rattle.edges.proofs.open_sentence.Symbol.{name as #edges·open-sentence}
 use Rattle.edges.proofs.open_sentence.Met as g-thm
-use Rattle.list_owner.specs.Promise.{outcome, firstOf}
+use Rattle.list_owner.specs.Promise.{outcome, firstParentOf}
 use Rattle.list_owner.proofs.LocalList.{Cell, valOf, local-in, local-out}
 use Rattle.list_owner.proofs.Owned.{emptyEdge, emptyList, owned-first}
 use Rattle.list_owner.proofs.first_secondary_parent.Key.{name as #list_owner·itself}
@@ -120,7 +120,7 @@ module _ {M : Type 1} (𝓤 : URA M) (H : Heap 𝓤) (A : Atoms 𝓤) (W : Given
   abbrev File : Fml
   File = FileT κ₀ .own fileᵣ (v-file ∷ [])
 
-  exits : number < 2 ^ 32 → (r : ℕ) → r < 2 ^ 32 → (tables′ : List ℕ) (seen′ : List ℕ) (sheet′ : List ℕ) → length tables′ ≡ length (tablesᵣ .now) → length seen′ ≡ length (seenᵣ .now) → length sheet′ ≡ length (sheetᵣ .now) → outcome r tables′ seen′ sheet′ ≡ firstOf (afterOpening (fileᵣ .now) number (tablesᵣ .now) (seenᵣ .now) (sheetᵣ .now) noEdges)
+  exits : number < 2 ^ 32 → (r : ℕ) → r < 2 ^ 32 → (tables′ : List ℕ) (seen′ : List ℕ) (sheet′ : List ℕ) → length tables′ ≡ length (tablesᵣ .now) → length seen′ ≡ length (seenᵣ .now) → length sheet′ ≡ length (sheetᵣ .now) → outcome r tables′ seen′ sheet′ ≡ firstParentOf (afterOpening (fileᵣ .now) number (tablesᵣ .now) (seenᵣ .now) (sheetᵣ .now) noEdges)
       → ent 𝓤 (⋆ 𝓤 H A (‵ (flft κ₀ q₀) ∷ ‵ (flft κ₁ q₁) ∷ ‵ (flft κ₂ q₂) ∷ ‵ (flft κ₃ q₃) ∷ ‵ File ∷ ‵ (finally u32 (tablesᵣ .name) tables′) ∷ ‵ (finally u8 (seenᵣ .name) seen′) ∷ ‵ (finally u32 (sheetᵣ .name) sheet′) ∷ [])) (Post (vint w32 r))
   exits bound r fits tables′ seen′ sheet′ l-tables l-seen l-sheet e =
       qed W (‵ (flft κ₀ q₀) ∷ ‵ (flft κ₁ q₁) ∷ ‵ (flft κ₂ q₂) ∷ ‵ (flft κ₃ q₃) ∷ ‵ File ∷ ‵ (finally u32 (tablesᵣ .name) tables′) ∷ ‵ (finally u8 (seenᵣ .name) seen′) ∷ ‵ (finally u32 (sheetᵣ .name) sheet′) ∷ []) ∵

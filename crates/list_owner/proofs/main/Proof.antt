@@ -2,7 +2,7 @@
 use borrow.Author.Needs.{needs}
 use borrow.Author.Tests.{eq-eqb}
 use mathlib.Core.Path.{ap, _∙_}
-use Rattle.list_owner.specs.Promise.{First}
+use Rattle.list_owner.specs.Promise.{FirstParent}
 use Rattle.list_owner.proofs.Asked.{parent-told}
 use Rattle.list_owner.proofs.main.Statement.{statement}
 use Rattle.list_owner.proofs.main.Tie as tie
@@ -25,7 +25,7 @@ first-secondary-parent-requires c κs = search needs
 expect-requires : tie.Need-expect-requires
 expect-requires c κs =
     let told = c .before .before .before .first-secondary-parent in
-    eq-eqb (told .result) 501 (ap (λ (x : First). x .parent) (told .ensures) ∙ parent-told)
+    eq-eqb (told .result) 501 (ap (λ (x : FirstParent). x .parent) (told .ensures) ∙ parent-told)
 
 returns : tie.Need-returns
 returns c = search needs

@@ -1,5 +1,4 @@
 -- `opened_demands::climbing` meets its contract, by what the opening's says.
-use borrow.Author.Needs.{needs}
 use Rattle.opened_demands.proofs.SheetsClimb.{climbs-by-number}
 use Rattle.opened_demands.proofs.climbing.Statement.{statement}
 use Rattle.opened_demands.proofs.climbing.Tie as tie
@@ -14,9 +13,9 @@ pub climbing-spec : {M : Type 1} → statement M
 climbing-spec =
     tie.close
     (tie.spec
-    (λ c κs. search needs)
-    (λ c. search needs)
-    (λ c. search needs)
-    (λ c. search needs)
-    (λ c. search needs)
+    (λ c κs. tt)
+    (λ c. c .before .before .before .before .before .before .before .before .open-flat .kept .1 .1 .0)
+    (λ c. c .before .before .before .before .before .before .before .before .open-flat .kept .1 .1 .1 .0)
+    (λ c. c .before .before .before .before .before .before .before .before .open-flat .kept .1 .1 .1 .1 .0)
+    (λ c. c .before .before .before .before .before .before .before .before .open-flat .kept .1 .1 .1 .1 .1 .0)
     returns)

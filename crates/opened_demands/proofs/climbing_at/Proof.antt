@@ -1,5 +1,4 @@
 -- `opened_demands::climbing_at` meets its contract, by what the opening's says.
-use borrow.Author.Needs.{needs}
 use Rattle.opened_demands.proofs.SheetsClimb.{climbs-at-place}
 use Rattle.opened_demands.proofs.climbing_at.Statement.{statement}
 use Rattle.opened_demands.proofs.climbing_at.Tie as tie
@@ -13,7 +12,7 @@ pub climbing-at-spec : {M : Type 1} → statement M
 climbing-at-spec =
     tie.close
     (tie.spec
-    (λ c κs. search needs)
-    (λ c. search needs)
-    (λ c. search needs)
+    (λ c κs. tt)
+    (λ c. c .before .before .before .before .open-flat-at .kept .1 .1 .0)
+    (λ c. c .before .before .before .before .open-flat-at .kept .1 .1 .1 .0)
     returns)

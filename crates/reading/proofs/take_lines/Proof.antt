@@ -12,19 +12,18 @@ use Rattle.seen.proofs.SeenSets.{length-seen-set}
 use Rattle.table_sheet.proofs.OpenSheets.{none-have-room, length-table-sheet}
 use Rattle.lines.specs.LineEnds.{lineEnd}
 use Rattle.lines.specs.declared.LineEnd.the-variants.{At}
-use Rattle.lines.proofs.Lines.{at-behind, at-below, at-place, at-short}
-use Rattle.columns.specs.Listing.{textBetween, lineOf}
+use Rattle.lines.proofs.Lines.{at-behind, at-below}
+use Rattle.lines.proofs.FoundLines.{told-end, told-start, told-listed}
+use Rattle.columns.specs.Listing.{textBetween}
 use Rattle.columns.specs.declared.listing.Line as listing
-use Rattle.columns.proofs.ListedColumns.{now-listed}
 use Rattle.steps.specs.Steps.{stepOf}
 use Rattle.steps.specs.declared.Step.{Step}
 use Rattle.reading.specs.Effects.{Kept, kept, effect}
 use Rattle.judging.specs.Judging.{judgedBy}
-use Rattle.judging.proofs.FirstColumns.{comment-ignored}
 use Rattle.reading.proofs.Moving.{RowSound}
 use Rattle.reading.proofs.RowsSound.{rows-sound}
 use Rattle.reading.proofs.Going.{Going, going-start, sheet-size, seen-size, begins-size, begun-limit, stop-unread, stop-end}
-use Rattle.reading.proofs.Turning.{applies-alike, ready, goes-on, goes-on-noted, stops, passes}
+use Rattle.reading.proofs.Turning.{applies-alike, ready, goes-on, goes-on-noted, stops}
 use Rattle.reading.proofs.take_lines.Statement.{statement}
 use Rattle.reading.proofs.take_lines.Tie as tie
 
@@ -74,13 +73,22 @@ abbrev Line : Type 0
 Line = tie.After-found Inv-loop μ-loop
 
 abbrev here : Line → Standing
-here k = k .before .before .before .before
+here k = k .before .before .before .before .before .before
+
+abbrev line : Line → listing.Line
+line k = k .found .given .0 .0
 
 abbrev end : Line → ℕ
-end k = k .found .given .0 .0
+end k = line k .end
+
+abbrev answer : (k : Line) → tie.After-next-line Inv-loop μ-loop
+answer k = k .before .before
 
 ends : (k : Line) → lineEnd (file (here k)) (at (here k)) ≡ At (end k)
-ends k = sym (k .before .before .line-end .ensures) ∙ k .found .given .1
+ends k = told-end (file (here k)) (at (here k)) _ _ (answer k .next-line .ensures) (line k) (k .found .given .1)
+
+starts : (k : Line) → line k .start ≡ at (here k)
+starts k = told-start (file (here k)) (at (here k)) _ _ (answer k .next-line .ensures) (line k) (k .found .given .1)
 
 below : (k : Line) → end k < length (file (here k))
 below k = at-below (file (here k)) (at (here k)) (end k) (ends k)
@@ -91,22 +99,12 @@ behind k = at-behind (file (here k)) (at (here k)) (end k) (ends k)
 rows : (k : Line) → RowSound (file (here k)) (textBetween (file (here k)) (at (here k)) (end k))
 rows k = rows-sound (file (here k)) (at (here k)) (end k) (going (here k) .in-file)
 
--- the line is asked whether it begins with %%
-abbrev Asked : Type 0
-Asked = tie.After-starts-comment Inv-loop μ-loop
-
-abbrev found : Asked → Line
-found a = a .before .before .before
-
--- the line is listed, and then judged
+-- the line is judged
 abbrev Judged : Type 0
 Judged = tie.After-judge Inv-loop μ-loop
 
-abbrev listed : Judged → tie.After-read-line Inv-loop μ-loop
-listed j = j .before .before .before .before .before .before
-
 abbrev whole : Judged → Line
-whole j = found (listed j .before .before .before)
+whole j = j .before .before .before .before .before .before .before
 
 abbrev told : (j : Judged) → Step
 told j = j .judge .result
@@ -116,83 +114,45 @@ told-is j =
     let l = here (whole j) in
     let k = held l in
     j .judge .ensures
-    ∙ ap (λ (x : listing.Line). stepOf (judgedBy (file l) (lineOf (file l) x) (k .state) (k .sheet) (k .seen) (k .marks))) (listed j .read-line .ensures .0)
+    ∙ ap (λ (n : ℕ). stepOf (judgedBy (file l) (textBetween (file l) n (end (whole j))) (k .state) (k .sheet) (k .seen) (k .marks))) (starts (whole j))
 
 loop-holds : tie.Need-loop-holds Inv-loop μ-loop
 loop-holds c =
     let x = c .before .before .before .before .before in
     going-start (x .args .file .now) (x .args .from) (length (x .args .begins .now)) _ _ _ _ _ (c .first-state .ensures) (x .pre .2) (x .pre .3) refl (x .pre .4)
 
-line-end-requires : tie.Need-line-end-requires Inv-loop μ-loop
-line-end-requires c κs = (going (c .before) .in-file, start (c .before) .pre .0)
+next-line-requires : tie.Need-next-line-requires Inv-loop μ-loop
+next-line-requires c κs = let l = c .before .before .before in (going l .in-file, start l .pre .0, short l)
 
 cast-stop-at : tie.Need-cast-stop-at Inv-loop μ-loop
 cast-stop-at c =
-    let t = c .before .before .before in
+    let t = c .before .before .before .before .before in
     let h = t .loop-test .taken in
     let w = short (t .before) in
     search needs
 
 same-length : tie.Need-same-length Inv-loop μ-loop
-same-length c = same-sheet (c .before .before .before .before .before)
+same-length c = same-sheet (c .before .before .before .before .before .before .before)
 
 same-length-2 : tie.Need-same-length-2 Inv-loop μ-loop
-same-length-2 c = same-seen (c .before .before .before .before .before)
+same-length-2 c = same-seen (c .before .before .before .before .before .before .before)
 
 same-length-3 : tie.Need-same-length-3 Inv-loop μ-loop
-same-length-3 c = begins-size _ _ _ _ _ (going (c .before .before .before .before .before))
+same-length-3 c = begins-size _ _ _ _ _ (going (c .before .before .before .before .before .before .before))
 
 returns : tie.Need-returns Inv-loop μ-loop
 returns c =
     let e = c .before .before .before in
-    let l = e .before .before in
+    let l = e .before .before .before .before in
     rw (c .stop-at .ensures, c .before .line-refusal .ensures)
-    (stop-unread (file l) (low l) (size l) (at l) (held l) (going l) (e .before .loop-test .taken) (e .line-end .result) (sym (e .line-end .ensures)) (c .before .before .match .keys2))
-
-sub-starts-comment : tie.Need-sub-starts-comment Inv-loop μ-loop
-sub-starts-comment c =
-    let h = behind (c .before) in
-    search needs
-
-part-starts-comment-start : tie.Need-part-starts-comment-start Inv-loop μ-loop
-part-starts-comment-start c =
-    let h = behind (c .before) in
-    search needs
-
-part-starts-comment-end : tie.Need-part-starts-comment-end Inv-loop μ-loop
-part-starts-comment-end c =
-    let h : end (c .before) ≤ length (file (here (c .before))) = omega (arith, below (c .before)) in
-    search needs
-
-add-at : tie.Need-add-at Inv-loop μ-loop
-add-at c =
-    let b = below (found (c .before)) in
-    let w = short (here (found (c .before))) in
-    search needs
-
-loop-less : tie.Need-loop-less Inv-loop μ-loop
-loop-less c = let k = found (c .before) in omega (arith, below k, behind k)
-
-loop-again : tie.Need-loop-again Inv-loop μ-loop
-loop-again c =
-    let k = found (c .before) in
-    let l = here k in
-    passes (file l) (low l) (size l) (at l) (held l) (going l) (short l) (end k) (ends k) (rows k)
-    (comment-ignored _ (sym (c .before .starts-comment .ensures) ∙ c .if1 .taken))
-
-read-line-requires : tie.Need-read-line-requires Inv-loop μ-loop
-read-line-requires c κs =
-    let k = found (c .before .before) in
-    let l = here k in
-    (start l .pre .0, behind k, omega (arith, below k), omega (arith, at-place (file l) (at l) (end k) (ends k), at-short (file l) (at l) (end k) (ends k)), short l)
+    (stop-unread (file l) (low l) (size l) (at l) (held l) (going l) (e .before .before .before .loop-test .taken) (e .next-line .result) (sym (e .next-line .ensures .0)) (c .before .before .match .keys2))
 
 judge-requires : tie.Need-judge-requires Inv-loop μ-loop
 judge-requires c κs =
-    let d = c .before .before .before .before .before in
-    let k = found (d .before .before .before) in
+    let k = c .before .before .before .before .before .before in
     let l = here k in (
       start l .pre .0,
-      now-listed (file l) (at l) (end k) _ _ _ (behind k) (omega (arith, below k)) (omega (arith, at-place (file l) (at l) (end k) (ends k), at-short (file l) (at l) (end k) (ends k))) (short l) (d .read-line .ensures),
+      told-listed (file l) (at l) _ _ (answer k .next-line .ensures) (line k) (k .found .given .1),
       ready (file l) (low l) (size l) (at l) (held l) (going l) (short l) (end k) (ends k),
     )
 
@@ -241,26 +201,25 @@ apply-requires c κs =
     let m = c .before .before .before .before .before .before .before .before in
     let j = m .before in
     let k = whole j in
-    let l = here k in
-    let is = listed j .read-line .ensures .0 in (
-      omega (arith, ap (λ (x : listing.Line). x .start) is, behind k, below k, short l),
-      omega (arith, ap (λ (x : listing.Line). x .end) is, below k, short l),
+    let l = here k in (
+      omega (arith, starts k, behind k, below k, short l),
+      omega (arith, below k, short l),
       applies-alike (told j) (length (file l)) (held l) [] (goes-on (file l) (low l) (size l) (at l) (held l) (going l) (short l) (end k) (ends k) (rows k) (told j) (told-is j) (m .match2 .keys2) .0),
     )
 
-add-at-2 : tie.Need-add-at-2 Inv-loop μ-loop
-add-at-2 c =
-    let k = whole (judged (c .before .before .before .before)) in
+add-at : tie.Need-add-at Inv-loop μ-loop
+add-at c =
+    let k = whole (judged (c .before .before .before .before .before)) in
     let b = below k in
     let w = short (here k) in
     search needs
 
-loop-less-2 : tie.Need-loop-less-2 Inv-loop μ-loop
-loop-less-2 c = let k = whole (judged (c .before .before .before .before)) in omega (arith, below k, behind k)
+loop-less : tie.Need-loop-less Inv-loop μ-loop
+loop-less c = let k = whole (judged (c .before .before .before .before .before)) in omega (arith, below k, behind k)
 
-loop-again-2 : tie.Need-loop-again-2 Inv-loop μ-loop
-loop-again-2 c =
-    let a = c .before .before .before .before in
+loop-again : tie.Need-loop-again Inv-loop μ-loop
+loop-again c =
+    let a = c .before .before .before .before .before in
     let n = ended a in
     let m = n .before .before in
     let j = m .before in
@@ -268,7 +227,7 @@ loop-again-2 c =
     let l = here k in
     goes-on-noted (file l) (low l) (size l) (at l) (held l) (going l) (short l) (end k) (ends k) (rows k) (told j) (told-is j) (m .match2 .keys2) _ _ _ _ _ (n .note-end .ensures)
     (a .apply .ensures (low l) (held l .begins)
-    ∙ ap (λ (x : listing.Line). effect (low l) (told j) (x .start) (x .end + 1) (held l)) (listed j .read-line .ensures .0))
+    ∙ ap (λ (n : ℕ). effect (low l) (told j) n (end k + 1) (held l)) (starts k))
 
 closing-requires : tie.Need-closing-requires Inv-loop μ-loop
 closing-requires c κs = sheet-size _ _ _ _ _ (going (c .before .before))
@@ -303,7 +262,8 @@ take-lines-spec =
     μ-loop
     (λ c κs. search needs)
     loop-holds
-    line-end-requires
+    (λ c κs. search needs)
+    next-line-requires
     (λ c. search needs)
     (λ c κs. search needs)
     cast-stop-at
@@ -312,14 +272,6 @@ take-lines-spec =
     same-length-2
     same-length-3
     returns
-    sub-starts-comment
-    part-starts-comment-start
-    part-starts-comment-end
-    (λ c κs. search needs)
-    add-at
-    loop-less
-    loop-again
-    read-line-requires
     judge-requires
     (λ c. search needs)
     cast-fault-at
@@ -330,9 +282,9 @@ take-lines-spec =
     returns-2
     note-end-requires
     apply-requires
-    add-at-2
-    loop-less-2
-    loop-again-2
+    add-at
+    loop-less
+    loop-again
     closing-requires
     cast-stop-at-2
     (λ c κs. search needs)

@@ -12,11 +12,12 @@ use Rattle.rules.specs.Numbers.{fileLimit}
 use Rattle.rules.specs.Sentences.{Sentence}
 use Rattle.lines.specs.LineEnds.{lineEnd}
 use Rattle.lines.specs.declared.LineEnd.the-variants.{At}
-use Rattle.lines.proofs.Lines.{at-below}
-use Rattle.columns.specs.Listing.{lineOf}
-use Rattle.sentences.specs.Keeping.{Kept, kept}
+use Rattle.lines.proofs.Lines.{at-behind, at-below}
+use Rattle.lines.proofs.FoundLines.{told-end, told-start, told-listed}
+use Rattle.columns.specs.Listing.{textBetween}
+use Rattle.columns.specs.declared.listing.Line as listing
+use Rattle.sentences.specs.Keeping.{Stored, stored}
 use Rattle.sentences.specs.Beginnings.{begunAt}
-use Rattle.sentences.proofs.ListedLines.{order, inside, limited, read-listed}
 use Rattle.sentences.proofs.Gathering.{Gathering, gathering-start, none-gathered, none-at-end, none-unread, countable, all-gathered}
 use Rattle.sentences.proofs.Taking.{LineHere}
 use Rattle.sentences.proofs.Turning.{refused-none, ends-found, goes-on}
@@ -24,18 +25,18 @@ use Rattle.sentences.proofs.take_nodes.Statement.{statement}
 use Rattle.sentences.proofs.take_nodes.Tie as tie
 
 abbrev Inv-loop : tie.InvT-loop
-Inv-loop file from sheet₀ edges₀ classes hints marks₀ places₀ t₀ at₀ sheet edges marks places t at =
-    Gathering file (begunAt file (t₀ .start)) at (kept t sheet edges marks)
+Inv-loop file from sheet₀ edges₀ places₀ hints classes marks₀ t₀ at₀ sheet edges places marks t at =
+    Gathering file (begunAt file (t₀ .start)) at (stored t sheet edges marks)
 
 abbrev μ-loop : tie.MeasureT-loop
-μ-loop file from sheet₀ edges₀ classes hints marks₀ places₀ t₀ at₀ sheet edges marks places t at =
+μ-loop file from sheet₀ edges₀ places₀ hints classes marks₀ t₀ at₀ sheet edges places marks t at =
     length file - at
 
 abbrev Standing : Type 0
 Standing = tie.At-loop Inv-loop μ-loop
 
 abbrev start : Standing → tie.Start Inv-loop μ-loop
-start l = l .before .before .before .before .before
+start l = l .before .before .before .before
 
 abbrev file : Standing → List ℕ
 file l = start l .args .file .now
@@ -46,23 +47,23 @@ sought l = begunAt (file l) (start l .args .first .start)
 abbrev at : Standing → ℕ
 at l = l .loop .at
 
-abbrev held : Standing → Kept
-held l = kept (l .loop .t) (l .loop .sheet) (l .loop .edges) (l .loop .marks)
+abbrev held : Standing → Stored
+held l = stored (l .loop .t) (l .loop .sheet) (l .loop .edges) (l .loop .marks)
 
 abbrev going : (l : Standing) → Gathering (file l) (sought l) (at l) (held l)
 going l = l .loop .inv
 
 abbrev short : (l : Standing) → length (file l) ≤ fileLimit
-short l = start l .pre .0
+short l = start l .pre .1
 
-classes : (l : Standing) → l .before .byte-classes .result ≡ classTable
-classes l = l .before .byte-classes .ensures
+classes : (l : Standing) → start l .args .classes .now ≡ classTable
+classes l = start l .pre .0
 
 same-sheet : (l : Standing) → length (held l .sheet) ≡ length (start l .args .sheet .now)
-same-sheet l = going l .sheet-size ∙ sym (start l .pre .2)
+same-sheet l = going l .sheet-size ∙ sym (start l .pre .3)
 
 same-edges : (l : Standing) → length (held l .edges) ≡ length (start l .args .edges .now)
-same-edges l = going l .edges-size ∙ sym (ap length (start l .pre .3) ∙ length-replicate {A = ℕ} _ 0)
+same-edges l = going l .edges-size ∙ sym (ap length (start l .pre .4) ∙ length-replicate {A = ℕ} _ 0)
 
 -- a whole line from here
 abbrev Line : Type 0
@@ -71,77 +72,67 @@ Line = tie.After-found Inv-loop μ-loop
 abbrev here : Line → Standing
 here k = k .before .before .before .before .before
 
+abbrev line : Line → listing.Line
+line k = k .found .given .0 .0
+
 abbrev end : Line → ℕ
-end k = k .found .given .0 .0
+end k = line k .end
+
+abbrev answer : (k : Line) → tie.After-next-line Inv-loop μ-loop
+answer k = k .before .before
 
 ends : (k : Line) → lineEnd (file (here k)) (at (here k)) ≡ At (end k)
-ends k = sym (k .before .before .line-end .ensures) ∙ k .found .given .1
+ends k = told-end (file (here k)) (at (here k)) _ _ (answer k .next-line .ensures) (line k) (k .found .given .1)
 
 below : (k : Line) → end k < length (file (here k))
 below k = at-below (file (here k)) (at (here k)) (end k) (ends k)
 
 behind : (k : Line) → at (here k) ≤ end k
-behind k = order (file (here k)) (at (here k)) (end k) (ends k) (short (here k))
+behind k = at-behind (file (here k)) (at (here k)) (end k) (ends k)
 
--- the line is listed
-abbrev Read : Type 0
-Read = tie.After-read-line Inv-loop μ-loop
-
-abbrev whole : Read → Line
-whole d = d .before .before .before .before
-
-abbrev place : Read → Standing
-place d = here (whole d)
-
-line-here : (d : Read) → LineHere (file (place d)) (sought (place d)) (at (place d)) (held (place d)) (end (whole d)) (d .read-line .result) (d .read-line .last .1 .1 .1 .1 .0)
-line-here d =
-    let k = whole d in
+line-here : (k : Line) → LineHere (file (here k)) (sought (here k)) (at (here k)) (held (here k)) (end k) (line k) (answer k .next-line .last .1 .1 .1 .1 .0)
+line-here k =
     let l = here k in
+    let told = answer k .next-line .ensures in
     record {
       going = going l;
       short = short l;
       ends = ends k;
-      is = ap (lineOf (file l)) (d .read-line .ensures .0);
-      listed = read-listed (file l) (at l) (end k) (ends k) (short l) _ _ _ (d .read-line .ensures);
+      is = ap (λ (n : ℕ). textBetween (file l) n (end k)) (told-start (file l) (at l) _ _ told (line k) (k .found .given .1));
+      listed = told-listed (file l) (at l) _ _ told (line k) (k .found .given .1);
     }
 
--- and then judged
+-- it is judged
 abbrev Judged : Type 0
 Judged = tie.After-judge Inv-loop μ-loop
 
-abbrev read : Judged → Read
-read j = j .before .before .before .before .before
+abbrev whole : Judged → Line
+whole j = j .before .before .before .before
 
 loop-holds : tie.Need-loop-holds Inv-loop μ-loop
 loop-holds c =
-    let x = c .before .before .before .before in
-    gathering-start (x .args .file .now) (x .args .first .start) _ _ _ _ _ (x .pre .1) (x .pre .2) (x .pre .3) refl
+    let x = c .before .before .before in
+    gathering-start (x .args .file .now) (x .args .first .start) _ _ _ _ _ (x .pre .2) (x .pre .3) (x .pre .4) refl
 
 returns : tie.Need-returns Inv-loop μ-loop
 returns c =
     let e = c .before in
     let l = e .before .before .before in
-    none-gathered _ _ (none-unread (file l) (sought l) (at l) (held l) (going l) (e .line-end .result) (sym (e .line-end .ensures)) (c .match .keys2))
-
-read-line-requires : tie.Need-read-line-requires Inv-loop μ-loop
-read-line-requires c κs =
-    let k = c .before .before .before in
-    let l = here k in
-    (classes l, behind k, inside (file l) (at l) (end k) (ends k) (short l), limited (file l) (at l) (end k) (ends k) (short l), short l)
+    none-gathered _ _ (none-unread (file l) (sought l) (at l) (held l) (going l) (e .next-line .result) (sym (e .next-line .ensures .0)) (c .match .keys2))
 
 judge-requires : tie.Need-judge-requires Inv-loop μ-loop
 judge-requires c κs =
-    let d = c .before .before .before .before in
-    let l = place d in
-    (classes l, line-here d .listed, countable (file l) (sought l) (at l) (held l) (going l) (short l))
+    let k = c .before .before .before in
+    let l = here k in
+    (classes l, line-here k .listed, countable (file l) (sought l) (at l) (held l) (going l) (short l))
 
 returns-2 : tie.Need-returns-2 Inv-loop μ-loop
 returns-2 c =
     let j = c .before .before in
-    none-gathered _ _ (refused-none (line-here (read j)) _ (j .judge .ensures) _ (c .enum-told .given .1))
+    none-gathered _ _ (refused-none (line-here (whole j)) _ (j .judge .ensures) _ (c .enum-told .given .1))
 
 put-counts-requires : tie.Need-put-counts-requires Inv-loop μ-loop
-put-counts-requires c κs = omega (arith, going (place (read (c .before .before .before .before))) .sheet-size)
+put-counts-requires c κs = omega (arith, going (here (whole (c .before .before .before .before))) .sheet-size)
 
 -- the last line
 abbrev last : tie.After-slice-known3 Inv-loop μ-loop → Judged
@@ -151,8 +142,8 @@ returns-3 : tie.Need-returns-3 Inv-loop μ-loop
 returns-3 c =
     let p = c .before .before in
     let j = last c in
-    let l = place (read j) in
-    all-gathered (file l) (sought l) (at l) (held l) (line-here (read j) .going) (ends-found (line-here (read j)) _ (j .judge .ensures) (p .before .before .enum-told2 .given .1)) _
+    let l = here (whole j) in
+    all-gathered (file l) (sought l) (at l) (held l) (line-here (whole j) .going) (ends-found (line-here (whole j)) _ (j .judge .ensures) (p .before .before .enum-told2 .given .1)) _
     (p .put-counts .ensures)
 
 -- its step is taken
@@ -164,32 +155,32 @@ judged m = m .before .before
 
 keep-requires : tie.Need-keep-requires Inv-loop μ-loop
 keep-requires c κs =
-    let m = c .before .before .before .before .before in
+    let m = c .before .before .before .before in
     let j = judged m in
-    (classes (place (read j)), goes-on (line-here (read j)) _ (j .judge .ensures) (m .before .match2 .keys2) (m .match3 .keys2) .0)
+    (classes (here (whole j)), goes-on (line-here (whole j)) _ (j .judge .ensures) (m .before .match2 .keys2) (m .match3 .keys2) .0)
 
-abbrev put : tie.After-slice-known5 Inv-loop μ-loop → tie.After-keep Inv-loop μ-loop
-put c = c .before .before .before .before
+abbrev put : tie.After-struct-known Inv-loop μ-loop → tie.After-keep Inv-loop μ-loop
+put c = c .before .before .before .before .before
 
 abbrev taken : tie.After-keep Inv-loop μ-loop → Taken
-taken a = a .before .before .before .before .before .before
+taken a = a .before .before .before .before .before
 
 add-at : tie.Need-add-at Inv-loop μ-loop
 add-at c =
-    let k = whole (read (judged (taken (put c)))) in
+    let k = whole (judged (taken (put c))) in
     let b = below k in
     let w = short (here k) in
     search needs
 
 loop-less : tie.Need-loop-less Inv-loop μ-loop
-loop-less c = let k = whole (read (judged (taken (put c)))) in omega (arith, below k, behind k)
+loop-less c = let k = whole (judged (taken (put c))) in omega (arith, below k, behind k)
 
 loop-again : tie.Need-loop-again Inv-loop μ-loop
 loop-again c =
     let a = put c in
     let m = taken a in
     let j = judged m in
-    goes-on (line-here (read j)) _ (j .judge .ensures) (m .before .match2 .keys2) (m .match3 .keys2) .1 _ (a .keep .ensures) (a .keep .kept .1 .1 .1 .1 .1 .0)
+    goes-on (line-here (whole j)) _ (j .judge .ensures) (m .before .match2 .keys2) (m .match3 .keys2) .1 _ (a .keep .ensures) (a .keep .kept .1 .1 .1 .1 .1 .0)
     (a .keep .kept .1 .1 .1 .1 .1 .1 .0)
 
 returns-4 : tie.Need-returns-4 Inv-loop μ-loop
@@ -203,23 +194,21 @@ take-nodes-spec =
     (tie.spec
     Inv-loop
     μ-loop
-    (λ c κs. search needs)
     loop-holds
-    (λ c κs. let l = c .before .before in (going l .in-file, classes l))
+    (λ c κs. let l = c .before .before in (going l .in-file, classes l, short l))
     (λ c. search needs)
     (λ c. same-sheet (c .before .before .before .before))
     (λ c. same-edges (c .before .before .before .before))
     returns
-    read-line-requires
     judge-requires
     (λ c. search needs)
-    (λ c. same-sheet (place (read (c .before .before))))
-    (λ c. same-edges (place (read (c .before .before))))
+    (λ c. same-sheet (here (whole (c .before .before))))
+    (λ c. same-edges (here (whole (c .before .before))))
     returns-2
     (λ c. search needs)
     put-counts-requires
-    (λ c. c .before .before .put-counts .kept .0 ∙ same-sheet (place (read (last c))))
-    (λ c. same-edges (place (read (last c))))
+    (λ c. c .before .before .put-counts .kept .0 ∙ same-sheet (here (whole (last c))))
+    (λ c. same-edges (here (whole (last c))))
     returns-3
     keep-requires
     add-at

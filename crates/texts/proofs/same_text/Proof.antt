@@ -1,80 +1,23 @@
--- `texts::same_text` meets its contract. The invariant: the two texts are the same exactly where their rests from the
--- loop's place on are. The measure is what is left of the first.
+-- `texts::same_text` meets its contract: each of the ways to compare does.
 use borrow.Author.Needs.{needs}
-use native.Mathlib.Omega.{arith}
-use Prim.Native.Nat.{ℕ, _-_, _≤_}
-use mathlib.Core.Path.{_≡_, sym, _∙_}
-use mathlib.Core.List.{List}
-use lib.ListN.{length, drop}
-use Rattle.rules.specs.Lists.{same}
-use Rattle.rules.proofs.Same.{same-length-false, same-here, same-differ, same-end}
+use mathlib.Core.Path.{sym}
+use Rattle.rules.proofs.Same.{same-length-false}
 use Rattle.texts.proofs.same_text.Statement.{statement}
 use Rattle.texts.proofs.same_text.Tie as tie
 
-abbrev Inv-loop : tie.InvT-loop
-Inv-loop a b i₀ i = (i ≤ length a) × (same a b ≡ same (drop i a) (drop i b))
-
-abbrev μ-loop : tie.MeasureT-loop
-μ-loop a b i₀ i = length a - i
-
-abbrev Turn : Type 0
-Turn = tie.In-loop Inv-loop μ-loop
-
-abbrev a : Turn → List ℕ
-a t = t .before .before .before .args .a .now
-
-abbrev b : Turn → List ℕ
-b t = t .before .before .before .args .b .now
-
-abbrev i : Turn → ℕ
-i t = t .before .loop .i
-
-returns : tie.Need-returns Inv-loop μ-loop
-returns c = sym (same-length-false (c .before .args .a .now) (c .before .args .b .now) (c .if1 .taken))
-
-loop-holds : tie.Need-loop-holds Inv-loop μ-loop
-loop-holds c = search needs
-
-shared-slice-read-if2 : tie.Need-shared-slice-read-if2 Inv-loop μ-loop
-shared-slice-read-if2 c = search needs
-
-shared-slice-read-if2-2 : tie.Need-shared-slice-read-if2-2 Inv-loop μ-loop
-shared-slice-read-if2-2 c = search needs
-
-returns-2 : tie.Need-returns-2 Inv-loop μ-loop
-returns-2 c =
-    let t = c .before .before .before in
-    sym (t .before .loop .inv .1 ∙ same-differ (a t) (b t) (i t) (t .loop-test .taken) (omega arith) (c .if2 .taken))
-
-add-i : tie.Need-add-i Inv-loop μ-loop
-add-i c = search needs
-
-loop-less : tie.Need-loop-less Inv-loop μ-loop
-loop-less c = search needs
-
-loop-again : tie.Need-loop-again Inv-loop μ-loop
-loop-again c =
-    let t = c .before .before .before in
-    (omega arith, t .before .loop .inv .1 ∙ same-here (a t) (b t) (i t) (t .loop-test .taken) (omega arith) (c .if2 .left))
-
-returns-3 : tie.Need-returns-3 Inv-loop μ-loop
-returns-3 c =
-    let l = c .before in
-    let s = l .before .before .args in
-    sym (l .loop .inv .1 ∙ same-end (s .a .now) (s .b .now) (l .loop .i) (c .loop-test .left) (omega arith))
+returns : tie.Need-returns
+returns c = let s = c .before .before .before in sym (same-length-false (s .args .a .now) (s .args .b .now) (c .if1 .taken))
 
 pub same-text-spec : {M : Type 1} → statement M
 same-text-spec =
     tie.close
     (tie.spec
-    Inv-loop
-    μ-loop
     returns
-    loop-holds
-    shared-slice-read-if2
-    shared-slice-read-if2-2
-    returns-2
-    add-i
-    loop-less
-    loop-again
-    returns-3)
+    (λ c κs. search needs)
+    (λ c. search needs)
+    (λ c κs. search needs)
+    (λ c. search needs)
+    (λ c κs. search needs)
+    (λ c. search needs)
+    (λ c κs. search needs)
+    (λ c. search needs))

@@ -9,7 +9,7 @@ use Rattle.steps.specs.declared.Step.{Step}
 use Rattle.steps.specs.declared.Step.the-variants.{Ignored, Format, TableBegins, Row, TableEnds, SentenceBegins, Word, Phrase, SentenceEnds, Refused}
 use Rattle.steps.proofs.Step.{the-type}
 use Rattle.judging.specs.declared.state.State.{State}
-use Rattle.reading.specs.Effects.{effect, begunBy}
+use Rattle.reading.specs.Effects.{effect, notedBy}
 use Rattle.lines.proofs.Variants.{not-among}
 use Rattle.reading.proofs.effect.note_end.Statement.{statement}
 use Rattle.reading.proofs.effect.note_end.Tie as tie
@@ -17,7 +17,7 @@ use Rattle.reading.proofs.effect.note_end.Tie as tie
 abbrev others : List ℕ
 others = 0 ∷ 1 ∷ 2 ∷ 3 ∷ 4 ∷ 5 ∷ 6 ∷ 7 ∷ 9 ∷ []
 
-none-noted : (from : ℕ) (y : Step) (s : State) (begins : List ℕ) → OneOf others (tagOf the-type y) → begins ≡ begunBy from y s begins
+none-noted : (from : ℕ) (y : Step) (s : State) (begins : List ℕ) → OneOf others (tagOf the-type y) → begins ≡ notedBy from y s begins
 unfolding effect
 none-noted from Ignored s begins o = refl
 none-noted from (Format n) s begins o = refl

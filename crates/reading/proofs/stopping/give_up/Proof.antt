@@ -5,7 +5,7 @@ use Prim.Native.Nat.{ℕ}
 use mathlib.Core.Path.{sym, ap, _∙_}
 use lib.ListN.{replicate}
 use Rattle.columns.specs.Splices.{splice}
-use Rattle.judging.specs.States.{tableIn}
+use Rattle.judging.specs.States.{tableOpen}
 use Rattle.reading.specs.Closing.{givenUp}
 use Rattle.judging.specs.declared.state.Phase.{Phase}
 use Rattle.reading.proofs.stopping.give_up.Statement.{statement}
@@ -14,13 +14,13 @@ use Rattle.reading.proofs.stopping.give_up.Tie as tie
 row-place-requires : tie.Need-row-place-requires
 row-place-requires c κs =
     let k = c .before in
-    (omega (arith, k .before .before .before .pre .0, ap tableIn (k .phase .given .1)), omega arith)
+    (omega (arith, k .before .before .before .pre .0, ap tableOpen (k .phase .given .1)), omega arith)
 
 clear-rows-requires : tie.Need-clear-rows-requires
 clear-rows-requires c κs =
     let k = c .before .before .before in
     let a = k .before .before .before in
-    omega (arith, a .pre .0, a .pre .1, ap tableIn (k .phase .given .1), c .before .row-place .ensures)
+    omega (arith, a .pre .0, a .pre .1, ap tableOpen (k .phase .given .1), c .before .row-place .ensures)
 
 returns-3 : tie.Need-returns-3
 returns-3 c =

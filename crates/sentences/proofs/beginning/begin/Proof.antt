@@ -28,7 +28,7 @@ abbrev Ended : Type 0
 Ended = tie.After-known-told
 
 abbrev start : tie.After-line-end → tie.Start
-start l = l .before .before .before .before .before
+start l = l .before .before .before
 
 abbrev top : Ended → tie.Start
 top k = start (k .before .before .before)
@@ -46,10 +46,10 @@ ends : (k : Ended) → lineEnd (file k) (place k) ≡ At (end k)
 ends k = sym (k .before .before .before .line-end .ensures) ∙ k .before .found .given .1
 
 short : (k : Ended) → length (file k) ≤ fileLimit
-short k = top k .pre .0
+short k = top k .pre .1
 
-classes : (k : Ended) → k .before .before .before .before .before .byte-classes .result ≡ classTable
-classes k = k .before .before .before .before .before .byte-classes .ensures
+classes : (k : Ended) → top k .args .classes .now ≡ classTable
+classes k = top k .pre .0
 
 below : (k : Ended) → end k < length (file k)
 below k = at-below (file k) (place k) (end k) (ends k)
@@ -59,7 +59,7 @@ abbrev Read : Type 0
 Read = tie.After-read-line
 
 abbrev ended : Read → Ended
-ended r = r .before .before .before
+ended r = r .before .before
 
 line-is : (r : Read) → listing.lineOf (file (ended r)) (r .read-line .result) ≡ listing.textBetween (file (ended r)) (place (ended r)) (end (ended r))
 line-is r = ap (listing.lineOf (file (ended r))) (r .read-line .ensures .0)
@@ -72,7 +72,7 @@ returns c =
 
 read-line-requires : tie.Need-read-line-requires
 read-line-requires c κs =
-    let k = c .before .before in
+    let k = c .before in
     (classes k, order (file k) (place k) (end k) (ends k) (short k), inside (file k) (place k) (end k) (ends k) (short k), limited (file k) (place k) (end k) (ends k) (short k), short k)
 
 first-column-requires : tie.Need-first-column-requires
@@ -105,7 +105,7 @@ returns-2 c =
 
 heading-alone-requires : tie.Need-heading-alone-requires
 heading-alone-requires c κs =
-    let r = read (c .before .before .before) in
+    let r = read (c .before .before) in
     let k = ended r in
     (classes k, read-listed (file k) (place k) (end k) (ends k) (short k) _ _ _ (r .read-line .ensures))
 
@@ -114,7 +114,7 @@ abbrev Judged : Type 0
 Judged = tie.After-heading-alone
 
 abbrev compared : Judged → Compared
-compared j = j .before .before .before .before
+compared j = j .before .before .before
 
 told : (j : Judged) → j .heading-alone .result ≡ stepOf (takenAs sentenceBegins (checked (headingWritten (listing.textBetween (file (line (compared j))) (place (line (compared j))) (end (line (compared j))))) (headingIn (listing.textBetween (file (line (compared j))) (place (line (compared j))) (end (line (compared j)))))))
 told j = j .heading-alone .ensures ∙ ap (λ (x : Text). stepOf (takenAs sentenceBegins (checked (headingWritten x) (headingIn x)))) (line-is (read (compared j)))
@@ -124,12 +124,12 @@ returns-3 c =
     let j = c .before in
     let s = compared j in
     let k = line s in
-    (begun-refused (file k) (place k) (end k) (ends k) _ _ (first-is s) (s .same-text .ensures) (not-false _ (j .before .before .before .if1 .left)) _ (told j) (c .match2 .keys2), refl)
+    (begun-refused (file k) (place k) (end k) (ends k) _ _ (first-is s) (s .same-text .ensures) (not-false _ (j .before .before .if1 .left)) _ (told j) (c .match2 .keys2), refl)
 
 put-heading-requires : tie.Need-put-heading-requires
 put-heading-requires c κs =
     let j = c .before .before .before .before .before in
-    omega (arith, top (line (compared j)) .pre .2)
+    omega (arith, top (line (compared j)) .pre .3)
 
 abbrev put : tie.After-slice-known2 → tie.After-put-heading
 put c = c .before .before
@@ -137,8 +137,8 @@ put c = c .before .before
 abbrev judged : tie.After-put-heading → Judged
 judged p = p .before .before .before .before .before .before
 
-add-t28 : tie.Need-add-t28
-add-t28 c =
+add-t24 : tie.Need-add-t24
+add-t24 c =
     let k = line (compared (judged (put c))) in
     let b = below k in
     let w = short k in
@@ -159,14 +159,13 @@ returns-4 c =
     let s = compared j in
     let k = line s in
     let h = p .before .before .before .before in
-    begun-headed (file k) (place k) (end k) (ends k) _ _ (first-is s) (s .same-text .ensures) (not-false _ (j .before .before .before .if1 .left)) _ (told j) _ (h .step .given .1) _ (c .first-tally .ensures) _ _ (p .put-heading .ensures)
+    begun-headed (file k) (place k) (end k) (ends k) _ _ (first-is s) (s .same-text .ensures) (not-false _ (j .before .before .if1 .left)) _ (told j) _ (h .step .given .1) _ (c .first-tally .ensures) _ _ (p .put-heading .ensures)
 
 pub begin-spec : {M : Type 1} → statement M
 begin-spec =
     tie.close
     (tie.spec
-    (λ c κs. search needs)
-    (λ c κs. (c .before .before .before .before .pre .1, c .before .byte-classes .ensures))
+    (λ c κs. (c .before .before .pre .2, c .before .before .pre .0))
     (λ c. search needs)
     returns
     read-line-requires
@@ -178,7 +177,7 @@ begin-spec =
     (λ c. search needs)
     returns-3
     put-heading-requires
-    add-t28
+    add-t24
     cast-first-tally
     (λ c κs. search needs)
     (λ c. search needs)

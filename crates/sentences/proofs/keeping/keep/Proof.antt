@@ -4,7 +4,7 @@ use native.Mathlib.Omega.{arith}
 use mathlib.Core.Path.{_≡_, subst}
 use Rattle.nodes.specs.NodeLines.{fieldsOf}
 use Rattle.steps.specs.declared.Step.{Step}
-use Rattle.sentences.specs.Keeping.{Kept, kept, effect, Applicable}
+use Rattle.sentences.specs.Keeping.{Stored, stored, storedBy, Storable}
 use Rattle.sentences.proofs.OtherSteps.{others-keep}
 use Rattle.sentences.proofs.keeping.keep.Statement.{statement}
 use Rattle.sentences.proofs.keeping.keep.Tie as tie
@@ -15,13 +15,13 @@ Known = tie.After-slice-known2
 abbrev start : Known → tie.Start
 start d = d .before .before .before
 
-abbrev entry : Known → Kept
-entry d = let a = start d .args in kept (a .t) (a .sheet .now) (a .edges .now) (a .marks .now)
+abbrev entry : Known → Stored
+entry d = let a = start d .args in stored (a .t) (a .sheet .now) (a .edges .now) (a .marks .now)
 
-needs-of : (d : Known) (x : Step) → start d .args .step ≡ x → Applicable (start d .args .file .now) (start d .args .line) (start d .args .places .now) x (entry d)
+needs-of : (d : Known) (x : Step) → start d .args .step ≡ x → Storable (start d .args .file .now) (start d .args .line) (start d .args .places .now) x (entry d)
 needs-of d x e =
     let a = start d .args in
-    subst (λ (y : Step). Applicable (a .file .now) (a .line) (a .places .now) y (entry d)) e (start d .pre .1)
+    subst (λ (y : Step). Storable (a .file .now) (a .line) (a .places .now) y (entry d)) e (start d .pre .1)
 
 put-node-requires : tie.Need-put-node-requires
 put-node-requires c κs =
@@ -54,14 +54,14 @@ with-phrase-requires c κs =
     (q .1, omega (arith, q .0 .few))
 
 returns : tie.Need-returns
-unfolding effect
+unfolding storedBy
 returns c =
     let p = c .before .before .before .before .before in
     let k = p .before .before .before .before in
     rw (k .step .given .1, c .with-word .ensures, p .put-node .ensures .0, p .put-node .ensures .1)
 
 returns-2 : tie.Need-returns-2
-unfolding effect
+unfolding storedBy
 returns-2 c =
     let m = c .before in
     let p = m .before .before .before .before .before .before in

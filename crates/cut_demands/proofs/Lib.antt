@@ -1,0 +1,5 @@
+pub mod FoundNumbers
+pub mod CutSurveyed
+pub mod Records
+pub mod CutOpened
+pub mod CutOpenedAt

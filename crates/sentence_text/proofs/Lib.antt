@@ -1,0 +1,10 @@
+pub mod EdgesAlong
+pub mod FirstEdges
+pub mod LineTexts
+pub mod NodesAlong
+pub mod OwnEdges
+pub mod EdgesReadBack
+pub mod TextsInside
+pub mod NodesReadBack
+pub mod SheetReadBack
+pub mod HandedPrintable

@@ -1,0 +1,4 @@
+pub mod EdgesRead
+pub mod SheetRead
+pub mod Readable
+pub mod Printable

@@ -1,0 +1,85 @@
+// A sentence printed from its sheet and its list of secondary edges: document 01's "Tidy text".
+mod edges;
+mod nodes;
+
+ghost use mathlib.Core.List.{[], _∷_};
+ghost use Prim.Native.Nat.{_+_, _≤_};
+ghost use lib.ListN.{length};
+ghost use Rattle.rules.specs.Lists.{bytes};
+ghost use Rattle.rules.specs.Tidy.{keywordLine, digitsOf, headingLine, sentenceText};
+ghost use Rattle.printing.specs.Over.{farthest, Put};
+ghost use Rattle.printing.specs.Fields.{FieldInside};
+ghost use Rattle.sentence_text.specs.SheetRead.{numbersText, sentenceIn};
+ghost use Rattle.sentence_text.specs.Readable.{SheetReadable, headingMost, endMost, sentenceMost};
+
+// Tidy text parts the columns of a node's line by tabs, those of a keyword line by spaces.
+const TAB: u8 = 9;
+
+const SPACE: u8 = 32;
+
+const NEWLINE: u8 = 10;
+
+// The first phrase's number.
+const PHRASES_FROM: usize = 500;
+
+// The places of the counts in the sheet.
+const WORDS: usize = 6;
+
+const PHRASES: usize = 7;
+
+const EDGES: usize = 8;
+
+// #BOS and the sentence's numbers, without comment and newline.
+fn put_numbers(sheet: &[u32], out: &mut [u8], at: usize) -> usize
+    requires { ⌜ (9 ≤ length (now sheet)) × (at + 48 ≤ farthest) ⌝ }
+    ensures { λ r. ⌜ Put 48 (numbersText (now (sheet .entry))) at (now (out .entry)) r (now (out .exit)) ⌝ }
+{
+    let keyword = printing::put_text(b"#BOS", out, at);
+    let numbered = printing::put_number_column(SPACE, sheet[0], out, keyword);
+    let parted = printing::put_byte(SPACE, out, numbered);
+    let edited = printing::digits::put_id(sheet[1], out, parted);
+    let dated = printing::put_number_column(SPACE, sheet[2], out, edited);
+    printing::put_number_column(SPACE, sheet[3], out, dated)
+}
+
+fn put_heading(file: &[u8], sheet: &[u32], out: &mut [u8], at: usize) -> usize
+    requires { ⌜ (9 ≤ length (now sheet)) × FieldInside (now file) (now sheet) 4 × (at + headingMost ≤ farthest) ⌝ }
+    ensures { λ r. ⌜ Put headingMost (headingLine (sentenceIn (now (file .entry)) (now (sheet .entry)) [])) at (now (out .entry)) r (now (out .exit)) ⌝ }
+{
+    let numbered = put_numbers(sheet, out, at);
+    let noted = printing::fields::put_note(SPACE, file, sheet, 4, out, numbered);
+    printing::put_byte(NEWLINE, out, noted)
+}
+
+fn put_end(number: u32, out: &mut [u8], at: usize) -> usize
+    requires { ⌜ at + endMost ≤ farthest ⌝ }
+    ensures { λ r. ⌜ Put endMost (keywordLine (bytes "#EOS" ∷ digitsOf number ∷ [])) at (now (out .entry)) r (now (out .exit)) ⌝ }
+{
+    let keyword = printing::put_text(b"#EOS", out, at);
+    let numbered = printing::put_number_column(SPACE, number, out, keyword);
+    printing::put_byte(NEWLINE, out, numbered)
+}
+
+// The sentence of a sheet and a list: its words, then its phrases by number.
+pub fn print_sentence(file: &[u8], sheet: &[u32], list: &[u32], out: &mut [u8], at: usize) -> usize
+    requires { ⌜ SheetReadable (now file) (now sheet) (now list) × (at + sentenceMost ≤ farthest) ⌝ }
+    ensures { λ r. ⌜ Put sentenceMost (sentenceText (sentenceIn (now (file .entry)) (now (sheet .entry)) (now (list .entry)))) at (now (out .entry)) r (now (out .exit)) ⌝ }
+{
+    let mut firsts = [0u32; sentence_sheet::NODE_ROOM];
+    edges::note_firsts(list, sheet[EDGES] as usize, &mut firsts);
+    let headed = put_heading(file, sheet, out, at);
+    let words = sheet[WORDS] as usize;
+    let worded = nodes::put_nodes(file, sheet, list, &firsts, 0, words, out, headed);
+    let phrases = sheet[PHRASES] as usize;
+    let phrased = nodes::put_nodes(
+        file,
+        sheet,
+        list,
+        &firsts,
+        PHRASES_FROM,
+        phrases,
+        out,
+        worded,
+    );
+    put_end(sheet[0], out, phrased)
+}

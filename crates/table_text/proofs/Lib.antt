@@ -1,0 +1,4 @@
+pub mod Slices
+pub mod RowMoves
+pub mod RowTexts
+pub mod ShownTables

@@ -1,0 +1,3 @@
+pub mod RowOrder
+pub mod TablesShown
+pub mod WholeSheets

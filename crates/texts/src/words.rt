@@ -1,0 +1,61 @@
+// Four or eight bytes as one number each: two texts are compared at their front and at their back.
+ghost use mathlib.Core.Path.{_≡_};
+ghost use Prim.Native.Nat.{_+_, _≤_, _<_};
+ghost use lib.ListN.{length};
+ghost use Rattle.rules.specs.Lists.{same};
+ghost use Rattle.texts.specs.Words.{twoAt, fourAt, eightAt};
+
+fn wide(b: u8) -> u32
+    ensures { λ r. ⌜ (r ≡ b) × (r < 256) ⌝ }
+{
+    b as u32
+}
+
+// The first byte weighs 1, the next 256.
+fn two_at(text: &[u8], at: usize) -> u32
+    requires { ⌜ at + 2 ≤ length (now text) ⌝ }
+    ensures { λ r. ⌜ (r ≡ twoAt (now (text .entry)) at) × (r < 65536) ⌝ }
+{
+    let back = wide(text[at + 1]);
+    wide(text[at]) + 256 * back
+}
+
+fn four_at(text: &[u8], at: usize) -> u32
+    requires { ⌜ at + 4 ≤ length (now text) ⌝ }
+    ensures { λ r. ⌜ (r ≡ fourAt (now (text .entry)) at) × (r < 4294967296) ⌝ }
+{
+    let back = two_at(text, at + 2);
+    two_at(text, at) + 65536 * back
+}
+
+fn eight_at(text: &[u8], at: usize) -> u64
+    requires { ⌜ at + 8 ≤ length (now text) ⌝ }
+    ensures { λ r. ⌜ r ≡ eightAt (now (text .entry)) at ⌝ }
+{
+    let back = four_at(text, at + 4) as u64;
+    four_at(text, at) as u64 + 4294967296 * back
+}
+
+// Texts of 4 to 8 bytes.
+pub fn same_fours(a: &[u8], b: &[u8]) -> bool
+    requires { ⌜ (4 ≤ length (now a)) × (length (now a) ≤ 8) × (length (now a) ≡ length (now b)) ⌝ }
+    ensures { λ r. ⌜ r ≡ same (now (a .entry)) (now (b .entry)) ⌝ }
+{
+    if four_at(a, 0) != four_at(b, 0) {
+        return false;
+    }
+    let back = a.len() - 4;
+    four_at(a, back) == four_at(b, back)
+}
+
+// Texts of 8 to 16 bytes.
+pub fn same_eights(a: &[u8], b: &[u8]) -> bool
+    requires { ⌜ (8 ≤ length (now a)) × (length (now a) ≤ 16) × (length (now a) ≡ length (now b)) ⌝ }
+    ensures { λ r. ⌜ r ≡ same (now (a .entry)) (now (b .entry)) ⌝ }
+{
+    if eight_at(a, 0) != eight_at(b, 0) {
+        return false;
+    }
+    let back = a.len() - 8;
+    eight_at(a, back) == eight_at(b, back)
+}
