@@ -1,0 +1,121 @@
+"""The numbers of refusal in plain words (docs/REFUSALS.md has a small file for each)."""
+
+from __future__ import annotations
+
+from dataclasses import dataclass
+from typing import NamedTuple, Optional
+
+
+class Rule(NamedTuple):
+    """What a number means, and how to mend the file."""
+
+    meaning: str
+    cure: str
+
+
+WHOLE_COPY = "Get a whole copy, or keep the part up to the sound end (rescue)."
+
+RULES: dict[int, Rule] = {
+    1: Rule("a lent buffer has the wrong size", "Mend the program: lend exactly the sizes of docs/RULES.md, section 9."),
+    2: Rule("the file is longer than 268,435,456 bytes", "Split it between sentences, with the format line and the tables in front of each part."),
+    3: Rule("the last line isn't ended by a newline, so it may be half a line", WHOLE_COPY + " Add the newline only if you know that the line is whole."),
+    4: Rule("the line has an illegal byte; legal are 9, 32 to 127 and 160 to 255", "Remove carriage returns (tr -d '\\r'); convert UTF-8 to Latin-1 (iconv -f utf-8 -t latin1)."),
+    5: Rule("the line is longer than 4,096 bytes", "Break a comment line in two; in a word's line, shorten the comment."),
+    6: Rule("a line of this kind can't stand here", "Look at the lines above: an #EOS or #EOT may be missing. Else correct the keyword, or move the line."),
+    7: Rule("a column is missing, or there is one too many", "Count the columns; a secondary label needs its parent, and a comment begins with %% between white bytes."),
+    8: Rule("a number is badly written or out of its range", "No plus, no leading zeros, no letters. Phrases 500 to 999, parents these or 0, sentences and origins 1 to 65,535."),
+    9: Rule("the format isn't 3, or there is no format line", "Write #FORMAT 3 as the first line if the file is of that format. An empty file is a copy that failed."),
+    10: Rule("a text is too long, a tag is %%, or a flag isn't Y or N", "Shorten the text, or rename the tag wherever it is used. In WORDTAG, look whether the flag was left out."),
+    11: Rule("a row's id or tag is out of place or given twice", "Number tag rows -1, 0, 1, 2 and so on without a gap; ids of origins and editors differ."),
+    12: Rule("the table has a 257th row", "Remove rows that nothing cites; a tag table may be left out as a whole."),
+    13: Rule("the ORIGIN or the EDITOR table is missing", "Add the table in front of the first sentence; EDITOR may be empty if only editors -1 and 0 are cited."),
+    14: Rule("the sentence number was used before", "Compare both sentences: remove one if they are the same, else give one a new number on #BOS and #EOS."),
+    15: Rule("the sentence's editor or origin has no row", "Add the row, or correct the number; the order is sentence, editor, date, origin."),
+    16: Rule("the sentence has a 501st word or a 513th secondary edge", "Often an #EOS and a #BOS were lost; else divide the sentence."),
+    17: Rule("the phrase number is given twice in the sentence", "Remove the line if it is a copy; else number it anew, and look which nodes belong under it."),
+    18: Rule("a tag isn't in its table", "Correct the tag, or add a row to the table."),
+    19: Rule("a parent can't be: it isn't larger than its phrase, or it is 0 and the edge isn't --", "Write -- for the edge of a node with parent 0; number phrases from the leaves up."),
+    20: Rule("#EOS has another number than #BOS", "Look whether lines were lost: this may be the front of one sentence and the end of another."),
+    21: Rule("the sentence's phrases aren't numbered from 500 without a gap", "Bring the lost phrase back, or number them from 500 on, with their children's parents."),
+    22: Rule("a node of the sentence names a parent that isn't there", "Look above this line for a parent beyond the highest phrase; bring that phrase back, or correct the parent."),
+    23: Rule("the file ends inside a table or a sentence", WHOLE_COPY + " Don't add the #EOS by hand: nobody knows which phrases are lost."),
+    24: Rule("no such sentence was handed out", "Survey the file: if it is refused, mend that first; else see which numbers there are (numbers)."),
+    25: Rule("the tidy text has no room", "Lend 512 bytes more than the file has; if the file limit is passed, split the file."),
+}
+
+#: Examples of the numbers that no small file gets.
+CALLS: dict[int, str] = {
+    1: "a program that lends 10,758 numbers for the table sheet",
+    2: "a file of 268,435,457 bytes, whatever they are",
+    24: "sentence 8 of examples/ja.export, which has sentence 7 alone",
+    25: "125 bytes of room for the tidy text of examples/ja.export, which has 126",
+}
+
+
+def shown(text: str) -> str:
+    """A text as it can be printed: control bytes are written out.
+
+    >>> shown("Ja\\r")
+    'Ja\\\\x0d'
+    """
+    return "".join(f"\\x{ord(c):02x}" if ord(c) < 32 or 127 <= ord(c) < 160 else c for c in text)
+
+
+@dataclass(frozen=True)
+class Refusal:
+    """Why a file was refused, and where.
+
+    >>> print(Refusal(22, 94, 9, "#EOS 1"))
+    refusal 22, line 9: a node of the sentence names a parent that isn't there
+      "#EOS 1"
+      Look above this line for a parent beyond the highest phrase; bring that phrase back, or correct the parent.
+    """
+
+    number: int
+    place: int  #: the first byte of the faulty line, or the file's length
+    line: Optional[int] = None  #: counted from 1; None where the number speaks of no line
+    text: Optional[str] = None  #: the faulty line; None if only the file's end shows the fault
+
+    @property
+    def meaning(self) -> str:
+        return RULES[self.number].meaning
+
+    @property
+    def cure(self) -> str:
+        return RULES[self.number].cure
+
+    @property
+    def where(self) -> str:
+        if self.line is None:
+            return ""
+        if self.text is not None:
+            return f"line {self.line}"
+        return f"at the end, behind line {self.line - 1}" if self.line > 1 else "an empty file"
+
+    @property
+    def brief(self) -> str:
+        """One line, without the cure."""
+        where = f", {self.where}" if self.where else ""
+        return f"refusal {self.number}{where}: {self.meaning}"
+
+    def __str__(self) -> str:
+        lines = [self.brief]
+        if self.text is not None:
+            lines.append(f'  "{shown(self.text)}"')
+        lines.append(f"  {self.cure}")
+        return "\n".join(lines)
+
+
+class Refused(Exception):
+    """Raised where a file must be accepted and isn't; `.refusal` is the reason."""
+
+    def __init__(self, refusal: Refusal) -> None:
+        super().__init__(refusal)
+        self.refusal = refusal
+
+    def __str__(self) -> str:
+        return str(self.refusal)
+
+
+class NoSuchSentence(Refused, KeyError):
+    """Raised for a sentence number that the file doesn't hand out."""
