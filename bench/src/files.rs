@@ -1,6 +1,6 @@
 //! Accepted files that grow in one respect.
 
-use plain::generate::Dice;
+use plain::generate::{corpus, Dice};
 
 const SENTENCES: usize = 2_000;
 const WORDS: usize = 18;
@@ -17,6 +17,24 @@ pub fn without_tag_tables(corpus: &[u8]) -> Vec<u8> {
     };
     let behind = place("#EOT SECEDGETAG\n") + "#EOT SECEDGETAG\n".len();
     [&corpus[..place("#BOT WORDTAG\n")], &corpus[behind..]].concat()
+}
+
+/// The corpus with its sentences in an order made by dice.
+pub fn shuffled_corpus(sentences: usize) -> Vec<u8> {
+    let corpus = corpus(sentences);
+    let (heading, mut begins, mut dice) = (b"\n#BOS ", Vec::new(), Dice::new(1997));
+    begins.extend((1..corpus.len()).filter(|&place| corpus[place - 1..].starts_with(heading)));
+    let ends = begins[1..].iter().copied().chain([corpus.len()]);
+    let mut order: Vec<(usize, usize)> = begins.iter().copied().zip(ends).collect();
+    for last in (1..order.len()).rev() {
+        order.swap(last, dice.below(last + 1));
+    }
+    let shuffled = order.iter().map(|&(begin, end)| &corpus[begin..end]);
+    [&corpus[..begins[0]]]
+        .into_iter()
+        .chain(shuffled)
+        .collect::<Vec<_>>()
+        .concat()
 }
 
 /// The seven tables with this many rows each.

@@ -1,6 +1,6 @@
 //! How fast the compiled survey is, beside the independent reader and a plain count of
-//! newlines; whether the time of a byte stays flat while a file grows; and what openings
-//! cost beside a survey.
+//! newlines; whether the time of a byte stays flat while a file grows; and what openings and
+//! writings cost beside a survey.
 
 mod clock;
 mod files;
@@ -10,7 +10,8 @@ use std::env;
 
 use plain::generate::corpus;
 use timing::{
-    best_times, count_newlines, index, open_all, open_one, survey_compiled, survey_plainly, Work,
+    best_times, count_newlines, index, open_all, open_one, survey_compiled, survey_plainly,
+    write_tidy, Work,
 };
 
 const CORPUS: usize = 50_000;
@@ -41,17 +42,25 @@ const OPENED: [(&str, [usize; 4], Make); 3] = [
 
 const OPENINGS: [Work; 4] = [survey_compiled, open_one, index, open_all];
 
-/// With the argument `openings` the surveys alone are left out.
+/// What grows in the files that are written; the rest is what grows in those surveyed.
+const WRITTEN: [(&str, [usize; 4], Make); 3] = [
+    ("sentences, shuffled", SENTENCES, files::shuffled_corpus),
+    ("words of a sentence", [8, 32, 128, 500], files::with_words),
+    ("edges of a sentence", [8, 32, 128, 512], files::with_edges),
+];
+
+/// All tables, or with an argument one of them: `surveys`, `openings` or `writings`.
 fn main() {
-    if env::args().nth(1).as_deref() != Some("openings") {
+    let asked = env::args().nth(1);
+    let wanted = |name: &str| asked.as_deref().is_none_or(|asked| asked == name);
+    if wanted("surveys") {
         print_surveys();
     }
-    println!(
-        "| What grows | size | bytes | survey, ns/byte | one opening | index | all by index |"
-    );
-    println!("|---|--:|--:|--:|--:|--:|--:|");
-    for (what, sizes, make) in OPENED {
-        print_openings(what, sizes, make);
+    if wanted("openings") {
+        print_all_openings();
+    }
+    if wanted("writings") {
+        print_all_writings();
     }
 }
 
@@ -99,6 +108,17 @@ fn print_growth(what: &str, sizes: [usize; 4], make: Make) {
     }
 }
 
+fn print_all_openings() {
+    println!(
+        "| What grows | size | bytes | survey, ns/byte | one opening | index | all by index |"
+    );
+    println!("|---|--:|--:|--:|--:|--:|--:|");
+    for (what, sizes, make) in OPENED {
+        print_openings(what, sizes, make);
+    }
+    println!();
+}
+
 /// A line for each size: the survey's time, and how often that time the openings take.
 fn print_openings(what: &str, sizes: [usize; 4], make: Make) {
     for (size, file) in sizes.map(|size| (size, make(size))) {
@@ -107,5 +127,23 @@ fn print_openings(what: &str, sizes: [usize; 4], make: Make) {
         let [one, index, all] = [one, index, all].map(|time| time / survey);
         let bytes = file.len();
         println!("| {what} | {size} | {bytes} | {survey:.2} | {one:.2} | {index:.2} | {all:.2} |");
+    }
+}
+
+fn print_all_writings() {
+    println!("| What grows | size | bytes | survey, ns/byte | writing, ns/byte | surveys |");
+    println!("|---|--:|--:|--:|--:|--:|");
+    for (what, sizes, make) in GROWTHS.into_iter().chain(WRITTEN) {
+        print_writings(what, sizes, make);
+    }
+}
+
+/// A line for each size: the times of survey and writing, and how many surveys a writing takes.
+fn print_writings(what: &str, sizes: [usize; 4], make: Make) {
+    for (size, file) in sizes.map(|size| (size, make(size))) {
+        let works: [Work; 2] = [survey_compiled, write_tidy];
+        let [survey, writing] = best_times(works.map(|work| (work, &file[..])));
+        let (bytes, ratio) = (file.len(), writing / survey);
+        println!("| {what} | {size} | {bytes} | {survey:.2} | {writing:.2} | {ratio:.2} |");
     }
 }

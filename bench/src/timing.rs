@@ -3,8 +3,8 @@
 use std::hint::black_box;
 use std::time::{Duration, Instant};
 
-use compiled::lent::EDGE_NUMBERS;
-use plain::{Survey, PLACES, SEEN_SET, SENTENCE_SHEET, TABLE_SHEET};
+use hraunlik::calls;
+use hraunlik::layout::{EDGES, PLACES, SEEN, SHEET, TABLES, TIDY_ROOM};
 
 use crate::clock::processor_time;
 
@@ -18,16 +18,19 @@ pub struct Lent {
     places: Vec<u32>,
     sheet: Vec<u32>,
     edges: Vec<u32>,
+    output: Vec<u8>,
 }
 
 impl Lent {
-    fn zero() -> Lent {
+    /// The output has room for the tidy text of a file of this length.
+    fn zero(file: usize) -> Lent {
         Lent {
-            tables: vec![0; TABLE_SHEET],
-            seen: vec![0; SEEN_SET],
+            tables: vec![0; TABLES],
+            seen: vec![0; SEEN],
             places: vec![0; PLACES],
-            sheet: vec![0; SENTENCE_SHEET],
-            edges: vec![0; EDGE_NUMBERS],
+            sheet: vec![0; SHEET],
+            edges: vec![0; EDGES],
+            output: vec![0; file + TIDY_ROOM],
         }
     }
 }
@@ -35,26 +38,26 @@ impl Lent {
 pub type Work = fn(&[u8], &mut Lent);
 
 pub fn survey_compiled(file: &[u8], lent: &mut Lent) {
-    let answer = compiled::survey(file, &mut lent.tables, &mut lent.seen);
-    assert_accepted(file, answer);
+    let answer = calls::survey(file, &mut lent.tables, &mut lent.seen);
+    assert_accepted(file, answer.refusal, answer.place);
 }
 
 pub fn survey_plainly(file: &[u8], lent: &mut Lent) {
     let answer = plain::survey(file, &mut lent.tables, &mut lent.seen);
-    assert_accepted(file, answer);
+    assert_accepted(file, answer.refusal, answer.place);
 }
 
 /// Opens sentence 1, which every corpus has.
 pub fn open_one(file: &[u8], lent: &mut Lent) {
     let (tables, seen) = (&mut lent.tables, &mut lent.seen);
-    let refusal = compiled::open(file, 1, tables, seen, &mut lent.sheet, &mut lent.edges);
+    let refusal = calls::open(file, 1, tables, seen, &mut lent.sheet, &mut lent.edges);
     assert_eq!((refusal, lent.sheet[0]), (0, 1));
 }
 
 pub fn index(file: &[u8], lent: &mut Lent) {
     let (tables, seen) = (&mut lent.tables, &mut lent.seen);
-    let answer = compiled::index(file, tables, seen, &mut lent.places);
-    assert_accepted(file, answer);
+    let answer = calls::index(file, tables, seen, &mut lent.places);
+    assert_accepted(file, answer.refusal, answer.place);
 }
 
 /// An index, and then every sentence at its place.
@@ -62,24 +65,34 @@ pub fn open_all(file: &[u8], lent: &mut Lent) {
     index(file, lent);
     for (number, &told) in lent.places.iter().enumerate() {
         if told > 0 {
-            let refusal = compiled::open_at(file, told - 1, &mut lent.sheet, &mut lent.edges);
+            let refusal = calls::open_at(file, told - 1, &mut lent.sheet, &mut lent.edges);
             assert_eq!((refusal, lent.sheet[0]), (0, number as u32));
         }
     }
+}
+
+/// Writes the tidy text.
+pub fn write_tidy(file: &[u8], lent: &mut Lent) {
+    let (tables, seen) = (&mut lent.tables, &mut lent.seen);
+    let (sheet, edges) = (&mut lent.sheet, &mut lent.edges);
+    let answer = calls::write(file, &mut lent.output, tables, seen, sheet, edges);
+    assert_eq!((answer.refusal, answer.place as usize), (0, file.len()));
+    assert!(lent.output.starts_with(b"#FORMAT 3\n"));
 }
 
 pub fn count_newlines(file: &[u8], _: &mut Lent) {
     black_box(file.iter().filter(|&&byte| byte == b'\n').count());
 }
 
-fn assert_accepted(file: &[u8], answer: Survey) {
-    assert_eq!((answer.refusal, answer.place as usize), (0, file.len()));
+fn assert_accepted(file: &[u8], refusal: u32, place: u32) {
+    assert_eq!((refusal, place as usize), (0, file.len()));
 }
 
 /// The best time of each work, in nanoseconds a byte of this thread's processor time. They
 /// take turns, so that whatever else the machine does slows all of them alike.
 pub fn best_times<const N: usize>(works: [(Work, &[u8]); N]) -> [f64; N] {
-    let mut lent = Lent::zero();
+    let longest = works.iter().map(|(_, file)| file.len()).max();
+    let mut lent = Lent::zero(longest.unwrap_or(0));
     let mut best = [f64::MAX; N];
     let (mut rounds, began) = (0, Instant::now());
     while rounds < LEAST_ROUNDS || began.elapsed() < LEAST_TIME {

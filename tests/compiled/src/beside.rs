@@ -4,6 +4,7 @@
 use std::fmt::Arguments;
 use std::fs;
 
+use hraunlik::calls;
 use plain::{Edge, Survey};
 
 use crate::lent::{Lent, Sizes, INDEX_SIZES, OPEN_AT_SIZES, OPEN_SIZES, SURVEY_SIZES};
@@ -33,10 +34,10 @@ impl Call {
         let (tables, seen) = (lent.tables.lent(), lent.seen.lent());
         let (sheet, edges) = (lent.sheet.lent(), lent.edges.lent());
         match self {
-            Call::Survey => crate::survey(file, tables, seen),
-            Call::Index => crate::index(file, tables, seen, lent.places.lent()),
-            Call::Open(number) => alone(crate::open(file, number, tables, seen, sheet, edges)),
-            Call::OpenAt(place) => alone(crate::open_at(file, place, sheet, edges)),
+            Call::Survey => same_words(calls::survey(file, tables, seen)),
+            Call::Index => same_words(calls::index(file, tables, seen, lent.places.lent())),
+            Call::Open(number) => alone(calls::open(file, number, tables, seen, sheet, edges)),
+            Call::OpenAt(place) => alone(calls::open_at(file, place, sheet, edges)),
         }
     }
 
@@ -56,6 +57,16 @@ impl Call {
     }
 }
 
+/// The library's answer as the independent reader says it.
+pub fn same_words(answer: hraunlik::Survey) -> Survey {
+    Survey {
+        refusal: answer.refusal,
+        place: answer.place,
+        sentences: answer.sentences,
+        sound_end: answer.sound_end,
+    }
+}
+
 /// An opening answers with a refusal alone.
 fn alone(refusal: u32) -> Survey {
     Survey {
@@ -67,9 +78,9 @@ fn alone(refusal: u32) -> Survey {
 }
 
 /// Lends the list as records; numbers that make no whole records are lent as no list.
-fn as_records(numbers: &mut [u32], opening: impl FnOnce(&mut [Edge]) -> u32) -> u32 {
+pub fn as_records<A>(numbers: &mut [u32], call: impl FnOnce(&mut [Edge]) -> A) -> A {
     if numbers.len() % 4 != 0 {
-        return opening(&mut []);
+        return call(&mut []);
     }
     let record = |numbers: &[u32]| Edge {
         child: numbers[0],
@@ -78,11 +89,11 @@ fn as_records(numbers: &mut [u32], opening: impl FnOnce(&mut [Edge]) -> u32) -> 
         parent: numbers[3],
     };
     let mut records: Vec<Edge> = numbers.chunks_exact(4).map(record).collect();
-    let refusal = opening(&mut records);
+    let answer = call(&mut records);
     for (room, edge) in numbers.chunks_exact_mut(4).zip(records) {
         room.copy_from_slice(&[edge.child, edge.label_start, edge.label_length, edge.parent]);
     }
-    refusal
+    answer
 }
 
 /// The answer to a file lent with buffers of noise, and the buffers afterwards.
@@ -103,7 +114,7 @@ pub fn agreed_with(case: Arguments, call: Call, file: &[u8], lent: &Lent) -> (Su
 }
 
 /// Leaves the file where it can be looked at.
-fn keep(case: Arguments, file: &[u8]) -> String {
+pub fn keep(case: Arguments, file: &[u8]) -> String {
     let name = format!("{DIFFERENCES}/{}", case.to_string().replace(' ', "-"));
     let left = fs::create_dir_all(DIFFERENCES).and_then(|()| fs::write(&name, file));
     match left {

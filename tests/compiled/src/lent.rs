@@ -21,11 +21,26 @@ pub const INDEX_SIZES: Sizes = [TABLE_SHEET, SEEN_SET, PLACES, 0, 0];
 pub const OPEN_SIZES: Sizes = [TABLE_SHEET, SEEN_SET, 0, SENTENCE_SHEET, EDGE_NUMBERS];
 pub const OPEN_AT_SIZES: Sizes = [0, 0, 0, SENTENCE_SHEET, EDGE_NUMBERS];
 
+/// Every choice of the fixed size, one less, one more and 0 for each buffer that is lent; the
+/// fixed sizes come first.
+pub fn choices_of_sizes(fixed: Sizes) -> Vec<Sizes> {
+    let mut choices = vec![fixed];
+    for buffer in (0..fixed.len()).filter(|&buffer| fixed[buffer] > 0) {
+        for mut sizes in choices.clone() {
+            for size in [fixed[buffer] - 1, fixed[buffer] + 1, 0] {
+                sizes[buffer] = size;
+                choices.push(sizes);
+            }
+        }
+    }
+    choices
+}
+
 #[derive(Clone, PartialEq, Eq)]
 pub struct Room<T>(Vec<T>);
 
 impl<T> Room<T> {
-    fn filled(size: usize, entry: impl Fn(usize) -> T) -> Room<T> {
+    pub fn filled(size: usize, entry: impl Fn(usize) -> T) -> Room<T> {
         Room((0..size + 2 * MARGIN).map(entry).collect())
     }
 
@@ -41,7 +56,7 @@ impl<T> Room<T> {
 
 impl<T: PartialEq + Debug> Room<T> {
     /// Entries are counted from the buffer's first; those of the margin in front are below 0.
-    fn first_difference(&self, name: &str, plain: &Room<T>) -> String {
+    pub fn first_difference(&self, name: &str, plain: &Room<T>) -> String {
         let mut entries = self.0.iter().zip(&plain.0).enumerate();
         match entries.find(|(_, (compiled, plain))| compiled != plain) {
             None => String::new(),

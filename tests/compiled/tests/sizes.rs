@@ -1,7 +1,7 @@
 //! Refusals 1 and 2: nothing may change in any buffer.
 
 use compiled::beside::{agreed_with, Call};
-use compiled::lent::{Lent, Sizes};
+use compiled::lent::{choices_of_sizes, Lent};
 use compiled::openings::{headings, numbers_given};
 use plain::generate::small;
 use plain::{Survey, FILE_LIMIT};
@@ -16,20 +16,6 @@ fn assert_unread(case: std::fmt::Arguments, call: Call, file: &[u8], lent: &Lent
     let (answer, after) = agreed_with(case, call, file, lent);
     assert_eq!(answer, unread, "{case}, {call:?}");
     assert!(after == *lent, "{case}, {call:?}");
-}
-
-/// Every choice of the fixed size, one less, one more and 0 for each buffer that is lent.
-fn choices_of_sizes(fixed: Sizes) -> Vec<Sizes> {
-    let mut choices = vec![fixed];
-    for buffer in (0..fixed.len()).filter(|&buffer| fixed[buffer] > 0) {
-        for mut sizes in choices.clone() {
-            for size in [fixed[buffer] - 1, fixed[buffer] + 1, 0] {
-                sizes[buffer] = size;
-                choices.push(sizes);
-            }
-        }
-    }
-    choices
 }
 
 fn assert_wrong_sizes_refused(call: Call, file: &[u8], seed: u64) {

@@ -35,6 +35,8 @@ pub const EDGE_LIST: usize = 512;
 pub const PLACES: usize = 65_536;
 /// The longest file in bytes.
 pub const FILE_LIMIT: usize = 268_435_456;
+/// A tidy text is at most so many bytes longer than its file.
+const TIDY_ROOM: usize = 512;
 
 /// A secondary edge in the edge list.
 #[repr(C)]
@@ -145,6 +147,23 @@ fn hand_over(asked: Option<&Sentence>, sentence_sheet: &mut [u32], edges: &mut [
             0
         }
     }
+}
+
+/// A writing with room enough, and its text, empty if it is refused.
+pub fn tidied(file: &[u8]) -> (Written, Vec<u8>) {
+    let (mut tables, mut seen) = (vec![0; TABLE_SHEET], vec![0; SEEN_SET]);
+    let (mut sheet, mut edges) = (vec![0; SENTENCE_SHEET], vec![Edge::default(); EDGE_LIST]);
+    let mut out = vec![0; file.len() + TIDY_ROOM];
+    let written = write(
+        file,
+        &mut tables,
+        &mut seen,
+        &mut sheet,
+        &mut edges,
+        &mut out,
+    );
+    out.truncate(written.length as usize);
+    (written, out)
 }
 
 /// Writes the tidy text of an accepted file to the beginning of `out`.

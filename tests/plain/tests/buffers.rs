@@ -4,6 +4,7 @@ mod common;
 
 use common::*;
 use plain::documents::{replaced, A};
+use plain::generate::longest_tidy;
 use plain::{Edge, Written, FILE_LIMIT};
 
 /// Lent buffers of which one has a wrong size.
@@ -170,41 +171,12 @@ fn tidy_text_longer_than_its_file() {
     assert_eq!(Lent::with_old_contents().write(&file, &mut out).refusal, 25);
 }
 
-/// A tidy file as long as a file may be: its tables, then lines as long as lines may be.
-fn longest_tidy_file(tables: &[u8]) -> Vec<u8> {
-    let mut file = Vec::with_capacity(FILE_LIMIT);
-    file.extend(tables);
-    let ending = b"\tx\tx\t--\t0\n";
-    let mut number = 0;
-    while file.len() < FILE_LIMIT {
-        number += 1;
-        file.extend(format!("#BOS {number} 0 0 1\n").as_bytes());
-        let end = format!("#EOS {number}\n").into_bytes();
-        for _ in 0..500 {
-            let room = FILE_LIMIT - file.len() - end.len();
-            // What is left at last must hold another sentence or nothing.
-            let length = if room < 4_097 {
-                room
-            } else {
-                4_097.min(room - 100)
-            };
-            if length < 20 {
-                break;
-            }
-            file.extend(std::iter::repeat_n(b'w', length - ending.len()));
-            file.extend(ending);
-        }
-        file.extend(end);
-    }
-    file
-}
-
 #[test]
 fn tidy_text_longer_than_a_file_may_be() {
     let tidy = b"#FORMAT 3\n#BOT ORIGIN\n1\tlab\t%%\tc\n#EOT ORIGIN\n#BOT EDITOR\n#EOT EDITOR\n";
     let glued = b"#FORMAT 3\n#BOT ORIGIN\n1\tlab%%cc\n#EOT ORIGIN\n#BOT EDITOR\n#EOT EDITOR\n\n";
     assert_eq!(tidy.len(), glued.len());
-    let mut file = longest_tidy_file(tidy);
+    let mut file = longest_tidy(tidy);
     assert_eq!(file.len(), FILE_LIMIT);
     let mut lent = Lent::with_old_contents();
     let mut out = vec![3; FILE_LIMIT + 10];

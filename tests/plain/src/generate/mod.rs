@@ -11,10 +11,12 @@ mod draft;
 mod draft_sentences;
 mod draft_tables;
 mod line_damage;
+mod longest;
 mod texts;
 
 pub use corpus::corpus;
 pub use dice::Dice;
+pub use longest::longest_tidy;
 
 use draft::{Draft, Measure};
 
