@@ -43,7 +43,7 @@ first-low i k (e ∷ es) = by (eqb (e .child) k) (first-low (suc i) k es)
     by true h = omega arith
     by false h = omega arith
 
-abbrev Lacks : ℕ → List EdgeRecord → Type 0
+abbrev pub Lacks : ℕ → List EdgeRecord → Type 0
 Lacks k es = Each (λ (e : EdgeRecord). eqb (e .child) k ≡ false) es
 
 lacks-together : (k : ℕ) (es : List EdgeRecord) → Lacks k es → together k es ≡ []

@@ -1,5 +1,6 @@
 pub mod EdgesAlong
 pub mod FirstEdges
+pub mod ForgottenFirsts
 pub mod LineTexts
 pub mod NodesAlong
 pub mod OwnEdges

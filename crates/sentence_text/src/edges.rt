@@ -25,6 +25,19 @@ pub fn note_firsts(edges: &[u32], count: usize, firsts: &mut [u32])
     }
 }
 
+// All places that were noted 0 again, by the children of the edges.
+pub fn forget_firsts(edges: &[u32], count: usize, firsts: &mut [u32])
+    requires { ⌜ (edgeWidth * count ≤ length (now edges)) × (count ≤ edgeLimit) × Firsts (edgesFrom (now edges) 0 count) 0 (now firsts) × ((i : ℕ) → i < count → getD (now edges) (edgeWidth * i) 0 < nodeRoom) ⌝ }
+    ensures { λ _. ⌜ now (firsts .exit) ≡ replicate nodeRoom 0 ⌝ }
+{
+    let mut k = 0;
+    while k < count {
+        let child = edges[EDGE_WIDTH * k] as usize;
+        firsts[child] = 0;
+        k += 1;
+    }
+}
+
 // An edge's label and parent, each behind a tab.
 pub fn put_edge(file: &[u8], edges: &[u32], place: usize, out: &mut [u8], at: usize) -> usize
     requires { ⌜ EdgeInside (now file) (now edges) place × (at + edgeMost ≤ farthest) ⌝ }

@@ -2,10 +2,12 @@
 mod edges;
 mod nodes;
 
+ghost use mathlib.Core.Path.{_≡_};
 ghost use mathlib.Core.List.{[], _∷_};
 ghost use Prim.Native.Nat.{_+_, _≤_};
-ghost use lib.ListN.{length};
+ghost use lib.ListN.{length, replicate};
 ghost use Rattle.rules.specs.Lists.{bytes};
+ghost use Rattle.rules.specs.Sheets.{nodeRoom};
 ghost use Rattle.rules.specs.Tidy.{keywordLine, digitsOf, headingLine, sentenceText};
 ghost use Rattle.printing.specs.Over.{farthest, Put};
 ghost use Rattle.printing.specs.Fields.{FieldInside};
@@ -60,26 +62,34 @@ fn put_end(number: u32, out: &mut [u8], at: usize) -> usize
     printing::put_byte(NEWLINE, out, numbered)
 }
 
-// The sentence of a sheet and a list: its words, then its phrases by number.
-pub fn print_sentence(file: &[u8], sheet: &[u32], list: &[u32], out: &mut [u8], at: usize) -> usize
-    requires { ⌜ SheetReadable (now file) (now sheet) (now list) × (at + sentenceMost ≤ farthest) ⌝ }
-    ensures { λ r. ⌜ Put sentenceMost (sentenceText (sentenceIn (now (file .entry)) (now (sheet .entry)) (now (list .entry)))) at (now (out .entry)) r (now (out .exit)) ⌝ }
+// The sentence of a sheet and a list: its words, then its phrases by number. `firsts` is zero, and is so again.
+pub fn print_sentence(
+    file: &[u8],
+    sheet: &[u32],
+    list: &[u32],
+    firsts: &mut [u32],
+    out: &mut [u8],
+    at: usize,
+) -> usize
+    requires { ⌜ SheetReadable (now file) (now sheet) (now list) × (now firsts ≡ replicate nodeRoom 0) × (at + sentenceMost ≤ farthest) ⌝ }
+    ensures { λ r. ⌜ Put sentenceMost (sentenceText (sentenceIn (now (file .entry)) (now (sheet .entry)) (now (list .entry)))) at (now (out .entry)) r (now (out .exit)) × (now (firsts .exit) ≡ replicate nodeRoom 0) ⌝ }
 {
-    let mut firsts = [0u32; sentence_sheet::NODE_ROOM];
-    edges::note_firsts(list, sheet[EDGES] as usize, &mut firsts);
+    let count = sheet[EDGES] as usize;
+    edges::note_firsts(list, count, firsts);
     let headed = put_heading(file, sheet, out, at);
     let words = sheet[WORDS] as usize;
-    let worded = nodes::put_nodes(file, sheet, list, &firsts, 0, words, out, headed);
+    let worded = nodes::put_nodes(file, sheet, list, firsts, 0, words, out, headed);
     let phrases = sheet[PHRASES] as usize;
     let phrased = nodes::put_nodes(
         file,
         sheet,
         list,
-        &firsts,
+        firsts,
         PHRASES_FROM,
         phrases,
         out,
         worded,
     );
+    edges::forget_firsts(list, count, firsts);
     put_end(sheet[0], out, phrased)
 }

@@ -1,100 +1,100 @@
--- `sentence_text::print_sentence` meets its contract: heading, words, phrases and end, one behind the other.
--- No loop.
+-- `sentence_text::print_sentence` meets its contract: heading, words, phrases and end, one behind the other; the places of
+-- first edges are noted before and forgotten behind. No loop.
 use borrow.Author.Needs.{needs}
 use native.Mathlib.Omega.{arith}
-use mathlib.Core.Path.{refl}
 use Rattle.printing.proofs.PutLaws.{put-then, put-as, put-wider}
 use Rattle.sentence_text.proofs.LineTexts.{sentence-text}
 use Rattle.sentence_text.proofs.print_sentence.Statement.{statement}
 use Rattle.sentence_text.proofs.print_sentence.Tie as tie
 
-shared-slice-read-note-firsts : tie.Need-shared-slice-read-note-firsts
-shared-slice-read-note-firsts c = search needs
+-- from each call back to the one before it
+abbrev start : tie.After-shared-slice-known4 → tie.Start
+start c = c .before .before .before .before .before .before
 
-cast-note-firsts : tie.Need-cast-note-firsts
-cast-note-firsts c = search needs
+abbrev counted : tie.After-note-firsts → tie.After-shared-slice-known4
+counted n = n .before .before
 
-slice-aggregate-note-firsts : tie.Need-slice-aggregate-note-firsts
-slice-aggregate-note-firsts c = search needs
+abbrev noted : tie.After-put-heading → tie.After-note-firsts
+noted h = h .before .before .before .before
+
+abbrev headed : tie.After-put-nodes → tie.After-put-heading
+headed w = w .before .before .before .before .before .before
+
+abbrev worded : tie.After-put-nodes2 → tie.After-put-nodes
+worded v = v .before .before .before .before .before .before
+
+abbrev phrased : tie.After-forget-firsts → tie.After-put-nodes2
+phrased f = f .before .before .before .before
+
+abbrev first : tie.After-put-nodes → tie.Start
+first w = start (counted (noted (headed w)))
 
 note-firsts-requires : tie.Need-note-firsts-requires
 note-firsts-requires c κs =
-    let p = c .before .before .before .before .before .before .pre .0 in
-    (p .room, p .few, refl, λ i h. p .each-edge i h .child)
-
-put-heading-requires : tie.Need-put-heading-requires
-put-heading-requires c κs = search needs
-
-shared-slice-read-words : tie.Need-shared-slice-read-words
-shared-slice-read-words c = search needs
-
-cast-words : tie.Need-cast-words
-cast-words c = search needs
-
-slice-aggregate-put-nodes : tie.Need-slice-aggregate-put-nodes
-slice-aggregate-put-nodes c = search needs
-
-put-nodes-requires : tie.Need-put-nodes-requires
-put-nodes-requires c κs = search needs
-
-shared-slice-read-phrases : tie.Need-shared-slice-read-phrases
-shared-slice-read-phrases c = search needs
-
-cast-phrases : tie.Need-cast-phrases
-cast-phrases c = search needs
-
-slice-aggregate-put-nodes-2 : tie.Need-slice-aggregate-put-nodes-2
-slice-aggregate-put-nodes-2 c = search needs
+    let s = start (c .before) in
+    let p = s .pre .0 in
+    (p .room, p .few, s .pre .1, λ i h. p .each-edge i h .child)
 
 put-nodes-requires-2 : tie.Need-put-nodes-requires-2
 put-nodes-requires-2 c κs =
-    let p = c .before .before .before .before .before .before .before .before .before .before .before .before .before .before .before .before .before .before .before .before .before .pre .0 in
-    let h = c .before .before .before .before .before .before .before .before .before .before .before .put-heading .ensures in
-    let w = c .before .before .before .before .before .put-nodes .ensures in
-    (p, c .before .before .before .before .before .before .before .before .before .before .before .before .before .before .note-firsts .ensures, omega (arith, p .phrases), omega (arith, c .before .before .before .before .before .before .before .before .before .before .before .before .before .before .before .before .before .before .before .before .before .pre .1, p .words, p .phrases, h .place, h .within, w .place, w .within))
+    let w = c .before .before .before .before .before in
+    let s = first w in
+    let p = s .pre .0 in
+    let h = headed w .put-heading .ensures in
+    let e = w .put-nodes .ensures in
+    (p, noted (headed w) .note-firsts .ensures, omega (arith, p .phrases), omega (arith, s .pre .2, p .words, p .phrases, h .place, h .within, e .place, e .within))
+
+forget-firsts-requires : tie.Need-forget-firsts-requires
+forget-firsts-requires c κs =
+    let w = worded (c .before .before .before) in
+    let p = first w .pre .0 in
+    (p .room, p .few, noted (headed w) .note-firsts .ensures, λ i h. p .each-edge i h .child)
 
 shared-slice-read-put-end : tie.Need-shared-slice-read-put-end
-shared-slice-read-put-end c = omega (arith, c .before .before .before .before .before .before .before .before .before .before .before .before .before .before .before .before .before .before .before .before .before .before .before .before .before .pre .0 .size)
+shared-slice-read-put-end c = omega (arith, first (worded (phrased (c .before .before .before))) .pre .0 .size)
 
 put-end-requires : tie.Need-put-end-requires
 put-end-requires c κs =
-    let p = c .before .before .before .before .before .before .before .before .before .before .before .before .before .before .before .before .before .before .before .before .before .before .before .before .before .before .pre .0 in
-    let h = c .before .before .before .before .before .before .before .before .before .before .before .before .before .before .before .before .put-heading .ensures in
-    let w = c .before .before .before .before .before .before .before .before .before .before .put-nodes .ensures in
-    let v = c .before .before .before .before .put-nodes2 .ensures in
-    omega (arith, c .before .before .before .before .before .before .before .before .before .before .before .before .before .before .before .before .before .before .before .before .before .before .before .before .before .before .pre .1, p .words, p .phrases, h .place, h .within, w .place, w .within, v .place, v .within)
-
-same-length : tie.Need-same-length
-same-length c = search needs
+    let v = phrased (c .before .before .before .before) in
+    let w = worded v in
+    let s = first w in
+    let p = s .pre .0 in
+    let h = headed w .put-heading .ensures in
+    let e = w .put-nodes .ensures in
+    let m = v .put-nodes2 .ensures in
+    omega (arith, s .pre .2, p .words, p .phrases, h .place, h .within, e .place, e .within, m .place, m .within)
 
 returns : tie.Need-returns
 returns c =
-    let a = c .before .before .before .before .before .before .before .before .before .before .before .before .before .before .before .before .before .before .before .before .before .before .before .before .before .before .before .before .before .args in
-    let p = c .before .before .before .before .before .before .before .before .before .before .before .before .before .before .before .before .before .before .before .before .before .before .before .before .before .before .before .before .before .pre .0 in
-    put-wider (omega (arith, p .words, p .phrases))
-    (put-as (sentence-text (a .file .now) (a .sheet .now) (a .list .now))
-    (put-then
-    (put-then (put-then (c .before .before .before .before .before .before .before .before .before .before .before .before .before .before .before .before .before .before .before .put-heading .ensures) (c .before .before .before .before .before .before .before .before .before .before .before .before .before .put-nodes .ensures)) (c .before .before .before .before .before .before .before .put-nodes2 .ensures))
-    (c .before .before .put-end .ensures)))
+    let z = c .before .before in
+    let f = z .before .before .before .before .before in
+    let v = phrased f in
+    let w = worded v in
+    let s = first w in
+    let p = s .pre .0 in (
+      put-wider (omega (arith, p .words, p .phrases))
+          (put-as (sentence-text (s .args .file .now) (s .args .sheet .now) (s .args .list .now))
+          (put-then (put-then (put-then (headed w .put-heading .ensures) (w .put-nodes .ensures)) (v .put-nodes2 .ensures)) (z .put-end .ensures))),
+      f .forget-firsts .ensures,
+    )
 
 pub print-sentence-spec : {M : Type 1} → statement M
 print-sentence-spec =
     tie.close
     (tie.spec
-    shared-slice-read-note-firsts
-    cast-note-firsts
-    slice-aggregate-note-firsts
+    (λ c. search needs)
+    (λ c. search needs)
     note-firsts-requires
-    put-heading-requires
-    shared-slice-read-words
-    cast-words
-    slice-aggregate-put-nodes
-    put-nodes-requires
-    shared-slice-read-phrases
-    cast-phrases
-    slice-aggregate-put-nodes-2
+    (λ c κs. search needs)
+    (λ c. search needs)
+    (λ c. search needs)
+    (λ c κs. search needs)
+    (λ c. search needs)
+    (λ c. search needs)
     put-nodes-requires-2
+    forget-firsts-requires
     shared-slice-read-put-end
     put-end-requires
-    same-length
+    (λ c. search needs)
+    (λ c. search needs)
     returns)
