@@ -1,3 +1,4 @@
 pub mod NoTables
 pub mod TablesThere
 pub mod TabledSheets
+pub mod CountedIds

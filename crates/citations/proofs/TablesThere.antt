@@ -69,3 +69,7 @@ module _ (ts : Tables) (n : ℕ) (t : Text) where
       → known ts n t ≡ tagAmong (t .bytes) rs
   unfolding known
   known-there rs e d u = rw (e, d, u, tag-by-bytes t rs)
+
+  pub known-row : (rs : List Row) → table n ts ≡ some rs → tagAmong (t .bytes) rs ≡ true → known ts n t ≡ true
+  unfolding known
+  known-row rs e a = rw (e, tag-by-bytes t rs, a) (or-found (reserved t || false) true refl)

@@ -1,10 +1,14 @@
 // What a line cites, looked up in the table sheet: the tags of a node line, the editor and the origin of a sentence.
+mod ids;
+
 ghost use mathlib.Core.Path.{_≡_};
+ghost use mathlib.Core.Bool.{true};
 ghost use mathlib.Core.List.{List};
-ghost use Prim.Native.Nat.{ℕ, _≤_, _<_};
+ghost use Prim.Native.Nat.{ℕ, _+_, _≤_, _<_};
+ghost use lib.ListN.{length, take, drop};
 ghost use Rattle.rules.specs.Lists.{same};
 ghost use Rattle.rules.specs.Numbers.{originId};
-ghost use Rattle.rules.specs.Tables.{unknown, tagLimit, present, hasId, known};
+ghost use Rattle.rules.specs.Tables.{dashes, unknown, tagLimit, present, hasId, known};
 ghost use Rattle.rules.specs.Sentences.{knownEditor, knownOrigin};
 ghost use Rattle.rules.specs.Sheets.{tableCount};
 ghost use Rattle.table_sheet.specs.SheetRows.{tablesIn};
@@ -57,6 +61,44 @@ pub fn is_known(
     table_sheet::is_row(found)
 }
 
+// Told by the first byte as a rule: whether a tag has two bytes is harder to guess.
+fn is_dashes(file: &[u8], start: usize, len: usize) -> bool
+    requires { ⌜ (start < length (now file)) × (start + len ≤ length (now file)) ⌝ }
+    ensures { λ r. ⌜ (r ≡ true → same (take len (drop start (now (file .entry)))) dashes ≡ true) ⌝ }
+{
+    if file[start] != b'-' {
+        return false;
+    }
+    columns::is_twice(&file[start..start + len], b'-')
+}
+
+// Whether a tag is known, told at a glance; false says nothing. The tag is `len` bytes of the file. In the file's last
+// eight bytes it isn't looked for.
+pub fn is_surely_known(
+    file: &[u8],
+    sheet: &[u32],
+    hints: &[u8; table_sheet::HINTS],
+    table: usize,
+    start: usize,
+    len: usize,
+) -> bool
+    requires { ⌜ Tabled (now file) (now sheet) × (table < tableCount) × (start + len ≤ length (now file)) ⌝ }
+    ensures { λ r. ⌜ (r ≡ true → (at : ℕ) → known (tablesIn (now (file .entry)) (now (sheet .entry))) table (record { start = at; bytes = take len (drop start (now (file .entry))) }) ≡ true) ⌝ }
+{
+    if file.len() < start + 8 {
+        return false;
+    }
+    if is_dashes(file, start, len) {
+        return true;
+    }
+    let count = sheet[table] as usize;
+    if count == 0 {
+        return true;
+    }
+    let place = table_sheet::row_place(table, 0);
+    table_sheet::quick::has_tag(file, sheet, hints, table, place, count - 1, start, len)
+}
+
 pub fn is_present(sheet: &[u32], table: usize) -> bool
     requires { ⌜ Counted (now sheet) × (table < tableCount) ⌝ }
     ensures { λ r. ⌜ ((file : List ℕ) → r ≡ present table (tablesIn file (now (sheet .entry)))) ⌝ }
@@ -73,6 +115,9 @@ fn has_row(sheet: &[u32], table: usize, id1: u32) -> bool
         return false;
     }
     let place = table_sheet::row_place(table, 0);
+    if ids::counts_up_to(sheet, place, count - 1, id1) {
+        return true;
+    }
     let row = table_sheet::find_id(sheet, place, count - 1, id1);
     table_sheet::is_row(row)
 }

@@ -4,3 +4,4 @@ pub mod Granted
 pub mod Counts
 pub mod SameTaking
 pub mod KeptOn
+pub mod PlainTakings

@@ -1,2 +1,4 @@
 pub mod States
 pub mod Judging
+pub mod PlainLines
+pub mod PlainStarts

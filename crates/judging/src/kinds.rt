@@ -5,7 +5,7 @@ ghost use Rattle.rules.specs.Bytes.{classTable};
 ghost use Rattle.rules.specs.Keywords.{hashAndDigits, startsRow, startsWord};
 use texts::same_text;
 
-const HASH: u8 = 35;
+pub const HASH: u8 = 35;
 
 // It begins with neither # nor white.
 pub fn starts_row(first: &[u8]) -> bool

@@ -1,5 +1,6 @@
 // What a line is taken for, where it stands: by its first column each kind of line has its judge.
 pub mod kinds;
+pub mod plain;
 pub mod state;
 
 ghost use mathlib.Core.Path.{_≡_};

@@ -11,6 +11,7 @@ ghost use Rattle.lines.specs.NextLines.{lineEndOf, ListedBy};
 use at_once::AtOnce;
 use at_once::read_at_once;
 use columns::listing::Line;
+use columns::listing::ORDINARY;
 use columns::listing::Places;
 use columns::listing::read_line;
 
@@ -74,8 +75,8 @@ fn read_twice(file: &[u8], from: usize, classes: &[u8; 256], places: &mut Places
     }
 }
 
-// The columns of a line that may be read are listed in `places`. The lines of words and phrases, nearly all of a file, are
-// first tried in one pass.
+// The columns of a line that may be read are listed in `places`. Ordinary lines of words and phrases, nearly all of a file, are
+// listed in one pass; the reader walks all others.
 pub fn next_line(
     file: &[u8],
     from: usize,
@@ -91,7 +92,9 @@ pub fn next_line(
     }
     let once = read_at_once(file, from, classes, places);
     if let AtOnce::Line(line) = once {
-        return NextLine::Line(line);
+        if line.columns == ORDINARY {
+            return NextLine::Line(line);
+        }
     }
     read_twice(file, from, classes, places)
 }

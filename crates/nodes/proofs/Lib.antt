@@ -3,3 +3,5 @@ pub mod PairWalks
 pub mod RisingRules
 pub mod Judgements
 pub mod NodeSteps
+pub mod PlainColumns
+pub mod PlainLines

@@ -1,1 +1,3 @@
 pub mod NodeLines
+pub mod PlainFields
+pub mod PlainNodes

@@ -2,6 +2,7 @@
 mod fields;
 mod groups;
 mod pairs;
+pub mod plain;
 
 ghost use mathlib.Core.Path.{_≡_};
 ghost use mathlib.Core.Bool.{not, _&&_};
@@ -55,7 +56,7 @@ fn count_pairs(count: usize) -> u32
 }
 
 // How many words a sentence may have, and how many secondary edges.
-const WORD_LIMIT: u32 = 500;
+pub const WORD_LIMIT: u32 = 500;
 
 const EDGE_LIMIT: u32 = 512;
 

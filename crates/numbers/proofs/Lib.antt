@@ -4,3 +4,4 @@ pub mod Walk
 pub mod Told
 pub mod Signed
 pub mod Ranges
+pub mod ThreeDigits

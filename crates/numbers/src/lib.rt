@@ -1,5 +1,7 @@
 // Numbers as columns write them: decimal, without plus or leading zeros; the only negative is -1. The limits belong to
 // the kind of number they bound.
+pub mod quick;
+
 ghost use mathlib.Core.Path.{_≡_};
 ghost use Rattle.rules.specs.Lists.{same, bytes};
 ghost use Rattle.rules.specs.Bytes.{classTable};

@@ -24,10 +24,6 @@ use Rattle.reading.specs.declared.Read.{Read}
 abbrev pub reachedAt : State → ℕ → ℕ → Reached
 reachedAt s n place = record { state = s; fault = record { number = n; place = place } }
 
--- a line's fault is told at the line's first byte
-abbrev pub faultAt : ℕ → Fault → Fault
-faultAt start f = record { number = f .number; place = start }
-
 abbrev pub faultSaid : rules.Fault → Fault
 faultSaid f = record { number = f .number; place = f .place }
 

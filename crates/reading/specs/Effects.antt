@@ -11,9 +11,13 @@ use Rattle.rules.specs.Numbers.{fileLimit, rowLimit}
 use Rattle.rules.specs.Sheets.{tableCount, rowPlace, tableSheetSize}
 use Rattle.seen.specs.Bits.{bitAt, withBit}
 use Rattle.columns.specs.Splices.{splice}
+use Rattle.columns.specs.declared.listing.Span.{Span}
+use Rattle.steps.specs.declared.NodeSaid.{NodeSaid}
 use Rattle.steps.specs.declared.RowSaid.{RowSaid}
 use Rattle.steps.specs.declared.Step.{Step}
 use Rattle.steps.specs.declared.Step.the-variants.{Ignored, Format, TableBegins, Row, TableEnds, SentenceBegins, Word, Phrase, SentenceEnds, Refused}
+use Rattle.judging.specs.declared.plain.Plain.{Plain}
+use Rattle.judging.specs.declared.plain.Plain.the-variants as plain
 use Rattle.judging.specs.States.{firstTally, tableOpen, rowsOpen, tallyIn, countedWord, countedPhrase, moved}
 use Rattle.judging.specs.declared.state.Tally.{Tally}
 use Rattle.judging.specs.declared.state.Phase.the-variants.{Top, InTable, InSentence, Behind}
@@ -86,6 +90,32 @@ effect from (Refused f) at end k = k
 -- the list of beginnings behind a step, whatever else is kept
 abbrev pub notedBy : ℕ → Step → State → List ℕ → List ℕ
 notedBy from step s begins = effect from step 0 0 (kept s [] [] [] begins) .begins
+
+-- ---- an ordinary line, that was not judged
+
+abbrev nowhere : Span
+nowhere = record { start = 0; len = 0 }
+
+-- its node without the texts, of which a reading keeps nothing
+abbrev pub bareNode : ℕ → ℕ → NodeSaid
+bareNode its-number its-parent =
+    record {
+      word = nowhere;
+      tag = nowhere;
+      morphology = nowhere;
+      edge = nowhere;
+      comment = nowhere;
+      number = its-number;
+      parent = its-parent;
+      edges = 0;
+      highest = its-parent;
+    }
+
+-- a line that is left to the judge does nothing yet
+abbrev pub plainStep : Plain → Step
+plainStep (plain.Word its-parent) = Word (bareNode 0 its-parent)
+plainStep (plain.Phrase its-number its-parent) = Phrase (bareNode its-number its-parent)
+plainStep plain.Other = Ignored
 
 -- ---- what a step needs; size is the file's length
 

@@ -5,10 +5,12 @@ ghost use Prim.Native.Nat.{ℕ, _+_, _-_, _≤_};
 ghost use lib.ListN.{length, set};
 ghost use Rattle.rules.specs.Numbers.{fileLimit};
 ghost use Rattle.judging.specs.States.{tallyIn};
-ghost use Rattle.reading.specs.Effects.{kept, formatRead, handedOut, noted, effect, notedBy, Applicable};
+ghost use Rattle.reading.specs.Effects.{kept, formatRead, handedOut, noted, effect, notedBy, bareNode, plainStep, Applicable};
 use crate::rows::end_table;
 use crate::rows::take_row;
 use columns::listing::Line;
+use columns::listing::Span;
+use judging::plain::Plain;
 use judging::state::MARKS;
 use judging::state::Phase;
 use judging::state::State;
@@ -18,6 +20,7 @@ use judging::state::moved;
 use judging::state::tally_in;
 use judging::state::with_phrase;
 use judging::state::with_word;
+use steps::NodeSaid;
 use steps::Step;
 
 fn format_read(s: State, format: u32) -> State
@@ -75,6 +78,44 @@ fn mark(number: u32, stamp: u32, marks: &mut [u32; MARKS])
 {
     let place = (number - 500) as usize;
     marks[place] = stamp;
+}
+
+// A node without its texts.
+fn bare_node(number: u32, parent: u32) -> NodeSaid
+    ensures { λ r. ⌜ r ≡ bareNode number parent ⌝ }
+{
+    let nowhere = Span { start: 0, len: 0 };
+    NodeSaid {
+        word: nowhere,
+        tag: nowhere,
+        morphology: nowhere,
+        edge: nowhere,
+        comment: nowhere,
+        number,
+        parent,
+        edges: 0,
+        highest: parent,
+    }
+}
+
+// An ordinary line, that was not judged.
+pub fn take_plain(plain: Plain, s: State, marks: &mut [u32; MARKS]) -> State
+    requires { ⌜ Applicable (plainStep plain) 0 (kept s [] [] (now marks) []) ⌝ }
+    ensures { λ r. ⌜ ((from at end : ℕ) (sheet seen begins : List ℕ) → kept r sheet seen (now (marks .exit)) begins ≡ effect from (plainStep plain) at end (kept s sheet seen (now (marks .entry)) begins)) ⌝ }
+{
+    let phase = s.phase;
+    match plain {
+        Plain::Word(parent) => {
+            let tally = with_word(tally_in(phase), bare_node(0, parent));
+            moved(s, Phase::InSentence(tally))
+        }
+        Plain::Phrase(number, parent) => {
+            mark(number, s.handed + 1, marks);
+            let tally = with_phrase(tally_in(phase), bare_node(number, parent));
+            moved(s, Phase::InSentence(tally))
+        }
+        Plain::Other => s,
+    }
 }
 
 // All but the beginnings.

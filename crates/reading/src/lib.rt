@@ -13,9 +13,12 @@ ghost use Rattle.rules.specs.Tables.{noTables};
 ghost use Rattle.rules.specs.Sheets.{tableSheetSize, tableSheet, seenSetSize, seenSet};
 ghost use Rattle.rules.specs.Reading.{begin, read};
 ghost use Rattle.rules.specs.Index.{beginnings};
-ghost use Rattle.reading.specs.Closing.{reachedAt, faultAt, Walked, FileRead};
+ghost use Rattle.reading.specs.Closing.{reachedAt, Walked, FileRead};
 use effect::apply;
 use effect::note_end;
+use effect::take_plain;
+use judging::plain::Plain;
+use judging::plain::plain_line;
 use judging::state;
 use judging::state::State;
 use lines::NextLine;
@@ -49,17 +52,8 @@ fn stop_at(state: State, number: u32, place: u32) -> Reached
     }
 }
 
-// Where a line's fault is told: at the line's first byte.
-fn fault_at(start: u32, fault: Fault) -> Fault
-    ensures { λ r. ⌜ r ≡ faultAt start fault ⌝ }
-{
-    Fault {
-        number: fault.number,
-        place: start,
-    }
-}
-
-// The lines are taken one after the other, up to the file's end or to the first that is refused.
+// The lines are taken one after the other, up to the file's end or to the first that is refused. Ordinary lines go a quick
+// way, the others are judged.
 fn take_lines(
     file: &[u8],
     sheet: &mut [u32],
@@ -78,15 +72,19 @@ fn take_lines(
     let mut at = 0;
     while at < file.len() {
         let phase = s.phase;
-        let of_node = state::expects_nodes(phase);
-        let found = lines::next_line(file, at, of_node, classes, &mut places);
+        let found = lines::next_line(file, at, state::expects_nodes(phase), classes, &mut places);
         let NextLine::Line(line) = found else {
             return stop_at(s, line_refusal(found), at as u32);
         };
+        let plain = plain_line(file, line, &places, s, sheet, &hints, &marks);
+        let Plain::Other = plain else {
+            s = take_plain(plain, s, &mut marks);
+            at = line.end + 1;
+            continue;
+        };
         let step = judging::judge(file, line, &places, s, sheet, &hints, seen, &marks, classes);
         if let Step::Refused(fault) = step {
-            let fault = fault_at(at as u32, fault);
-            return Reached { state: s, fault };
+            return stop_at(s, fault.number, at as u32);
         }
         note_end(step, s, from, begins);
         s = apply(step, line, s, file, sheet, seen, &mut marks, &mut hints);

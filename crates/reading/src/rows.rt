@@ -14,7 +14,7 @@ use judging::state::rows_in;
 use judging::state::table_in;
 use steps::RowSaid;
 
-// A row's numbers go into the sheet, and its tag is hinted at.
+// A row's numbers go into the sheet, its tag is hinted at, and it takes its place in the table's order.
 fn put_row(
     row: RowSaid,
     table: usize,
@@ -39,7 +39,8 @@ fn put_row(
     table_sheet::put(sheet, table_sheet::row_place(table, rows), &six);
     let start = first.start as usize;
     let end = start + first.len as usize;
-    table_sheet::keep_hint(hints, table, &file[start..end], rows as u8);
+    let tag = &file[start..end];
+    table_sheet::order::note_row(hints, file, sheet, table, rows, tag);
 }
 
 pub fn take_row(

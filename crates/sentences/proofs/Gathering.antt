@@ -37,9 +37,9 @@ use Rattle.judging.specs.States.{tallyOf}
 use Rattle.judging.specs.Judging.{Countable}
 use Rattle.judging.specs.declared.state.Tally.{Tally}
 use Rattle.judging.proofs.Knowing.{SentenceKept, Telling}
-use Rattle.judging.proofs.Counts.{none-marked, fresh-marks}
+use Rattle.judging.proofs.Counts.{fresh-marks}
 use Rattle.judging.proofs.KeptOn.{kept-begun}
-use Rattle.sentences.specs.Keeping.{Stored, stored}
+use Rattle.sentences.specs.Keeping.{MarkedUpTo, Stored, stored}
 use Rattle.sentences.specs.Beginnings.{begunAt, FoundHeading, openedIf, openedBy, openedAt, Headed}
 use Rattle.sentences.specs.SentenceRead.{Gathered}
 use Rattle.sentences.proofs.NodeTakings.{bare}
@@ -48,14 +48,15 @@ use Rattle.sentences.proofs.NodeTakings.{bare}
 abbrev pub readingAt : ℕ → Sentence → Reading
 readingAt at s = record { at = at; lineStart = at; part = []; phase = inSentence bare s; handed = []; fault = none }
 
-pub record Gathering (file : List ℕ) (sought : Option Sentence) (at : ℕ) (k : Stored) : Type 0 where
+-- with the marks of so many sentences in front
+pub record Gathering (file : List ℕ) (sought : Option Sentence) (handed at : ℕ) (k : Stored) : Type 0 where
   pub sentence : Sentence
   pub in-file : at ≤ length file
   pub rest : firstHanded (read (readingAt at sentence) (drop at file) .handed) ≡ sought
   pub known : SentenceKept file [] noTables sentence
   pub above : (m : ℕ) → length (sentence .words) ≤ m → listed (sentence .words) m ≡ false
   pub phrases : length (sentence .phrases) ≤ at
-  pub telling : Telling (k .marks) 0 sentence
+  pub telling : Telling (k .marks) handed sentence
   pub marks-size : length (k .marks) ≡ 500
   pub tally-is : k .tally ≡ tallyOf sentence
   pub sheet-is : k .sheet ≡ openSentence (sentence .heading) (nodes sentence)
@@ -81,33 +82,32 @@ begun-on file place = by (endedLine (drop place file))
     by none = refl
     by (some l) = then (suc (place + length l)) (headingAlone (record { start = place; bytes = l }))
 
-pub gathering-start : (file : List ℕ) (place from : ℕ) (t : Tally) (sheet edges marks : List ℕ) → Headed file place from t (replicate sentenceSheetSize 0) sheet
-    → length sheet ≡ sentenceSheetSize → edges ≡ replicate (edgeLimit * edgeWidth) 0 → marks ≡ replicate 500 0
-    → Gathering file (begunAt file place) from (stored t sheet edges marks)
-gathering-start file place from t sheet edges marks h size zeros unmarked =
-    rw (unmarked)
-    (record {
+pub gathering-start : (file : List ℕ) (place from handed : ℕ) (t : Tally) (sheet edges marks : List ℕ) → Headed file place from t (replicate sentenceSheetSize 0) sheet
+    → length sheet ≡ sentenceSheetSize → edges ≡ replicate (edgeLimit * edgeWidth) 0 → MarkedUpTo handed marks
+    → Gathering file (begunAt file place) handed from (stored t sheet edges marks)
+gathering-start file place from handed t sheet edges marks h size zeros m =
+    record {
       sentence = begun place (h .heading);
       in-file = h .in-file;
       rest = sym (begun-on file place ∙ ap (goneOn file place) (h .opened));
       known = kept-begun file [] noTables place (h .heading) (record { fit = none-have-room; stand = none-stand file }) (h .number) refl;
       above = λ m l. refl;
       phrases = omega arith;
-      telling = record { stamped = λ i. omega (arith, none-marked 500 i); tell = fresh-marks (replicate 500 0) 0 (none-marked 500) };
-      marks-size = length-replicate {A = ℕ} 500 0;
+      telling = record { stamped = λ i. omega (arith, m .none-larger i); tell = fresh-marks marks handed (m .none-larger) };
+      marks-size = m .size;
       tally-is = h .tally-is;
       sheet-is = h .sheet-is ∙ sheet-begun (h .heading);
       sheet-size = size;
       edges-are = zeros ∙ sym flat-none;
       edges-size = ap length zeros ∙ length-replicate {A = ℕ} (edgeLimit * edgeWidth) 0;
-    })
+    }
 
 -- ---- no line can be taken
 
 pub none-gathered : {sought : Option Sentence} (sheet edges : List ℕ) → sought ≡ none → Gathered sought false sheet edges
 none-gathered sheet edges e = subst (λ (o : Option Sentence). Gathered o false sheet edges) (sym e) refl
 
-module _ (file : List ℕ) (sought : Option Sentence) (at : ℕ) (k : Stored) (g : Gathering file sought at k) where
+module _ (file : List ℕ) (sought : Option Sentence) (handed at : ℕ) (k : Stored) (g : Gathering file sought handed at k) where
   abbrev r : Reading
   r = readingAt at (g .sentence)
 
@@ -137,10 +137,13 @@ module _ (file : List ℕ) (sought : Option Sentence) (at : ℕ) (k : Stored) (g
 
   -- ---- a line is asked for, and the sentence's last line
 
-  pub countable : length file ≤ fileLimit → Countable (k .tally) 0
-  countable short =
+  pub marks-left : MarkedUpTo (handed + 1) (k .marks)
+  marks-left = record { size = g .marks-size; none-larger = λ i. omega (arith, g .telling .stamped i) }
+
+  pub countable : length file ≤ fileLimit → handed ≤ fileLimit → Countable (k .tally) handed
+  countable short few =
       rw (g .tally-is)
-      (record { edges = g .known .edges; phrases = omega (arith, g .phrases, g .in-file, short); stamp = omega arith })
+      (record { edges = g .known .edges; phrases = omega (arith, g .phrases, g .in-file, short); stamp = few })
 
   pub all-gathered : sought ≡ some (g .sentence) → (sheet : List ℕ)
       → sheet ≡ splice countsPlace (k .tally .words ∷ k .tally .phrases ∷ k .tally .edges ∷ []) (k .sheet) → Gathered sought true sheet (k .edges)

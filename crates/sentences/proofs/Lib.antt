@@ -2,6 +2,7 @@ pub mod PairEdges
 pub mod Growing
 pub mod NodeTakings
 pub mod Gathering
+pub mod StampedMarks
 pub mod Taking
 pub mod Turning
 pub mod FirstLines
@@ -9,3 +10,4 @@ pub mod OtherSteps
 pub mod Answers
 pub mod ListedLines
 pub mod Unused
+pub mod PlainTakings

@@ -39,13 +39,13 @@ bare = record { format = 3; tables = noTables }
 
 -- ---- the line is taken as the rules take it
 
-module _ (file marks : List ℕ) (s : Sentence) (k : SentenceKept file [] noTables s) (m : Telling marks 0 s) (line : Text) where
-  pub taken-same : takenBy line (tallyOf s) marks ≡ taken (inSentence bare s) [] line
+module _ (file marks : List ℕ) (handed : ℕ) (s : Sentence) (k : SentenceKept file [] noTables s) (m : Telling marks handed s) (line : Text) where
+  pub taken-same : takenBy line (tallyOf s) marks (handed + 1) ≡ taken (inSentence bare s) [] line
   unfolding takenBy judgedBy lineBy
   taken-same =
-      ap (λ (ts : Tables). pick (ignored (line .bytes)) (granted ignoredLine) (amongNodes line (firstColumn line) 3 ts (soFarBy (tallyOf s) marks 1)))
+      ap (λ (ts : Tables). pick (ignored (line .bytes)) (granted ignoredLine) (amongNodes line (firstColumn line) 3 ts (soFarBy (tallyOf s) marks (handed + 1))))
       (sym (tables-read file noTables none-have-room (none-stand file)))
-      ∙ same-taking file [] 0 0 marks line (inSentence bare s) k m
+      ∙ same-taking file [] handed 0 marks line (inSentence bare s) k m
 
 -- ---- what it can be taken for
 

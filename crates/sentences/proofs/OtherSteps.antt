@@ -23,30 +23,30 @@ use Rattle.judging.specs.Judging.{soFarBy}
 use Rattle.judging.specs.declared.state.Tally.{Tally}
 use Rattle.sentences.specs.Keeping.{takenBy, Stored, storedBy}
 
-module _ (file : List ℕ) (line : Text) (t : Tally) (marks : List ℕ) where
-  pub taken-ignored : ignored (line .bytes) ≡ true → Ignored ≡ stepOf (takenBy line t marks)
+module _ (file : List ℕ) (line : Text) (t : Tally) (marks : List ℕ) (stamp : ℕ) where
+  pub taken-ignored : ignored (line .bytes) ≡ true → Ignored ≡ stepOf (takenBy line t marks stamp)
   unfolding takenBy
   taken-ignored e = rw e
 
   -- y is the step that the judge of a sentence's lines answered, who was lent seven zeros
-  pub judged-node : ignored (line .bytes) ≡ false → {y : Step} → y ≡ stepOf (amongNodes line (firstColumn line) 3 (tablesIn file (replicate tableCount 0)) (soFarBy t marks 1))
-      → y ≡ stepOf (takenBy line t marks)
+  pub judged-node : ignored (line .bytes) ≡ false → {y : Step} → y ≡ stepOf (amongNodes line (firstColumn line) 3 (tablesIn file (replicate tableCount 0)) (soFarBy t marks stamp))
+      → y ≡ stepOf (takenBy line t marks stamp)
   unfolding takenBy
-  judged-node e w = rw e (w ∙ ap (λ (ts : Tables). stepOf (amongNodes line (firstColumn line) 3 ts (soFarBy t marks 1))) (no-tables file .1))
+  judged-node e w = rw e (w ∙ ap (λ (ts : Tables). stepOf (amongNodes line (firstColumn line) 3 ts (soFarBy t marks stamp))) (no-tables file .1))
 
 -- a step that gives no node leaves what is kept
 abbrev others : List ℕ
 others = 0 ∷ 1 ∷ 2 ∷ 3 ∷ 4 ∷ 5 ∷ 8 ∷ 9 ∷ []
 
-pub others-keep : (fs : List Text) (x : Step) (k : Stored) → OneOf others (tagOf the-type x) → k ≡ storedBy fs x k
+pub others-keep : (stamp : ℕ) (fs : List Text) (x : Step) (k : Stored) → OneOf others (tagOf the-type x) → k ≡ storedBy stamp fs x k
 unfolding storedBy
-others-keep fs Ignored k o = refl
-others-keep fs (Format n) k o = refl
-others-keep fs (TableBegins n) k o = refl
-others-keep fs (Row r) k o = refl
-others-keep fs TableEnds k o = refl
-others-keep fs (SentenceBegins h) k o = refl
-others-keep fs (Word n) k o = absurd (not-among 6 others refl o)
-others-keep fs (Phrase n) k o = absurd (not-among 7 others refl o)
-others-keep fs SentenceEnds k o = refl
-others-keep fs (Refused f) k o = refl
+others-keep stamp fs Ignored k o = refl
+others-keep stamp fs (Format n) k o = refl
+others-keep stamp fs (TableBegins n) k o = refl
+others-keep stamp fs (Row r) k o = refl
+others-keep stamp fs TableEnds k o = refl
+others-keep stamp fs (SentenceBegins h) k o = refl
+others-keep stamp fs (Word n) k o = absurd (not-among 6 others refl o)
+others-keep stamp fs (Phrase n) k o = absurd (not-among 7 others refl o)
+others-keep stamp fs SentenceEnds k o = refl
+others-keep stamp fs (Refused f) k o = refl

@@ -1,12 +1,13 @@
 -- A line behind the heading of a sentence, and what it makes of the sentence: the reading goes on with what the line is taken
 -- for, and what is kept goes on with it.
 use Prim.Native.Nat.{ℕ, suc, _+_, _-_, _*_, _≤_, _<_}
+use native.Mathlib.Numerals.{add-one}
 use native.Mathlib.Omega.{arith}
 use mathlib.Core.Path.{_≡_, refl, sym, ap, ap₂, _∙_, subst}
 use mathlib.Core.Bool.{true, false}
 use mathlib.Core.Option.{Option, none, some}
 use mathlib.Core.List.{List, [], _∷_, _++_, map}
-use lib.ListN.{length, drop, length-set}
+use lib.ListN.{length, drop, set, length-set}
 use borrow.Author.Tests.{ne-eqb}
 use Rattle.rules.specs.Lists.{empty, joined}
 use Rattle.rules.specs.Texts.{Text}
@@ -51,15 +52,15 @@ none-listed [] m e = refl
 none-listed (p ∷ ps) m e = cc
 
 -- what is known where a line is listed
-pub record LineHere (file : List ℕ) (sought : Option Sentence) (at : ℕ) (k : Stored) (e : ℕ) (l : Line) (places : List ℕ) : Type 0 where
-  pub going : Gathering file sought at k
+pub record LineHere (file : List ℕ) (sought : Option Sentence) (handed at : ℕ) (k : Stored) (e : ℕ) (l : Line) (places : List ℕ) : Type 0 where
+  pub going : Gathering file sought handed at k
   pub short : length file ≤ fileLimit
   pub ends : lineEnd file at ≡ At e
   pub is : listing.lineOf file l ≡ listing.textBetween file at e
   pub listed : listing.Listed file l places
 
-module _ {file : List ℕ} {sought : Option Sentence} {at : ℕ} {k : Stored} {e : ℕ} {l : Line} {places : List ℕ} (t : LineHere file sought at k e l places) where
-  abbrev g : Gathering file sought at k
+module _ {file : List ℕ} {sought : Option Sentence} {handed at : ℕ} {k : Stored} {e : ℕ} {l : Line} {places : List ℕ} (t : LineHere file sought handed at k e l places) where
+  abbrev g : Gathering file sought handed at k
   g = t .going
 
   abbrev s : Sentence
@@ -108,7 +109,7 @@ module _ {file : List ℕ} {sought : Option Sentence} {at : ℕ} {k : Stored} {e
 
   -- or the line is refused
   pub refused-here : (b : Rule) → taken ph [] line ≡ refused b → sought ≡ none
-  refused-here b h = none-refused file sought at k g bytesHere later b (answered (refused b) h)
+  refused-here b h = none-refused file sought handed at k g bytesHere later b (answered (refused b) h)
 
   inside : e + 1 ≤ length file
   inside = omega (arith, at-below file at e (t .ends))
@@ -116,7 +117,7 @@ module _ {file : List ℕ} {sought : Option Sentence} {at : ℕ} {k : Stored} {e
   abbrev fs : List Text
   fs = fieldsOf file l
 
-  pub ignored-on : taken ph [] line ≡ granted ignoredLine → Gathering file sought (e + 1) k
+  pub ignored-on : taken ph [] line ≡ granted ignoredLine → Gathering file sought handed (e + 1) k
   unfolding after
   ignored-on h =
       record {
@@ -178,7 +179,7 @@ module _ {file : List ℕ} {sought : Option Sentence} {at : ℕ} {k : Stored} {e
     new-word : listed (nodes s) (n .number) ≡ false
     new-word = listed-apart (s .words) (s .phrases) (n .number) (g .above (n .number) (omega (arith, its-number))) (none-listed (s .phrases) (n .number) words-first)
 
-    pub word-on : (k′ : Stored) → k′ ≡ storedBy fs y k → length (k′ .sheet) ≡ length (k .sheet) → length (k′ .edges) ≡ length (k .edges) → Gathering file sought (e + 1) k′
+    pub word-on : (k′ : Stored) → k′ ≡ storedBy (handed + 1) fs y k → length (k′ .sheet) ≡ length (k .sheet) → length (k′ .edges) ≡ length (k .edges) → Gathering file sought handed (e + 1) k′
     unfolding storedBy after
     word-on k′ is a b =
         record {
@@ -188,7 +189,7 @@ module _ {file : List ℕ} {sought : Option Sentence} {at : ℕ} {k : Stored} {e
           known = kept-with-word file [] 3 noTables s (g .known) (listing.lineOf file l) n granted-so;
           above = above⁺;
           phrases = omega (arith, g .phrases, behind);
-          telling = subst (λ (ms : List ℕ). Telling ms 0 (withWord s n)) (sym (ap (λ (z : Stored). z .marks) is)) (record { stamped = g .telling .stamped; tell = g .telling .tell });
+          telling = subst (λ (ms : List ℕ). Telling ms handed (withWord s n)) (sym (ap (λ (z : Stored). z .marks) is)) (record { stamped = g .telling .stamped; tell = g .telling .tell });
           marks-size = ap (λ (z : Stored). length (z .marks)) is ∙ g .marks-size;
           tally-is =
               ap (λ (z : Stored). z .tally) is ∙ ap (λ (y : Tally). states.countedWord y (nodeSaid n)) (g .tally-is) ∙ tally-with-word s n words-first;
@@ -219,7 +220,7 @@ module _ {file : List ℕ} {sought : Option Sentence} {at : ℕ} {k : Stored} {e
     new-phrase : listed (nodes s) (n .number) ≡ false
     new-phrase = listed-apart (s .words) (s .phrases) (n .number) (g .above (n .number) (omega (arith, told .low, g .known .words))) (told .new)
 
-    pub phrase-on : (k′ : Stored) → k′ ≡ storedBy fs z k → length (k′ .sheet) ≡ length (k .sheet) → length (k′ .edges) ≡ length (k .edges) → Gathering file sought (e + 1) k′
+    pub phrase-on : (k′ : Stored) → k′ ≡ storedBy (handed + 1) fs z k → length (k′ .sheet) ≡ length (k .sheet) → length (k′ .edges) ≡ length (k .edges) → Gathering file sought handed (e + 1) k′
     unfolding storedBy after
     phrase-on k′ is a b =
         record {
@@ -230,9 +231,9 @@ module _ {file : List ℕ} {sought : Option Sentence} {at : ℕ} {k : Stored} {e
           above = g .above;
           phrases = omega (arith, g .phrases, behind, one-more (s .phrases) n);
           telling =
-              subst (λ (ms : List ℕ). Telling ms 0 (withPhrase s n)) (sym (ap (λ (z : Stored). z .marks) is))
-              (telling-more (k .marks) 0 s (g .telling) n (told .low) (omega (arith, told .high, g .marks-size)));
-          marks-size = ap (λ (z : Stored). length (z .marks)) is ∙ length-set (k .marks) (n .number - 500) 1 ∙ g .marks-size;
+              subst (λ (ms : List ℕ). Telling ms handed (withPhrase s n)) (sym (ap (λ (z : Stored). z .marks) is ∙ ap (set (k .marks) (n .number - 500)) (add-one handed)))
+              (telling-more (k .marks) handed s (g .telling) n (told .low) (omega (arith, told .high, g .marks-size)));
+          marks-size = ap (λ (z : Stored). length (z .marks)) is ∙ length-set (k .marks) (n .number - 500) (handed + 1) ∙ g .marks-size;
           tally-is =
               ap (λ (z : Stored). z .tally) is ∙ ap (λ (y : Tally). states.countedPhrase y (nodeSaid n)) (g .tally-is) ∙ tally-with-phrase s n (told .low);
           sheet-is =

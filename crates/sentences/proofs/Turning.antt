@@ -30,8 +30,8 @@ use Rattle.sentences.proofs.NodeTakings.{bare, taken-same, Taken, node-
 use Rattle.sentences.proofs.Gathering.{Gathering}
 use Rattle.sentences.proofs.Taking.{LineHere, refused-here, found-here, ignored-on, word-applies, word-on, phrase-applies, phrase-on}
 
-module _ {file : List ℕ} {sought : Option Sentence} {at : ℕ} {k : Stored} {e : ℕ} {l : Line} {places : List ℕ} (t : LineHere file sought at k e l places) where
-  abbrev g : Gathering file sought at k
+module _ {file : List ℕ} {sought : Option Sentence} {handed at : ℕ} {k : Stored} {e : ℕ} {l : Line} {places : List ℕ} (t : LineHere file sought handed at k e l places) where
+  abbrev g : Gathering file sought handed at k
   g = t .going
 
   abbrev s : Sentence
@@ -51,7 +51,7 @@ module _ {file : List ℕ} {sought : Option Sentence} {at : ℕ} {k : Stored} {e
   abbrev Goes : Step → Type 0
   Goes y =
       Storable file l places y k
-      × ((k′ : Stored) → k′ ≡ storedBy fs y k → length (k′ .sheet) ≡ length (k .sheet) → length (k′ .edges) ≡ length (k .edges) → Gathering file sought (e + 1) k′)
+      × ((k′ : Stored) → k′ ≡ storedBy (handed + 1) fs y k → length (k′ .sheet) ≡ length (k .sheet) → length (k′ .edges) ≡ length (k .edges) → Gathering file sought handed (e + 1) k′)
 
   abbrev Turned : Step → Type 0
   Turned steps.Ignored = Goes steps.Ignored
@@ -68,7 +68,7 @@ module _ {file : List ℕ} {sought : Option Sentence} {at : ℕ} {k : Stored} {e
   by-verdict : (v : Verdict Taking) → taken ph [] line ≡ v → Taken s line v → Turned (stepOf v)
   unfolding storedBy
   by-verdict (refused b) h w = refused-here t b h
-  by-verdict (granted ignoredLine) h w = (tt, λ k′ is a b. subst (Gathering file sought (e + 1)) (sym is) (ignored-on t h))
+  by-verdict (granted ignoredLine) h w = (tt, λ k′ is a b. subst (Gathering file sought handed (e + 1)) (sym is) (ignored-on t h))
   by-verdict (granted (formatLine n)) h w = w
   by-verdict (granted (tableBegins n)) h w = w
   by-verdict (granted (rowLine r)) h w = w
@@ -84,12 +84,12 @@ module _ {file : List ℕ} {sought : Option Sentence} {at : ℕ} {k : Stored} {e
 
   -- ---- as the code has it: y is the step that the judge answered
 
-  module _ (y : Step) (is : y ≡ stepOf (takenBy (listing.lineOf file l) (k .tally) (k .marks))) where
+  module _ (y : Step) (is : y ≡ stepOf (takenBy (listing.lineOf file l) (k .tally) (k .marks) (handed + 1))) where
     step-is : y ≡ stepOf (taken ph [] line)
     step-is =
         is
-        ∙ ap (λ (c : Tally). stepOf (takenBy (listing.lineOf file l) c (k .marks))) (g .tally-is)
-        ∙ ap stepOf (taken-same file (k .marks) s (g .known) (g .telling) (listing.lineOf file l))
+        ∙ ap (λ (c : Tally). stepOf (takenBy (listing.lineOf file l) c (k .marks) (handed + 1))) (g .tally-is)
+        ∙ ap stepOf (taken-same file (k .marks) handed s (g .known) (g .telling) (listing.lineOf file l))
         ∙ ap (λ (x : Text). stepOf (taken ph [] x)) (t .is)
 
     turned : Turned y

@@ -3,7 +3,7 @@
 use Prim.Native.Nat.{ℕ, _+_, _-_, _*_, _≤_, _<_}
 use mathlib.Core.Path.{_≡_}
 use mathlib.Core.List.{List}
-use lib.ListN.{length, set}
+use lib.ListN.{length, getD, set}
 use Rattle.rules.specs.Lists.{pick, joined}
 use Rattle.rules.specs.Bytes.{ignored}
 use Rattle.rules.specs.Texts.{Text}
@@ -27,10 +27,15 @@ use Rattle.judging.specs.Judging.{soFarBy}
 use Rattle.judging.specs.declared.state.Tally.{Tally}
 use Rattle.sentences.specs.LineEdges.{pairEdges}
 
--- there are no tables, and the stamp of the phrases' marks is 1: no sentence is handed out in front
-unfoldable pub takenBy : Text → Tally → List ℕ → Verdict Taking
-takenBy line t marks =
-    pick (ignored (line .bytes)) (granted ignoredLine) (amongNodes line (firstColumn line) 3 noTables (soFarBy t marks 1))
+-- a mark for each phrase number, none larger than so much
+pub record MarkedUpTo (most : ℕ) (marks : List ℕ) : Type 0 where
+  pub size : length marks ≡ 500
+  pub none-larger : (k : ℕ) → getD marks k 0 ≤ most
+
+-- there are no tables; the phrases of the sentence are marked with its stamp
+unfoldable pub takenBy : Text → Tally → List ℕ → ℕ → Verdict Taking
+takenBy line t marks stamp =
+    pick (ignored (line .bytes)) (granted ignoredLine) (amongNodes line (firstColumn line) 3 noTables (soFarBy t marks stamp))
 
 -- the counts, the sentence sheet, the flat list of secondary edges, the marks of the phrases
 pub record Stored : Type 0 where
@@ -67,19 +72,19 @@ withRecord n sheet = splice (fieldPlace 0 (n .number)) (recordNumbers (recordSai
 abbrev pub withEdges : List Text → NodeSaid → Tally → List ℕ → List ℕ
 withEdges fs n t edges = splice (edgeWidth * t .edges) (joined (pairEdges fs (n .number) 5)) edges
 
-unfoldable pub storedBy : List Text → Step → Stored → Stored
-storedBy fs Ignored k = k
-storedBy fs (Format n) k = k
-storedBy fs (TableBegins n) k = k
-storedBy fs (Row r) k = k
-storedBy fs TableEnds k = k
-storedBy fs (SentenceBegins h) k = k
-storedBy fs (Word n) k =
+unfoldable pub storedBy : ℕ → List Text → Step → Stored → Stored
+storedBy stamp fs Ignored k = k
+storedBy stamp fs (Format n) k = k
+storedBy stamp fs (TableBegins n) k = k
+storedBy stamp fs (Row r) k = k
+storedBy stamp fs TableEnds k = k
+storedBy stamp fs (SentenceBegins h) k = k
+storedBy stamp fs (Word n) k =
     stored (countedWord (k .tally) n) (withRecord n (k .sheet)) (withEdges fs n (k .tally) (k .edges)) (k .marks)
-storedBy fs (Phrase n) k =
-    stored (countedPhrase (k .tally) n) (withRecord n (k .sheet)) (withEdges fs n (k .tally) (k .edges)) (set (k .marks) (n .number - 500) 1)
-storedBy fs SentenceEnds k = k
-storedBy fs (Refused f) k = k
+storedBy stamp fs (Phrase n) k =
+    stored (countedPhrase (k .tally) n) (withRecord n (k .sheet)) (withEdges fs n (k .tally) (k .edges)) (set (k .marks) (n .number - 500) stamp)
+storedBy stamp fs SentenceEnds k = k
+storedBy stamp fs (Refused f) k = k
 
 -- ---- what a step needs
 

@@ -1,6 +1,6 @@
 -- A look-up along the rows of a sheet: hit, miss and end. What an answer tells of the rows, and that it is the only one
 -- where the tags differ.
-use mathlib.Core.Path.{_≡_, refl, sym, ap, _∙_}
+use mathlib.Core.Path.{_≡_, refl, sym, ap, ap₂, _∙_}
 use mathlib.Core.Bool.{Bool, true, false, _||_, false≢true}
 use mathlib.Core.List.{List, [], _∷_}
 use Prim.Native.Nat.{ℕ, zero, suc, _+_, _-_, _*_, _≤_, _<_}
@@ -9,7 +9,7 @@ use native.Mathlib.Nat.{not-suc-le-zero, le-of-suc-le-suc}
 use native.Mathlib.Omega.{arith}
 use borrow.Author.Tests.{eq-eqb, ne-eqb}
 use lib.Dec.{eqb}
-use lib.ListN.{length, getD}
+use lib.ListN.{length, getD, take, drop}
 use Rattle.rules.specs.Lists.{pick, any, same}
 use Rattle.rules.specs.Texts.{Text}
 use Rattle.rules.specs.Tables.{Row, hasId, hasTag}
@@ -106,6 +106,16 @@ module _ (tag : List ℕ) where
   one-row rs d (found.Row j) found.Missing f g = absurd (false≢true (sym g ∙ among-at rs j (f .0) (f .1)))
   one-row rs d found.Missing (found.Row k) f g = absurd (false≢true (sym f ∙ among-at rs k (g .0) (g .1)))
   one-row rs d found.Missing found.Missing f g = refl
+
+-- a tag that is some bytes of the file: one row with as many bytes that are the same will do
+pub tag-among : (file sheet : List ℕ) (at k rows start first len : ℕ) → k < rows
+    → len ≡ getD sheet (at + rowWidth * k + 2) 0 → first ≡ getD sheet (at + rowWidth * k + 1) 0
+    → take len (drop start file) ≡ take len (drop first file)
+    → tagAmong (take len (drop start file)) (rowsFrom file sheet at rows) ≡ true
+tag-among file sheet at k rows start first len h sized begun e =
+    let tag = take len (drop start file) in
+    let alike : tag ≡ rowAt file sheet (at + rowWidth * k) .first .bytes = e ∙ ap₂ (λ (n p : ℕ). take n (drop p file)) sized begun in
+    sym (tag-found tag (rowsFrom file sheet at rows) (found.Row k) (tag-hit tag file sheet at k rows h (eq-same tag _ alike)))
 
 -- a tag is looked up by its bytes alone
 pub tag-by-bytes : (t : Text) (rs : List Row) → hasTag t rs ≡ tagAmong (t .bytes) rs

@@ -1,5 +1,7 @@
 // The table sheet: its rows are looked up, stored and cleared.
 mod hints;
+pub mod order;
+pub mod quick;
 
 ghost use mathlib.Core.Path.{_≡_};
 ghost use mathlib.Core.List.{List};
@@ -39,8 +41,8 @@ pub const TABLE_ROOM: usize = ROW_LIMIT * ROW_WIDTH;
 
 pub const SIZE: usize = TABLE_COUNT + TABLE_ROOM * TABLE_COUNT;
 
-// How many guesses of a tag's row are kept.
-pub const HINTS: usize = hints::FOR_TABLE * TABLE_COUNT;
+// How many guesses of a tag's row are kept: the hints of the seven tables, then their orders.
+pub const HINTS: usize = (hints::FOR_TABLE + order::FOR_TABLE) * TABLE_COUNT;
 
 pub fn row_place(table: usize, row: usize) -> usize
     requires { ⌜ (table < tableCount) × (row ≤ rowLimit) ⌝ }
@@ -94,6 +96,7 @@ fn tag_at(file: &[u8], sheet: &[u32], place: usize, tag: &[u8]) -> bool
     texts::same_text(tag, &file[start..start + len])
 }
 
+// One of the rows from a place on whose first text is this tag.
 pub fn seek_tag(file: &[u8], sheet: &[u32], place: usize, rows: usize, tag: &[u8]) -> Found
     requires { ⌜ (place + rowWidth * rows ≤ length (now sheet)) × Inside (now file) (now sheet) place rows ⌝ }
     ensures { λ r. ⌜ TagFound (now (tag .entry)) (rowsFrom (now (file .entry)) (now (sheet .entry)) place rows) r ⌝ }
@@ -110,7 +113,29 @@ pub fn seek_tag(file: &[u8], sheet: &[u32], place: usize, rows: usize, tag: &[u8
     Found::Missing
 }
 
-// One of the rows from a place on whose first text is this tag. The row that the table's hints name is looked at first.
+// The same, where the row that the table's order names is looked at first.
+fn find_by_halves(
+    file: &[u8],
+    sheet: &[u32],
+    hints: &[u8; HINTS],
+    table: usize,
+    place: usize,
+    rows: usize,
+    tag: &[u8],
+) -> Found
+    requires { ⌜ (table < tableCount) × (place + rowWidth * rows ≤ length (now sheet)) × Inside (now file) (now sheet) place rows ⌝ }
+    ensures { λ r. ⌜ TagFound (now (tag .entry)) (rowsFrom (now (file .entry)) (now (sheet .entry)) place rows) r ⌝ }
+{
+    let row = order::row_by_halves(file, sheet, hints, table, place, rows, tag);
+    if row < rows {
+        if tag_at(file, sheet, place + ROW_WIDTH * row, tag) {
+            return Found::Row(row);
+        }
+    }
+    seek_tag(file, sheet, place, rows, tag)
+}
+
+// The same, where the row that the table's hints name is looked at first.
 pub fn find_tag(
     file: &[u8],
     sheet: &[u32],
@@ -123,20 +148,13 @@ pub fn find_tag(
     requires { ⌜ (table < tableCount) × (place + rowWidth * rows ≤ length (now sheet)) × Inside (now file) (now sheet) place rows ⌝ }
     ensures { λ r. ⌜ TagFound (now (tag .entry)) (rowsFrom (now (file .entry)) (now (sheet .entry)) place rows) r ⌝ }
 {
-    let hint = hints::row_near(hints, table, tag);
+    let hint = hints::row_near(hints, table, hints::number_of(tag));
     if hint < rows {
         if tag_at(file, sheet, place + ROW_WIDTH * hint, tag) {
             return Found::Row(hint);
         }
     }
-    seek_tag(file, sheet, place, rows, tag)
-}
-
-// Look at this row first when the tag is asked for again. No answer depends on it.
-pub fn keep_hint(hints: &mut [u8; HINTS], table: usize, tag: &[u8], row: u8)
-    requires { ⌜ table < tableCount ⌝ }
-{
-    hints[hints::place_of(table, tag)] = row;
+    find_by_halves(file, sheet, hints, table, place, rows, tag)
 }
 
 // Store numbers one behind the other, from a place on.

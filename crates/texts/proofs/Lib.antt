@@ -1,3 +1,4 @@
 pub mod Trims
 pub mod Percents
 pub mod AsNumbers
+pub mod SamePlaces

@@ -1,5 +1,5 @@
 // The texts of a line: compared, without the white bytes at their ends, and cut at two percent signs.
-mod words;
+pub mod words;
 
 ghost use mathlib.Core.Path.{_≡_};
 ghost use Prim.Native.Nat.{_+_, _≤_};
@@ -42,6 +42,9 @@ pub fn same_text(a: &[u8], b: &[u8]) -> bool
     }
     if n <= 16 {
         return words::same_eights(a, b);
+    }
+    if words::differ_early(a, b) {
+        return false;
     }
     same_bytes(a, b)
 }

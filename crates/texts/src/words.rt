@@ -1,9 +1,10 @@
 // Four or eight bytes as one number each: two texts are compared at their front and at their back.
 ghost use mathlib.Core.Path.{_≡_};
+ghost use mathlib.Core.Bool.{true, false};
 ghost use Prim.Native.Nat.{_+_, _≤_, _<_};
-ghost use lib.ListN.{length};
+ghost use lib.ListN.{length, take, drop};
 ghost use Rattle.rules.specs.Lists.{same};
-ghost use Rattle.texts.specs.Words.{twoAt, fourAt, eightAt};
+ghost use Rattle.texts.specs.Words.{twoAt, fourAt, eightAt, frontAt};
 
 fn wide(b: u8) -> u32
     ensures { λ r. ⌜ (r ≡ b) × (r < 256) ⌝ }
@@ -20,7 +21,7 @@ fn two_at(text: &[u8], at: usize) -> u32
     wide(text[at]) + 256 * back
 }
 
-fn four_at(text: &[u8], at: usize) -> u32
+pub fn four_at(text: &[u8], at: usize) -> u32
     requires { ⌜ at + 4 ≤ length (now text) ⌝ }
     ensures { λ r. ⌜ (r ≡ fourAt (now (text .entry)) at) × (r < 4294967296) ⌝ }
 {
@@ -28,7 +29,7 @@ fn four_at(text: &[u8], at: usize) -> u32
     two_at(text, at) + 65536 * back
 }
 
-fn eight_at(text: &[u8], at: usize) -> u64
+pub fn eight_at(text: &[u8], at: usize) -> u64
     requires { ⌜ at + 8 ≤ length (now text) ⌝ }
     ensures { λ r. ⌜ r ≡ eightAt (now (text .entry)) at ⌝ }
 {
@@ -58,4 +59,49 @@ pub fn same_eights(a: &[u8], b: &[u8]) -> bool
     }
     let back = a.len() - 8;
     eight_at(a, back) == eight_at(b, back)
+}
+
+// Eight bytes that aren't the same.
+fn differ_at(a: &[u8], b: &[u8], at: usize) -> bool
+    requires { ⌜ (at + 8 ≤ length (now a)) × (at + 8 ≤ length (now b)) ⌝ }
+    ensures { λ r. ⌜ (r ≡ true → same (now (a .entry)) (now (b .entry)) ≡ false) ⌝ }
+{
+    eight_at(a, at) != eight_at(b, at)
+}
+
+// Texts of 16 bytes or more that differ in one of four numbers. Up to 32 bytes these are all their bytes.
+pub fn differ_early(a: &[u8], b: &[u8]) -> bool
+    requires { ⌜ (16 ≤ length (now a)) × (length (now a) ≡ length (now b)) ⌝ }
+    ensures { λ r. ⌜ (r ≡ true → same (now (a .entry)) (now (b .entry)) ≡ false) ⌝ }
+{
+    let n = a.len();
+    if differ_at(a, b, n - 8) {
+        return true;
+    }
+    if differ_at(a, b, 0) {
+        return true;
+    }
+    if differ_at(a, b, 8) {
+        return true;
+    }
+    differ_at(a, b, n - 16)
+}
+
+// The first `len` of eight bytes, moved to the number's top: what stands behind them is out of it. Of none, all eight.
+pub fn front_at(text: &[u8], at: usize, len: usize) -> u64
+    requires { ⌜ (at + 8 ≤ length (now text)) × (len ≤ 8) ⌝ }
+    ensures { λ r. ⌜ r ≡ frontAt (now (text .entry)) at len ⌝ }
+{
+    eight_at(text, at) << ((64 - 8 * len) % 64)
+}
+
+// Whether 8 to 16 bytes at two places are the same.
+pub fn same_places(text: &[u8], a: usize, b: usize, len: usize) -> bool
+    requires { ⌜ (8 ≤ len) × (len ≤ 16) × (a + len ≤ length (now text)) × (b + len ≤ length (now text)) ⌝ }
+    ensures { λ r. ⌜ (r ≡ true → take len (drop a (now (text .entry))) ≡ take len (drop b (now (text .entry)))) ⌝ }
+{
+    if eight_at(text, a) != eight_at(text, b) {
+        return false;
+    }
+    eight_at(text, a + len - 8) == eight_at(text, b + len - 8)
 }

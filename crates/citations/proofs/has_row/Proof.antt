@@ -7,11 +7,13 @@ use Rattle.table_sheet.proofs.LookUps.{id-found}
 use Rattle.citations.proofs.TablesThere.{table-absent, table-there, rows-in-sheet}
 use borrow.Author.Needs.{needs}
 use native.Mathlib.Omega.{arith}
-use Prim.Native.Nat.{ℕ, _-_}
-use mathlib.Core.Path.{sym, ap, _∙_}
+use Prim.Native.Nat.{ℕ, _+_, _-_, _*_, _≤_}
+use mathlib.Core.Path.{_≡_, sym, ap, _∙_}
 use mathlib.Core.Bool.{Bool}
 use mathlib.Core.List.{List, []}
-use lib.ListN.{getD}
+use lib.ListN.{length, getD}
+use Rattle.rules.specs.Sheets.{rowWidth}
+use Rattle.citations.specs.Tabled.{rowsIn}
 use Rattle.citations.proofs.has_row.Statement.{statement}
 use Rattle.citations.proofs.has_row.Tie as tie
 
@@ -36,29 +38,35 @@ returns c file =
 row-place-requires : tie.Need-row-place-requires
 row-place-requires c κs = search needs
 
-sub-find-id : tie.Need-sub-find-id
-sub-find-id c = search needs
-
-find-id-requires : tie.Need-find-id-requires
-find-id-requires c κs =
+room : (c : tie.After-row-place) → let s = c .before .before .before .before in c .row-place .result + rowWidth * (getD (s .args .sheet .now) (s .args .table) 0 - 1) ≤ length (s .args .sheet .now)
+room c =
     let s = c .before .before .before .before in
-    let room = rows-in-sheet [] (s .args .sheet .now) (s .args .table) (s .pre .1) (s .pre .0) (c .before .if1 .left) in
-    rw (c .row-place .ensures) room
+    rw (c .row-place .ensures) (rows-in-sheet [] (s .args .sheet .now) (s .args .table) (s .pre .1) (s .pre .0) (c .before .if1 .left))
 
-is-row-requires : tie.Need-is-row-requires
-is-row-requires c κs = search needs
+-- what is among the rows from their place on is among the table's
+in-table : (c : tie.After-row-place) (file : List ℕ) →
+    let a = c .before .before .before .before .args in
+    hasId (a .id1) (rowsFrom file (a .sheet .now) (c .row-place .result) (getD (a .sheet .now) (a .table) 0 - 1)) ≡ hasId (a .id1) (rowsIn file (a .sheet .now) (a .table))
+in-table c file =
+    let s = c .before .before .before .before in
+    let a = s .args in
+    let rows = getD (a .sheet .now) (a .table) 0 - 1 in
+    ap (λ (p : ℕ). hasId (a .id1) (rowsFrom file (a .sheet .now) p rows)) (c .row-place .ensures)
+    ∙ sym (ap (among (a .id1)) (table-there file (a .sheet .now) (a .table) (s .pre .1) (c .before .if1 .left)))
 
 returns-2 : tie.Need-returns-2
 returns-2 c file =
-    let asked = c .before .before in
-    let s = asked .before .before .before .before in
-    let a = s .args in
-    let rows = getD (a .sheet .now) (a .table) 0 - 1 in
+    let asked = c .before in
+    sym (sym (in-table (asked .before) file) ∙ asked .counts-up-to .ensures (c .if2 .taken) file)
+
+returns-3 : tie.Need-returns-3
+returns-3 c file =
+    let asked = c .before .before .before .before in
+    let a = asked .before .before .before .before .args in
     c .is-row .ensures
     ∙ ap isFound (c .before .find-id .ensures file)
-    ∙ id-found (a .id1) (rowsFrom file (a .sheet .now) (asked .row-place .result) rows)
-    ∙ ap (λ (p : ℕ). hasId (a .id1) (rowsFrom file (a .sheet .now) p rows)) (asked .row-place .ensures)
-    ∙ sym (ap (among (a .id1)) (table-there file (a .sheet .now) (a .table) (s .pre .1) (asked .before .if1 .left)))
+    ∙ id-found (a .id1) (rowsFrom file (a .sheet .now) (asked .row-place .result) (getD (a .sheet .now) (a .table) 0 - 1))
+    ∙ in-table asked file
 
 pub has-row-spec : {M : Type 1} → statement M
 has-row-spec =
@@ -69,7 +77,10 @@ has-row-spec =
     cast-count
     returns
     row-place-requires
-    sub-find-id
-    find-id-requires
-    is-row-requires
-    returns-2)
+    (λ c. search needs)
+    (λ c κs. room c)
+    returns-2
+    (λ c. search needs)
+    (λ c κs. room (c .before .before))
+    (λ c κs. search needs)
+    returns-3)

@@ -2,7 +2,7 @@
 -- what is left of the file.
 use borrow.Author.Needs.{needs}
 use native.Mathlib.Omega.{arith}
-use Prim.Native.Nat.{ℕ, _+_, _-_, _≤_, _<_}
+use Prim.Native.Nat.{ℕ, _-_, _≤_}
 use mathlib.Core.Path.{_≡_, refl, sym, ap, _∙_}
 use mathlib.Core.List.{List, []}
 use lib.ListN.{length}
@@ -10,20 +10,11 @@ use Rattle.rules.specs.Numbers.{fileLimit}
 use Rattle.rules.specs.Tables.{noTables}
 use Rattle.seen.proofs.SeenSets.{length-seen-set}
 use Rattle.table_sheet.proofs.OpenSheets.{none-have-room, length-table-sheet}
-use Rattle.lines.specs.LineEnds.{lineEnd}
-use Rattle.lines.specs.declared.LineEnd.the-variants.{At}
-use Rattle.lines.proofs.Lines.{at-behind, at-below}
 use Rattle.lines.proofs.FoundLines.{told-end, told-start, told-listed}
-use Rattle.columns.specs.Listing.{textBetween}
 use Rattle.columns.specs.declared.listing.Line as listing
-use Rattle.steps.specs.Steps.{stepOf}
-use Rattle.steps.specs.declared.Step.{Step}
-use Rattle.reading.specs.Effects.{Kept, kept, effect}
-use Rattle.judging.specs.Judging.{judgedBy}
-use Rattle.reading.proofs.Moving.{RowSound}
-use Rattle.reading.proofs.RowsSound.{rows-sound}
+use Rattle.reading.specs.Effects.{Kept, kept}
 use Rattle.reading.proofs.Going.{Going, going-start, sheet-size, seen-size, begins-size, begun-limit, stop-unread, stop-end}
-use Rattle.reading.proofs.Turning.{applies-alike, ready, goes-on, goes-on-noted, stops}
+use Rattle.reading.proofs.Turning.{LineHere, onward, inside, ready, goes-on-noted, applies, stops, plainly}
 use Rattle.reading.proofs.take_lines.Statement.{statement}
 use Rattle.reading.proofs.take_lines.Tie as tie
 
@@ -68,6 +59,9 @@ same-sheet l = sheet-size _ _ _ _ _ (going l) ∙ sym (ap length (start l .pre .
 same-seen : (l : Standing) → length (held l .seen) ≡ length (start l .args .seen .now)
 same-seen l = seen-size _ _ _ _ _ (going l) ∙ sym (ap length (start l .pre .3) ∙ length-seen-set [])
 
+same-begins : (l : Standing) → length (held l .begins) ≡ size l
+same-begins l = begins-size _ _ _ _ _ (going l)
+
 -- a whole line from here
 abbrev Line : Type 0
 Line = tie.After-found Inv-loop μ-loop
@@ -84,37 +78,32 @@ end k = line k .end
 abbrev answer : (k : Line) → tie.After-next-line Inv-loop μ-loop
 answer k = k .before .before
 
-ends : (k : Line) → lineEnd (file (here k)) (at (here k)) ≡ At (end k)
-ends k = told-end (file (here k)) (at (here k)) _ _ (answer k .next-line .ensures) (line k) (k .found .given .1)
+line-here : (k : Line) → LineHere (file (here k)) (low (here k)) (size (here k)) (at (here k)) (held (here k)) (line k) (answer k .next-line .last .1 .1 .1 .1 .0)
+line-here k =
+    let l = here k in
+    let told = answer k .next-line .ensures in
+    let is = k .found .given .1 in
+    record {
+      going = going l;
+      short = short l;
+      starts = told-start (file l) (at l) _ _ told (line k) is;
+      ends = told-end (file l) (at l) _ _ told (line k) is;
+      listed = told-listed (file l) (at l) _ _ told (line k) is;
+    }
 
-starts : (k : Line) → line k .start ≡ at (here k)
-starts k = told-start (file (here k)) (at (here k)) _ _ (answer k .next-line .ensures) (line k) (k .found .given .1)
+-- the quick way is asked
+abbrev Asked : Type 0
+Asked = tie.After-plain-line Inv-loop μ-loop
 
-below : (k : Line) → end k < length (file (here k))
-below k = at-below (file (here k)) (at (here k)) (end k) (ends k)
-
-behind : (k : Line) → at (here k) ≤ end k
-behind k = at-behind (file (here k)) (at (here k)) (end k) (ends k)
-
-rows : (k : Line) → RowSound (file (here k)) (textBetween (file (here k)) (at (here k)) (end k))
-rows k = rows-sound (file (here k)) (at (here k)) (end k) (going (here k) .in-file)
+abbrev asked : Asked → Line
+asked q = q .before .before .before .before .before .before
 
 -- the line is judged
 abbrev Judged : Type 0
 Judged = tie.After-judge Inv-loop μ-loop
 
 abbrev whole : Judged → Line
-whole j = j .before .before .before .before .before .before .before
-
-abbrev told : (j : Judged) → Step
-told j = j .judge .result
-
-told-is : (j : Judged) → told j ≡ stepOf (judgedBy (file (here (whole j))) (textBetween (file (here (whole j))) (at (here (whole j))) (end (whole j))) (held (here (whole j)) .state) (held (here (whole j)) .sheet) (held (here (whole j)) .seen) (held (here (whole j)) .marks))
-told-is j =
-    let l = here (whole j) in
-    let k = held l in
-    j .judge .ensures
-    ∙ ap (λ (n : ℕ). stepOf (judgedBy (file l) (textBetween (file l) n (end (whole j))) (k .state) (k .sheet) (k .seen) (k .marks))) (starts (whole j))
+whole j = asked (j .before .before .before .before .before .before .before .before)
 
 loop-holds : tie.Need-loop-holds Inv-loop μ-loop
 loop-holds c =
@@ -131,15 +120,6 @@ cast-stop-at c =
     let w = short (t .before) in
     search needs
 
-same-length : tie.Need-same-length Inv-loop μ-loop
-same-length c = same-sheet (c .before .before .before .before .before .before .before)
-
-same-length-2 : tie.Need-same-length-2 Inv-loop μ-loop
-same-length-2 c = same-seen (c .before .before .before .before .before .before .before)
-
-same-length-3 : tie.Need-same-length-3 Inv-loop μ-loop
-same-length-3 c = begins-size _ _ _ _ _ (going (c .before .before .before .before .before .before .before))
-
 returns : tie.Need-returns Inv-loop μ-loop
 returns c =
     let e = c .before .before .before in
@@ -147,39 +127,54 @@ returns c =
     rw (c .stop-at .ensures, c .before .line-refusal .ensures)
     (stop-unread (file l) (low l) (size l) (at l) (held l) (going l) (e .before .before .before .loop-test .taken) (e .next-line .result) (sym (e .next-line .ensures .0)) (c .before .before .match .keys2))
 
-judge-requires : tie.Need-judge-requires Inv-loop μ-loop
-judge-requires c κs =
-    let k = c .before .before .before .before .before .before in
-    let l = here k in (
-      start l .pre .0,
-      told-listed (file l) (at l) _ _ (answer k .next-line .ensures) (line k) (k .found .given .1),
-      ready (file l) (low l) (size l) (at l) (held l) (going l) (short l) (end k) (ends k),
-    )
+plain-line-requires : tie.Need-plain-line-requires Inv-loop μ-loop
+plain-line-requires c κs = let h = line-here (c .before .before .before .before .before) in (h .listed, (_, ready h))
 
-cast-fault-at : tie.Need-cast-fault-at Inv-loop μ-loop
-cast-fault-at c =
-    let k = whole (c .before .before .before) in
-    let b = below k in
-    let h = behind k in
-    let w = short (here k) in
+-- an ordinary line is taken
+take-plain-requires : tie.Need-take-plain-requires Inv-loop μ-loop
+take-plain-requires c κs =
+    let q = c .before .before in
+    plainly (line-here (asked q)) (q .plain-line .result) (q .plain-line .ensures _) (c .before .match2 .keys2) .0
+
+abbrev quickly : tie.After-struct-known Inv-loop μ-loop → Asked
+quickly c = c .before .before .before .before
+
+add-at : tie.Need-add-at Inv-loop μ-loop
+add-at c =
+    let h = line-here (asked (quickly c)) in
+    let b = inside h in
+    let w = h .short in
     search needs
 
-same-length-4 : tie.Need-same-length-4 Inv-loop μ-loop
-same-length-4 c = same-sheet (here (whole (c .before .before .before .before)))
+loop-less : tie.Need-loop-less Inv-loop μ-loop
+loop-less c = let h = line-here (asked (quickly c)) in omega (arith, inside h, onward h)
 
-same-length-5 : tie.Need-same-length-5 Inv-loop μ-loop
-same-length-5 c = same-seen (here (whole (c .before .before .before .before)))
+loop-again : tie.Need-loop-again Inv-loop μ-loop
+loop-again c =
+    let q = quickly c in
+    plainly (line-here (asked q)) (q .plain-line .result) (q .plain-line .ensures _) (c .before .before .before .match2 .keys2) .1 _ (c .before .take-plain .ensures _ _ _ _ _ _)
 
-same-length-6 : tie.Need-same-length-6 Inv-loop μ-loop
-same-length-6 c = begins-size _ _ _ _ _ (going (here (whole (c .before .before .before .before))))
+-- another is judged
+judge-requires : tie.Need-judge-requires Inv-loop μ-loop
+judge-requires c κs =
+    let k = asked (c .before .before .before .before .before .before .before) in
+    (start (here k) .pre .0, line-here k .listed, ready (line-here k))
+
+cast-stop-at-2 : tie.Need-cast-stop-at-2 Inv-loop μ-loop
+cast-stop-at-2 c =
+    let h = line-here (whole (c .before .before .before)) in
+    let b = inside h in
+    let o = onward h in
+    let w = h .short in
+    search needs
+
+abbrev refused-at : tie.After-stop-at2 Inv-loop μ-loop → Judged
+refused-at c = c .before .before .before .before
 
 returns-2 : tie.Need-returns-2 Inv-loop μ-loop
 returns-2 c =
-    let j = c .before .before .before .before in
-    let k = whole j in
-    let l = here k in
-    rw (c .fault-at .ensures)
-    (stops (file l) (low l) (size l) (at l) (held l) (going l) (short l) (end k) (ends k) (rows k) (told j) (told-is j) _ (c .before .before .step .given .1))
+    let j = refused-at c in
+    rw (c .stop-at2 .ensures) (stops (line-here (whole j)) _ (j .judge .ensures) _ (c .before .before .step .given .1))
 
 -- the sentence that ends is noted, and then the step is applied
 abbrev Applied : Type 0
@@ -200,58 +195,43 @@ apply-requires : tie.Need-apply-requires Inv-loop μ-loop
 apply-requires c κs =
     let m = c .before .before .before .before .before .before .before .before in
     let j = m .before in
-    let k = whole j in
-    let l = here k in (
-      omega (arith, starts k, behind k, below k, short l),
-      omega (arith, below k, short l),
-      applies-alike (told j) (length (file l)) (held l) [] (goes-on (file l) (low l) (size l) (at l) (held l) (going l) (short l) (end k) (ends k) (rows k) (told j) (told-is j) (m .match2 .keys2) .0),
-    )
+    applies (line-here (whole j)) _ (j .judge .ensures) (m .match3 .keys2)
 
-add-at : tie.Need-add-at Inv-loop μ-loop
-add-at c =
-    let k = whole (judged (c .before .before .before .before .before)) in
-    let b = below k in
-    let w = short (here k) in
+abbrev put : tie.After-struct-known2 Inv-loop μ-loop → Applied
+put c = c .before .before .before .before .before
+
+add-at-2 : tie.Need-add-at-2 Inv-loop μ-loop
+add-at-2 c =
+    let h = line-here (whole (judged (put c))) in
+    let b = inside h in
+    let w = h .short in
     search needs
 
-loop-less : tie.Need-loop-less Inv-loop μ-loop
-loop-less c = let k = whole (judged (c .before .before .before .before .before)) in omega (arith, below k, behind k)
+loop-less-2 : tie.Need-loop-less-2 Inv-loop μ-loop
+loop-less-2 c = let h = line-here (whole (judged (put c))) in omega (arith, inside h, onward h)
 
-loop-again : tie.Need-loop-again Inv-loop μ-loop
-loop-again c =
-    let a = c .before .before .before .before .before in
+loop-again-2 : tie.Need-loop-again-2 Inv-loop μ-loop
+loop-again-2 c =
+    let a = put c in
     let n = ended a in
     let m = n .before .before in
     let j = m .before in
-    let k = whole j in
-    let l = here k in
-    goes-on-noted (file l) (low l) (size l) (at l) (held l) (going l) (short l) (end k) (ends k) (rows k) (told j) (told-is j) (m .match2 .keys2) _ _ _ _ _ (n .note-end .ensures)
-    (a .apply .ensures (low l) (held l .begins)
-    ∙ ap (λ (n : ℕ). effect (low l) (told j) n (end k + 1) (held l)) (starts k))
+    goes-on-noted (line-here (whole j)) _ (j .judge .ensures) (m .match3 .keys2) _ _ _ _ _ (n .note-end .ensures) (a .apply .ensures _ _)
 
 closing-requires : tie.Need-closing-requires Inv-loop μ-loop
 closing-requires c κs = sheet-size _ _ _ _ _ (going (c .before .before))
 
-cast-stop-at-2 : tie.Need-cast-stop-at-2 Inv-loop μ-loop
-cast-stop-at-2 c =
+cast-stop-at-3 : tie.Need-cast-stop-at-3 Inv-loop μ-loop
+cast-stop-at-3 c =
     let l = c .before .before .before in
     let h = going l .in-file in
     let w = short l in
     search needs
 
-same-length-7 : tie.Need-same-length-7 Inv-loop μ-loop
-same-length-7 c = same-sheet (c .before .before .before .before)
-
-same-length-8 : tie.Need-same-length-8 Inv-loop μ-loop
-same-length-8 c = same-seen (c .before .before .before .before)
-
-same-length-9 : tie.Need-same-length-9 Inv-loop μ-loop
-same-length-9 c = begins-size _ _ _ _ _ (going (c .before .before .before .before))
-
 returns-3 : tie.Need-returns-3 Inv-loop μ-loop
 returns-3 c =
     let l = c .before .before .before .before in
-    rw (c .stop-at2 .ensures, c .before .closing .ensures)
+    rw (c .stop-at3 .ensures, c .before .closing .ensures)
     (stop-end (file l) (low l) (size l) (at l) (held l) (going l) (c .before .before .before .loop-test .left))
 
 pub take-lines-spec : {M : Type 1} → statement M
@@ -268,27 +248,33 @@ take-lines-spec =
     (λ c κs. search needs)
     cast-stop-at
     (λ c κs. search needs)
-    same-length
-    same-length-2
-    same-length-3
+    (λ c. same-sheet (c .before .before .before .before .before .before .before))
+    (λ c. same-seen (c .before .before .before .before .before .before .before))
+    (λ c. same-begins (c .before .before .before .before .before .before .before))
     returns
-    judge-requires
+    plain-line-requires
     (λ c. search needs)
-    cast-fault-at
-    (λ c κs. search needs)
-    same-length-4
-    same-length-5
-    same-length-6
-    returns-2
-    note-end-requires
-    apply-requires
+    take-plain-requires
     add-at
     loop-less
     loop-again
-    closing-requires
+    judge-requires
+    (λ c. search needs)
     cast-stop-at-2
     (λ c κs. search needs)
-    same-length-7
-    same-length-8
-    same-length-9
+    (λ c. same-sheet (here (whole (refused-at c))))
+    (λ c. same-seen (here (whole (refused-at c))))
+    (λ c. same-begins (here (whole (refused-at c))))
+    returns-2
+    note-end-requires
+    apply-requires
+    add-at-2
+    loop-less-2
+    loop-again-2
+    closing-requires
+    cast-stop-at-3
+    (λ c κs. search needs)
+    (λ c. same-sheet (c .before .before .before .before))
+    (λ c. same-seen (c .before .before .before .before))
+    (λ c. same-begins (c .before .before .before .before))
     returns-3)

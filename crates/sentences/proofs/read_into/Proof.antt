@@ -11,6 +11,7 @@ use Rattle.rules.specs.Sheets.{sentenceSheetSize}
 use Rattle.rules.specs.SentenceFrom.{startsLine}
 use Rattle.sentence_sheet.specs.FlatEdges.{edgeWidth}
 use Rattle.sentences.proofs.FirstLines.{start-inside}
+use Rattle.sentences.proofs.StampedMarks.{marked-further}
 use Rattle.sentences.proofs.Answers.{cleared, as-long, begun-nowhere, headed-at, gathered-at, nothing-starts, nothing-begins, nothing-gathered, found-gathered}
 use Rattle.sentences.proofs.read_into.Statement.{statement}
 use Rattle.sentences.proofs.read_into.Tie as tie
@@ -31,7 +32,7 @@ starts e = sym (e .before .starts-line .ensures) ∙ not-false _ (e .if1 .left)
 returns : tie.Need-returns
 returns c =
     let s = c .before in
-    nothing-starts (file s) (place s) _ _ (start s .pre .2) (start s .pre .3) (sym (s .starts-line .ensures) ∙ not-true _ (c .if1 .taken))
+    (nothing-starts (file s) (place s) _ _ (start s .pre .2) (start s .pre .3) (sym (s .starts-line .ensures) ∙ not-true _ (c .if1 .taken)), marked-further (start s .pre .5))
 
 begin-requires : tie.Need-begin-requires
 begin-requires c κs =
@@ -54,7 +55,7 @@ returns-2 c =
     let g = c .before .before .before .before in
     let s = zero g in
     let w = begun-nowhere (file s) (place s) _ _ _ (g .begin .ensures) (c .enum-told .given .1) in
-    nothing-begins (file s) (place s) _ _ (w .1 ∙ start s .pre .2) (start s .pre .3) (starts (at g)) (w .0)
+    (nothing-begins (file s) (place s) _ _ (w .1 ∙ start s .pre .2) (start s .pre .3) (starts (at g)) (w .0), marked-further (start s .pre .5))
 
 -- the lines behind it are read
 abbrev Behind : Type 0
@@ -65,7 +66,7 @@ headed k = k .before .before .before .before
 
 take-nodes-requires : tie.Need-take-nodes-requires
 take-nodes-requires c κs =
-    let k = c .before .before .before .before in
+    let k = c .before .before .before .before .before in
     let g = headed k in
     let s = zero g in (
       start s .pre .0,
@@ -73,24 +74,26 @@ take-nodes-requires c κs =
       headed-at (file s) (place s) _ _ _ (g .begin .ensures) _ _ (k .begun .given .1) (replicate sentenceSheetSize 0) (start s .pre .2),
       g .begin .kept .1 .1 .0 ∙ as-long (start s .pre .2),
       start s .pre .3,
+      start s .pre .4,
+      start s .pre .5,
     )
 
 abbrev Gone : Type 0
 Gone = tie.After-take-nodes
 
 abbrev behind : Gone → Behind
-behind n = n .before .before .before .before .before
+behind n = n .before .before .before .before .before .before
 
 -- what is left of the sentence's lines
 module _ (n : Gone) where
   abbrev g : Headed
   g = headed (behind n)
 
-  sheet-left : length (n .take-nodes .last .1 .1 .1 .0) ≡ sentenceSheetSize
-  sheet-left = n .take-nodes .kept .1 .1 .1 .0 ∙ g .begin .kept .1 .1 .0 ∙ as-long (start (zero g) .pre .2)
+  sheet-left : length (n .take-nodes .last .1 .1 .1 .1 .0) ≡ sentenceSheetSize
+  sheet-left = n .take-nodes .kept .1 .1 .1 .1 .0 ∙ g .begin .kept .1 .1 .0 ∙ as-long (start (zero g) .pre .2)
 
-  edges-left : length (n .take-nodes .last .1 .1 .1 .1 .0) ≡ edgeLimit * edgeWidth
-  edges-left = n .take-nodes .kept .1 .1 .1 .1 .0 ∙ as-long (start (zero g) .pre .3)
+  edges-left : length (n .take-nodes .last .1 .1 .1 .1 .1 .0) ≡ edgeLimit * edgeWidth
+  edges-left = n .take-nodes .kept .1 .1 .1 .1 .1 .0 ∙ as-long (start (zero g) .pre .3)
 
 returns-3 : tie.Need-returns-3
 returns-3 c =
@@ -98,7 +101,8 @@ returns-3 c =
     let k = behind n in
     let g = headed k in
     let s = zero g in
-    found-gathered (file s) (place s) (starts (at g)) _ _ _ (gathered-at (file s) (place s) _ _ _ (g .begin .ensures) _ _ (k .begun .given .1) _ _ _ (n .take-nodes .ensures)) (c .if2 .taken)
+    let gathered = gathered-at (file s) (place s) _ _ _ (g .begin .ensures) _ _ (k .begun .given .1) _ _ _ (n .take-nodes .ensures .0) in
+    (found-gathered (file s) (place s) (starts (at g)) _ _ _ gathered (c .if2 .taken), n .take-nodes .ensures .1)
 
 -- and cleared
 abbrev emptied : tie.After-clear2 → tie.After-clear
@@ -117,8 +121,10 @@ returns-4 c =
     let k = behind n in
     let g = headed k in
     let s = zero g in
-    nothing-gathered (file s) (place s) _ _ (cleared (emptied z .clear .ensures) (sheet-left n)) (cleared (z .clear2 .ensures) (edges-left n)) (starts (at g)) _ _ _
-    (gathered-at (file s) (place s) _ _ _ (g .begin .ensures) _ _ (k .begun .given .1) _ _ _ (n .take-nodes .ensures)) (emptied z .before .before .if2 .left)
+    let gathered = gathered-at (file s) (place s) _ _ _ (g .begin .ensures) _ _ (k .begun .given .1) _ _ _ (n .take-nodes .ensures .0) in (
+      nothing-gathered (file s) (place s) _ _ (cleared (emptied z .clear .ensures) (sheet-left n)) (cleared (z .clear2 .ensures) (edges-left n)) (starts (at g)) _ _ _ gathered (emptied z .before .before .if2 .left),
+      n .take-nodes .ensures .1,
+    )
 
 pub read-into-spec : {M : Type 1} → statement M
 read-into-spec =

@@ -2,7 +2,7 @@
 -- measure is what is left of the file.
 use borrow.Author.Needs.{needs}
 use native.Mathlib.Omega.{arith}
-use Prim.Native.Nat.{ℕ, _-_, _≤_, _<_}
+use Prim.Native.Nat.{ℕ, _+_, _-_, _≤_, _<_}
 use mathlib.Core.Path.{_≡_, refl, sym, ap, _∙_}
 use mathlib.Core.Option.{Option}
 use mathlib.Core.List.{List}
@@ -16,20 +16,20 @@ use Rattle.lines.proofs.Lines.{at-behind, at-below}
 use Rattle.lines.proofs.FoundLines.{told-end, told-start, told-listed}
 use Rattle.columns.specs.Listing.{textBetween}
 use Rattle.columns.specs.declared.listing.Line as listing
-use Rattle.sentences.specs.Keeping.{Stored, stored}
+use Rattle.sentences.specs.Keeping.{MarkedUpTo, Stored, stored}
 use Rattle.sentences.specs.Beginnings.{begunAt}
-use Rattle.sentences.proofs.Gathering.{Gathering, gathering-start, none-gathered, none-at-end, none-unread, countable, all-gathered}
+use Rattle.sentences.proofs.Gathering.{Gathering, gathering-start, none-gathered, none-at-end, none-unread, marks-left, countable, all-gathered}
 use Rattle.sentences.proofs.Taking.{LineHere}
 use Rattle.sentences.proofs.Turning.{refused-none, ends-found, goes-on}
 use Rattle.sentences.proofs.take_nodes.Statement.{statement}
 use Rattle.sentences.proofs.take_nodes.Tie as tie
 
 abbrev Inv-loop : tie.InvT-loop
-Inv-loop file from sheet₀ edges₀ places₀ hints classes marks₀ t₀ at₀ sheet edges places marks t at =
-    Gathering file (begunAt file (t₀ .start)) at (stored t sheet edges marks)
+Inv-loop file from handed sheet₀ edges₀ marks₀ places₀ hints classes t₀ at₀ sheet edges marks places t at =
+    Gathering file (begunAt file (t₀ .start)) handed at (stored t sheet edges marks)
 
 abbrev μ-loop : tie.MeasureT-loop
-μ-loop file from sheet₀ edges₀ places₀ hints classes marks₀ t₀ at₀ sheet edges places marks t at =
+μ-loop file from handed sheet₀ edges₀ marks₀ places₀ hints classes t₀ at₀ sheet edges marks places t at =
     length file - at
 
 abbrev Standing : Type 0
@@ -50,7 +50,10 @@ at l = l .loop .at
 abbrev held : Standing → Stored
 held l = stored (l .loop .t) (l .loop .sheet) (l .loop .edges) (l .loop .marks)
 
-abbrev going : (l : Standing) → Gathering (file l) (sought l) (at l) (held l)
+abbrev handed : Standing → ℕ
+handed l = start l .args .handed
+
+abbrev going : (l : Standing) → Gathering (file l) (sought l) (handed l) (at l) (held l)
 going l = l .loop .inv
 
 abbrev short : (l : Standing) → length (file l) ≤ fileLimit
@@ -64,6 +67,12 @@ same-sheet l = going l .sheet-size ∙ sym (start l .pre .3)
 
 same-edges : (l : Standing) → length (held l .edges) ≡ length (start l .args .edges .now)
 same-edges l = going l .edges-size ∙ sym (ap length (start l .pre .4) ∙ length-replicate {A = ℕ} _ 0)
+
+marks-stay : (l : Standing) → MarkedUpTo (handed l + 1) (held l .marks)
+marks-stay l = marks-left (file l) (sought l) (handed l) (at l) (held l) (going l)
+
+abbrev few : (l : Standing) → handed l ≤ fileLimit
+few l = start l .pre .5
 
 -- a whole line from here
 abbrev Line : Type 0
@@ -90,7 +99,7 @@ below k = at-below (file (here k)) (at (here k)) (end k) (ends k)
 behind : (k : Line) → at (here k) ≤ end k
 behind k = at-behind (file (here k)) (at (here k)) (end k) (ends k)
 
-line-here : (k : Line) → LineHere (file (here k)) (sought (here k)) (at (here k)) (held (here k)) (end k) (line k) (answer k .next-line .last .1 .1 .1 .1 .0)
+line-here : (k : Line) → LineHere (file (here k)) (sought (here k)) (handed (here k)) (at (here k)) (held (here k)) (end k) (line k) (answer k .next-line .last .1 .1 .1 .1 .0)
 line-here k =
     let l = here k in
     let told = answer k .next-line .ensures in
@@ -112,24 +121,24 @@ whole j = j .before .before .before .before
 loop-holds : tie.Need-loop-holds Inv-loop μ-loop
 loop-holds c =
     let x = c .before .before .before in
-    gathering-start (x .args .file .now) (x .args .first .start) _ _ _ _ _ (x .pre .2) (x .pre .3) (x .pre .4) refl
+    gathering-start (x .args .file .now) (x .args .first .start) _ _ _ _ _ _ (x .pre .2) (x .pre .3) (x .pre .4) (x .pre .6)
 
 returns : tie.Need-returns Inv-loop μ-loop
 returns c =
     let e = c .before in
     let l = e .before .before .before in
-    none-gathered _ _ (none-unread (file l) (sought l) (at l) (held l) (going l) (e .next-line .result) (sym (e .next-line .ensures .0)) (c .match .keys2))
+    (none-gathered _ _ (none-unread (file l) (sought l) (handed l) (at l) (held l) (going l) (e .next-line .result) (sym (e .next-line .ensures .0)) (c .match .keys2)), marks-stay l)
 
 judge-requires : tie.Need-judge-requires Inv-loop μ-loop
 judge-requires c κs =
     let k = c .before .before .before in
     let l = here k in
-    (classes l, line-here k .listed, countable (file l) (sought l) (at l) (held l) (going l) (short l))
+    (classes l, line-here k .listed, countable (file l) (sought l) (handed l) (at l) (held l) (going l) (short l) (few l))
 
 returns-2 : tie.Need-returns-2 Inv-loop μ-loop
 returns-2 c =
     let j = c .before .before in
-    none-gathered _ _ (refused-none (line-here (whole j)) _ (j .judge .ensures) _ (c .enum-told .given .1))
+    (none-gathered _ _ (refused-none (line-here (whole j)) _ (j .judge .ensures) _ (c .enum-told .given .1)), marks-stay (here (whole j)))
 
 put-counts-requires : tie.Need-put-counts-requires Inv-loop μ-loop
 put-counts-requires c κs = omega (arith, going (here (whole (c .before .before .before .before))) .sheet-size)
@@ -143,8 +152,8 @@ returns-3 c =
     let p = c .before .before in
     let j = last c in
     let l = here (whole j) in
-    all-gathered (file l) (sought l) (at l) (held l) (line-here (whole j) .going) (ends-found (line-here (whole j)) _ (j .judge .ensures) (p .before .before .enum-told2 .given .1)) _
-    (p .put-counts .ensures)
+    let found = ends-found (line-here (whole j)) _ (j .judge .ensures) (p .before .before .enum-told2 .given .1) in
+    (all-gathered (file l) (sought l) (handed l) (at l) (held l) (line-here (whole j) .going) found _ (p .put-counts .ensures), marks-stay l)
 
 -- its step is taken
 abbrev Taken : Type 0
@@ -157,7 +166,7 @@ keep-requires : tie.Need-keep-requires Inv-loop μ-loop
 keep-requires c κs =
     let m = c .before .before .before .before in
     let j = judged m in
-    (classes (here (whole j)), goes-on (line-here (whole j)) _ (j .judge .ensures) (m .before .match2 .keys2) (m .match3 .keys2) .0)
+    (classes (here (whole j)), few (here (whole j)), goes-on (line-here (whole j)) _ (j .judge .ensures) (m .before .match2 .keys2) (m .match3 .keys2) .0)
 
 abbrev put : tie.After-struct-known Inv-loop μ-loop → tie.After-keep Inv-loop μ-loop
 put c = c .before .before .before .before .before
@@ -180,13 +189,13 @@ loop-again c =
     let a = put c in
     let m = taken a in
     let j = judged m in
-    goes-on (line-here (whole j)) _ (j .judge .ensures) (m .before .match2 .keys2) (m .match3 .keys2) .1 _ (a .keep .ensures) (a .keep .kept .1 .1 .1 .1 .1 .0)
-    (a .keep .kept .1 .1 .1 .1 .1 .1 .0)
+    goes-on (line-here (whole j)) _ (j .judge .ensures) (m .before .match2 .keys2) (m .match3 .keys2) .1 _ (a .keep .ensures) (a .keep .kept .1 .1 .1 .1 .1 .1 .0)
+    (a .keep .kept .1 .1 .1 .1 .1 .1 .1 .0)
 
 returns-4 : tie.Need-returns-4 Inv-loop μ-loop
 returns-4 c =
     let l = c .before in
-    none-gathered _ _ (none-at-end (file l) (sought l) (at l) (held l) (going l) (c .loop-test .left))
+    (none-gathered _ _ (none-at-end (file l) (sought l) (handed l) (at l) (held l) (going l) (c .loop-test .left)), marks-stay l)
 
 pub take-nodes-spec : {M : Type 1} → statement M
 take-nodes-spec =

@@ -7,6 +7,9 @@ use Rattle.table_sheet.proofs.LookUps.{tag-hit}
 use Rattle.table_sheet.proofs.find_tag.Statement.{statement}
 use Rattle.table_sheet.proofs.find_tag.Tie as tie
 
+number-of-requires : tie.Need-number-of-requires
+number-of-requires c κs = search needs
+
 row-near-requires : tie.Need-row-near-requires
 row-near-requires c κs = search needs
 
@@ -18,19 +21,19 @@ add-tag-at c = search needs
 
 tag-at-requires : tie.Need-tag-at-requires
 tag-at-requires c κs =
-    let s = c .before .before .before .before .before in
+    let s = c .before .before .before .before .before .before in
     (omega arith, s .pre .2 (c .before .row-near .result) (c .if1 .taken))
 
 returns : tie.Need-returns
 returns c =
     let t = c .before .before in
-    let s = t .before .before .before .before .before in
+    let s = t .before .before .before .before .before .before in
     let a = s .args in
     tag-hit (a .tag .now) (a .file .now) (a .sheet .now) (a .place) (t .before .row-near .result) (a .rows) (t .if1 .taken)
     (sym (c .before .tag-at .ensures) ∙ c .if2 .taken)
 
-seek-tag-requires : tie.Need-seek-tag-requires
-seek-tag-requires c κs = search needs
+find-by-halves-requires : tie.Need-find-by-halves-requires
+find-by-halves-requires c κs = search needs
 
 returns-2 : tie.Need-returns-2
 returns-2 c = search needs
@@ -39,10 +42,11 @@ pub find-tag-spec : {M : Type 1} → statement M
 find-tag-spec =
     tie.close
     (tie.spec
+    number-of-requires
     row-near-requires
     mul-tag-at
     add-tag-at
     tag-at-requires
     returns
-    seek-tag-requires
+    find-by-halves-requires
     returns-2)

@@ -20,4 +20,6 @@ same-text-spec =
     (λ c κs. search needs)
     (λ c. search needs)
     (λ c κs. search needs)
+    (λ c. sym (c .before .differ-early .ensures (c .if5 .taken)))
+    (λ c κs. search needs)
     (λ c. search needs))

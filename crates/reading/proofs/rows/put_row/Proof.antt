@@ -9,7 +9,7 @@ use Rattle.reading.proofs.rows.put_row.Tie as tie
 
 returns : tie.Need-returns
 returns c =
-    let p = c .before .before .before .before .before .before .before in
+    let p = c .before .before .before .before .before .before .before .before in
     let d = p .before .before in
     let a = d .before .before .before .before .before .before in
     p .put .ensures ∙ ap (λ (place : ℕ). splice place (sixOf (a .args .row)) (a .args .sheet .now)) (d .row-place .ensures)
@@ -21,7 +21,6 @@ put-row-spec =
     (λ c κs. search needs)
     (λ c. search needs)
     (λ c κs. search needs)
-    (λ c. search needs)
     (λ c. search needs)
     (λ c. search needs)
     (λ c. search needs)

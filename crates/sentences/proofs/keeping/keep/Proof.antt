@@ -21,7 +21,7 @@ entry d = let a = start d .args in stored (a .t) (a .sheet .now) (a .edges .now)
 needs-of : (d : Known) (x : Step) → start d .args .step ≡ x → Storable (start d .args .file .now) (start d .args .line) (start d .args .places .now) x (entry d)
 needs-of d x e =
     let a = start d .args in
-    subst (λ (y : Step). Storable (a .file .now) (a .line) (a .places .now) y (entry d)) e (start d .pre .1)
+    subst (λ (y : Step). Storable (a .file .now) (a .line) (a .places .now) y (entry d)) e (start d .pre .2)
 
 put-node-requires : tie.Need-put-node-requires
 put-node-requires c κs =
@@ -40,6 +40,12 @@ put-node-requires-2 c κs =
     let k = c .before .before .before in
     let d = k .before .before in
     (start d .pre .0, needs-of d _ (k .step2 .given .1) .0)
+
+add-mark : tie.Need-add-mark
+add-mark c =
+    let k = c .before .before .before .before .before .before .before .before in
+    let few = start (k .before .before) .pre .1 in
+    search needs
 
 mark-requires : tie.Need-mark-requires
 mark-requires c κs =
@@ -72,7 +78,7 @@ returns-3 : tie.Need-returns-3
 returns-3 c =
     let d = c .before in
     let a = start d .args in
-    others-keep (fieldsOf (a .file .now) (a .line)) (a .step) (entry d) (c .match .keys3)
+    others-keep _ (fieldsOf (a .file .now) (a .line)) (a .step) (entry d) (c .match .keys3)
 
 pub keep-spec : {M : Type 1} → statement M
 keep-spec =
@@ -83,6 +89,7 @@ keep-spec =
     with-word-requires
     (λ c. search needs)
     put-node-requires-2
+    add-mark
     mark-requires
     with-phrase-requires
     (λ c. c .before .before .before .before .before .put-node .kept .1 .1 .1 .1 .1 .0)
