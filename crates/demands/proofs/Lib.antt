@@ -1,4 +1,3 @@
 pub mod Outcomes
 pub mod SentenceNumbers
 pub mod Accepted
-pub mod TidySurveyed

@@ -1,3 +1,2 @@
 pub mod Surveying
 pub mod Accepting
-pub mod Tidying

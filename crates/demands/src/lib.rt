@@ -4,14 +4,10 @@ ghost use mathlib.Core.Path.{_≡_};
 ghost use mathlib.Core.Logic.{_↔_};
 ghost use mathlib.Core.Bool.{true};
 ghost use lib.Dec.{eqb};
-ghost use mathlib.Core.List.{List};
-ghost use Prim.Native.Nat.{ℕ};
-ghost use Rattle.rules.specs.Survey.{surveyOf, sheetsFit};
+ghost use Rattle.rules.specs.Survey.{sheetsFit};
 ghost use Rattle.rules.specs.Grammar.{Fits};
-ghost use Rattle.rules.specs.Writing.{tidyOf};
 ghost use Rattle.demands.specs.Surveying.{surveying, Readable, Promised, Answered, SameOutcome};
 ghost use Rattle.demands.specs.Accepting.{ReadAsWritten};
-ghost use Rattle.demands.specs.Tidying.{TidyAlike};
 ghost use Rattle.survey.specs.declared.Surveyed.{Surveyed};
 use survey::Surveyed;
 
@@ -57,13 +53,4 @@ pub fn accepts(file: &[u8], sheet: &mut [u32], seen: &mut [u8]) -> bool
 {
     let answer = survey::survey(file, sheet, seen);
     answer.refusal == 0
-}
-
-// Demand 2: the tidy text of an accepted file is accepted, and has the same tables and sentences.
-pub fn tidy(text: &[u8], sheet: &mut [u32], seen: &mut [u8]) -> Surveyed
-    ensures alike { λ r. ⌜ ((f : List ℕ) → surveyOf f .refusal ≡ 0 → now (text .entry) ≡ tidyOf f → Readable (now (text .entry)) (now (sheet .entry)) (now (seen .entry))
-        → TidyAlike f (surveying (now (text .entry)) (now (sheet .entry)) (now (seen .entry)) r (now (sheet .exit)) (now (seen .exit)))) ⌝ }
-    ensures whole { λ r. ⌜ Promised (surveying (now (text .entry)) (now (sheet .entry)) (now (seen .entry)) r (now (sheet .exit)) (now (seen .exit))) ⌝ }
-{
-    survey::survey(text, sheet, seen)
 }

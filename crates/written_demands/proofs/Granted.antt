@@ -22,7 +22,7 @@ use Rattle.rules.proofs.WrittenExactly.{written-exactly}
 use Rattle.opening.specs.FlatLists.{edgeRecords, flatSize}
 use Rattle.writing.specs.Promise.{WrittenFlat, flattened, afterWritingFlat}
 use Rattle.demands.specs.Surveying.{Surveying, Promised}
-use Rattle.demands.proofs.TidySurveyed.{tidy-by-survey}
+use Rattle.written_demands.proofs.TidySurveyed.{tidy-by-survey}
 use Rattle.written_demands.specs.Writings.{ReadBack}
 
 -- ---- the list as records

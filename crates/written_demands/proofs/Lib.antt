@@ -1,2 +1,3 @@
+pub mod TidySurveyed
 pub mod Granted
 pub mod Alike

@@ -5,7 +5,7 @@ use mathlib.Core.List.{List}
 use lib.ListN.{take, drop}
 use Rattle.rules.specs.Writing.{tidyOf}
 use Rattle.demands.specs.Surveying.{Surveying}
-use Rattle.demands.specs.Tidying.{TidyAlike}
+use Rattle.written_demands.specs.Tidying.{TidyAlike}
 use Rattle.writing.specs.Promise.{WrittenFlat}
 
 -- a writing of the file into an output, and the survey of the bytes written: the tidy text with the rest of the output behind

@@ -1,15 +1,29 @@
-// The demands, of writings: each the promise of a function that calls them and is proved from their contracts alone. Nothing is
-// required of what is lent.
+// The demands, of writings and of surveys of what they write: each the promise of a function that calls them and is proved from
+// their contracts alone. Nothing is required of what is lent.
 ghost use mathlib.Core.Path.{_≡_};
 ghost use mathlib.Core.Logic.{_≢_};
+ghost use mathlib.Core.List.{List};
+ghost use Prim.Native.Nat.{ℕ};
 ghost use lib.ListN.{length, take};
+ghost use Rattle.rules.specs.Survey.{surveyOf};
+ghost use Rattle.rules.specs.Writing.{tidyOf};
 ghost use Rattle.rules.specs.LentBuffers.{SheetsSized, WithinLimit};
-ghost use Rattle.demands.specs.Surveying.{surveying, Promised};
+ghost use Rattle.demands.specs.Surveying.{surveying, Readable, Promised};
 ghost use Rattle.opened_demands.specs.Calls.{AllFlatSized};
 ghost use Rattle.writing.specs.Promise.{outcome, afterWritingFlat};
+ghost use Rattle.written_demands.specs.Tidying.{TidyAlike};
 ghost use Rattle.written_demands.specs.Writings.{ReadBack, SameWritten};
 use survey::Surveyed;
 use writing::Written;
+
+// Demand 2: the tidy text of an accepted file is accepted, and has the same tables and sentences.
+pub fn tidy(text: &[u8], sheet: &mut [u32], seen: &mut [u8]) -> Surveyed
+    ensures alike { λ r. ⌜ ((f : List ℕ) → surveyOf f .refusal ≡ 0 → now (text .entry) ≡ tidyOf f → Readable (now (text .entry)) (now (sheet .entry)) (now (seen .entry))
+        → TidyAlike f (surveying (now (text .entry)) (now (sheet .entry)) (now (seen .entry)) r (now (sheet .exit)) (now (seen .exit)))) ⌝ }
+    ensures whole { λ r. ⌜ Promised (surveying (now (text .entry)) (now (sheet .entry)) (now (seen .entry)) r (now (sheet .exit)) (now (seen .exit))) ⌝ }
+{
+    survey::survey(text, sheet, seen)
+}
 
 // The answer of a writing, and that of a survey of the bytes that it has written.
 pub struct ReadAgain {

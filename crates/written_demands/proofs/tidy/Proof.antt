@@ -1,7 +1,7 @@
--- `demands::tidy` meets its contract: the round trip, by what the survey's contract says.
-use Rattle.demands.proofs.TidySurveyed.{tidy-by-survey}
-use Rattle.demands.proofs.tidy.Statement.{statement}
-use Rattle.demands.proofs.tidy.Tie as tie
+-- `written_demands::tidy` meets its contract: the round trip, by what the survey's contract says.
+use Rattle.written_demands.proofs.TidySurveyed.{tidy-by-survey}
+use Rattle.written_demands.proofs.tidy.Statement.{statement}
+use Rattle.written_demands.proofs.tidy.Tie as tie
 
 survey-requires : tie.Need-survey-requires
 survey-requires c κs = tt

@@ -20,9 +20,9 @@ use Rattle.rules.proofs.SaidOfLists.{length-map}
 use Rattle.rules.proofs.Sorting.{any-sorted, length-sorted}
 use Rattle.rules.proofs.SameMeaning.{same-sentences}
 use Rattle.rules.proofs.RoundTrip.{round-trip}
 use Rattle.demands.specs.Surveying.{Surveying, Readable, Promised}
-use Rattle.demands.specs.Tidying.{TidyAlike}
 use Rattle.demands.proofs.Accepted.{handed-by-survey}
+use Rattle.written_demands.specs.Tidying.{TidyAlike}
 
 -- ---- a seen set is made of what is a member
 
