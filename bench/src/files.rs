@@ -1,12 +1,27 @@
 //! Accepted files that grow in one respect.
 
+use std::ops::RangeInclusive;
+
 use plain::generate::{corpus, Dice};
 
-const SENTENCES: usize = 2_000;
+use crate::tags::{numbered, Tag};
+
+pub const BYTES: usize = 4_000_000;
+const MOST_SENTENCES: usize = 65_535;
 const WORDS: usize = 18;
 const PHRASES: usize = 9;
 
-const TAG_TABLES: [&str; 5] = ["WORDTAG", "MORPHTAG", "NODETAG", "EDGETAG", "SECEDGETAG"];
+/// How long a tag may be, and one of morphology.
+const TAG: usize = 10;
+const MORPHOLOGY: usize = 32;
+
+const TAG_TABLES: [(&str, usize); 5] = [
+    ("WORDTAG", TAG),
+    ("MORPHTAG", MORPHOLOGY),
+    ("NODETAG", TAG),
+    ("EDGETAG", TAG),
+    ("SECEDGETAG", TAG),
+];
 
 /// The corpus without its five tables of tags: no tag is looked up.
 pub fn without_tag_tables(corpus: &[u8]) -> Vec<u8> {
@@ -26,9 +41,7 @@ pub fn shuffled_corpus(sentences: usize) -> Vec<u8> {
     begins.extend((1..corpus.len()).filter(|&place| corpus[place - 1..].starts_with(heading)));
     let ends = begins[1..].iter().copied().chain([corpus.len()]);
     let mut order: Vec<(usize, usize)> = begins.iter().copied().zip(ends).collect();
-    for last in (1..order.len()).rev() {
-        order.swap(last, dice.below(last + 1));
-    }
+    dice.shuffle(&mut order);
     let shuffled = order.iter().map(|&(begin, end)| &corpus[begin..end]);
     [&corpus[..begins[0]]]
         .into_iter()
@@ -39,48 +52,62 @@ pub fn shuffled_corpus(sentences: usize) -> Vec<u8> {
 
 /// The seven tables with this many rows each.
 pub fn tables(rows: usize) -> Vec<u8> {
-    table_lines(rows).into_bytes()
+    table_lines(1..=rows as i32, numbered).into_bytes()
 }
 
-fn table_lines(rows: usize) -> String {
-    let mut file = String::from("#FORMAT 3\n#BOT ORIGIN\n");
-    for id in 1..=rows {
-        file += &format!("{id}\tpart{id}.txt\n");
-    }
-    file += "#EOT ORIGIN\n#BOT EDITOR\n";
-    for id in 1..=rows {
-        file += &format!("{id}\tlogin{id}\tEditor Number {id}\n");
-    }
-    file += "#EOT EDITOR\n";
-    for name in TAG_TABLES {
+/// The format line and the seven tables. Tags have these ids; `UNKNOWN` has -1, `--` has 0.
+pub fn table_lines(ids: RangeInclusive<i32>, tag: Tag) -> String {
+    let mut file = format!("#FORMAT 3\n{}", origins_and_editors(*ids.end()));
+    for (name, longest) in TAG_TABLES {
         let flag = if name == "WORDTAG" { "Y\t" } else { "" };
         file += &format!("#BOT {name}\n");
-        for id in 1..=rows {
-            file += &format!("{id}\tT{id}\t{flag}the use of T{id}\n");
+        for id in ids.clone() {
+            let tag = match id {
+                -1 => "UNKNOWN".to_string(),
+                0 => "--".to_string(),
+                row => tag(row as usize, longest),
+            };
+            file += &format!("{id}\t{tag}\t{flag}the use of {tag}\n");
         }
         file += &format!("#EOT {name}\n");
     }
     file
 }
 
-/// Sentences that use every row of the seven tables equally often.
+fn origins_and_editors(rows: i32) -> String {
+    let mut tables = String::from("#BOT ORIGIN\n");
+    for id in 1..=rows {
+        tables += &format!("{id}\tpart{id}.txt\n");
+    }
+    tables += "#EOT ORIGIN\n#BOT EDITOR\n";
+    for id in 1..=rows {
+        tables += &format!("{id}\tlogin{id}\tEditor Number {id}\n");
+    }
+    tables + "#EOT EDITOR\n"
+}
+
+/// Sentences that use every row of the tables equally often.
 pub fn with_rows(rows: usize) -> Vec<u8> {
-    let mut file = table_lines(rows);
+    citing(rows, numbered)
+}
+
+/// Sentences that use every row of tables with such tags equally often.
+pub fn citing(rows: usize, tag: Tag) -> Vec<u8> {
     let mut dice = Dice::new(1997);
-    for number in 1..=SENTENCES {
-        begin(&mut file, number, dice.between(1, rows));
+    with_sentences(table_lines(1..=rows as i32, tag), || {
+        let mut nodes = String::new();
         for node in 0..WORDS + PHRASES {
-            let [tag, morphology, edge] = [(); 3].map(|()| dice.between(1, rows));
-            let columns = format!("T{tag}\tT{morphology}\tT{edge}");
-            file += &match node.checked_sub(WORDS) {
-                None => format!("Wort{tag}\t{columns}\t500\n"),
-                Some(8) => format!("#508\tT{tag}\tT{morphology}\t--\t0\n"),
+            let [first, morphology, edge] =
+                [TAG, MORPHOLOGY, TAG].map(|longest| tag(dice.between(1, rows), longest));
+            let columns = format!("{first}\t{morphology}\t{edge}");
+            nodes += &match node.checked_sub(WORDS) {
+                None => format!("Wort{node}\t{columns}\t500\n"),
+                Some(8) => format!("#508\t{first}\t{morphology}\t--\t0\n"),
                 Some(phrase) => format!("#{}\t{columns}\t508\n", 500 + phrase),
             };
         }
-        end(&mut file, number);
-    }
-    file.into_bytes()
+        (dice.between(1, rows), nodes)
+    })
 }
 
 /// Sentences of this many words.
@@ -122,23 +149,20 @@ pub fn with_ignored_lines(length: usize) -> Vec<u8> {
     with_lines(&format!("Wort\tT1\tT1\tT1\t500\n{ignored}"), WORDS)
 }
 
-/// Sentences of one line again and again, about as many bytes whatever the line is.
+/// Sentences of one line again and again, under one phrase.
 fn with_lines(line: &str, words: usize) -> Vec<u8> {
-    let mut file = table_lines(20);
-    let sentences = 4_000_000 / (line.len() * words);
-    for number in 1..=sentences {
-        begin(&mut file, number, 1);
-        file += &line.repeat(words);
-        file += "#500\tT1\tT1\t--\t0\n";
-        end(&mut file, number);
+    let nodes = line.repeat(words) + "#500\tT1\tT1\t--\t0\n";
+    with_sentences(table_lines(1..=20, numbered), || (1, nodes.clone()))
+}
+
+/// A file with sentences behind its tables, about as many bytes whatever a sentence is. Each
+/// has an id, for editor and origin, and the lines of its nodes.
+pub fn with_sentences(mut file: String, mut sentence: impl FnMut() -> (usize, String)) -> Vec<u8> {
+    let mut number = 0;
+    while file.len() < BYTES && number < MOST_SENTENCES {
+        let (id, nodes) = sentence();
+        number += 1;
+        file += &format!("#BOS {number} {id} 847184076 {id}\n{nodes}#EOS {number}\n");
     }
     file.into_bytes()
-}
-
-fn begin(file: &mut String, number: usize, id: usize) {
-    *file += &format!("#BOS {number} {id} 847184076 {id}\n");
-}
-
-fn end(file: &mut String, number: usize) {
-    *file += &format!("#EOS {number}\n");
 }

@@ -13,9 +13,10 @@ from typing import Any, Dict, Iterator, List, Optional
 from .compare import compare
 from .corpus import Corpus
 from .files import STANDARD_INPUT, Progress, Unusable, aligned, corpus_of, found, keep_apart, prepare, steady_streams, write_out
+from .gallery import entry_of
 from .library import LibraryMissing
 from .refusals import RULES, NoSuchSentence, Refused, shown
-from .told import answer_of, counted, example_lines, example_of, node_row, rescued, sentence_dictionary, survey_line
+from .told import answer_of, counted, example_dictionary, example_lines, node_row, rescued, sentence_dictionary, survey_line
 
 ACCEPTED, REFUSED, UNUSABLE = 0, 1, 2
 
@@ -178,12 +179,12 @@ def run_explain(options: argparse.Namespace) -> int:
     number = options.number
     if number not in RULES:
         raise Unusable(f"there is no refusal {number}; they go from 1 to {max(RULES)}")
-    rule = RULES[number]
+    rule, entry = RULES[number], entry_of(number)
     if options.json:
-        put_json({"refusal": number, **rule._asdict(), "example": example_of(number)})
+        put_json({"refusal": number, **rule._asdict(), **example_dictionary(entry)})
     else:
         print(f"Refusal {number}: {rule.meaning}.\n")
-        print("\n".join(example_lines(number)))
+        print("\n".join(example_lines(entry)))
         print(f"\n{rule.cure}")
     return ACCEPTED
 

@@ -43,14 +43,6 @@ RULES: dict[int, Rule] = {
     25: Rule("the tidy text has no room", "Lend 512 bytes more than the file has; if the file limit is passed, split the file."),
 }
 
-#: Examples of the numbers that no small file gets.
-CALLS: dict[int, str] = {
-    1: "a program that lends 10,758 numbers for the table sheet",
-    2: "a file of 268,435,457 bytes, whatever they are",
-    24: "sentence 8 of examples/ja.export, which has sentence 7 alone",
-    25: "125 bytes of room for the tidy text of examples/ja.export, which has 126",
-}
-
 
 def shown(text: str) -> str:
     """A text as it can be printed: control bytes are written out.

@@ -7,8 +7,8 @@ import sys
 from typing import Any, Dict, List
 
 from .corpus import Corpus
-from .home import GALLERY
-from .refusals import CALLS, shown
+from .gallery import Entry
+from .refusals import shown
 from .sentence import Node, Sentence, Word
 
 RED, GREEN = "31", "32"
@@ -84,24 +84,28 @@ def rescued(corpus: Corpus) -> Dict[str, Any]:
     }  # fmt: skip
 
 
-def example_of(number: int) -> str:
-    """The gallery's file for a number; of a number that no small file gets, an example in words."""
-    return CALLS.get(number) or (GALLERY / f"{number:02}.export").read_bytes().decode("latin-1")
+def example_dictionary(entry: Entry) -> Dict[str, Any]:
+    return {"example": entry.file if entry.text is None else entry.text, "call": entry.call, "why": entry.why}
 
 
-def example_lines(number: int) -> List[str]:
-    """The example as it is printed; of a long file the beginning.
+def example_lines(entry: Entry) -> List[str]:
+    """An entry of the gallery as it is printed; of a long file the beginning.
 
-    >>> example_lines(7)
+    >>> from hraunlik.gallery import entry_of
+    >>> example_lines(entry_of(7))
     ['For example examples/gallery/07.export:', '', '    #FORMAT']
+    >>> example_lines(entry_of(24))[:4]
+    ['For example examples/gallery/24.export, open 1:', '', '    #FORMAT 3', '    #BOT ORIGIN']
+    >>> example_lines(entry_of(2))
+    ['For example 268435457 zero bytes, survey:', '', 'A file has at most 268,435,456 bytes, and of a longer one none is looked at.']
     """
-    example = example_of(number)
-    if number in CALLS:
-        return [f"For example {example}."]
-    lines = example.split("\n")
+    if entry.text is None:
+        return [f"For example {entry.file}, {entry.call}:", "", entry.why]
+    lines = entry.text.split("\n")
     if lines[-1] == "":
         lines.pop()
     if len(lines) > 14:
         lines[9:] = [f".. ({len(lines)} lines)"]
-    heading = f"For example examples/gallery/{number:02}.export:"
-    return [heading, "", *(f"    {shown(line[:72])}" for line in lines or ["(an empty file)"])]
+    call, why = ("", []) if entry.call == "survey" else (f", {entry.call}", ["", entry.why])
+    heading = f"For example examples/gallery/{entry.file}{call}:"
+    return [heading, "", *(f"    {shown(line[:72])}" for line in lines or ["(an empty file)"]), *why]

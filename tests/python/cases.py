@@ -3,6 +3,8 @@
 import subprocess
 from pathlib import Path
 
+from hraunlik.gallery import surveys
+
 ROOT = Path(__file__).resolve().parents[2]
 GALLERY = ROOT / "examples" / "gallery"
 JA = (ROOT / "examples" / "ja.export").read_bytes()
@@ -12,11 +14,9 @@ UNTIDY = GALLERY / "untidy.export"
 
 
 def gallery():
-    """File, answer and reason of each row."""
-    for line in (GALLERY / "gallery.tsv").read_text().splitlines():
-        if not line.startswith("#"):
-            name, answer, why = line.split("\t")
-            yield GALLERY / name, tuple(map(int, answer.split())), why
+    """File, survey's answer and reason of each row of gallery.tsv."""
+    for entry in surveys():
+        yield GALLERY / entry.file, entry.answer, entry.why
 
 
 def printed():

@@ -1,0 +1,99 @@
+//! The tags of a table's rows, which differ in one way or another.
+
+/// The tag of a row, counted from 1 to 256, in a table whose tags have at most so many bytes.
+pub type Tag = fn(row: usize, longest: usize) -> String;
+
+/// What the tags of a table of 256 rows have in common.
+pub const TAGS: [(&str, Tag); 8] = [
+    ("numbered tags", numbered),
+    ("tags of two bytes", shortest),
+    ("tags alike to the hints", alike_to_the_hints),
+    ("tags unlike in the first two bytes", unlike_in_front),
+    ("tags unlike in two bytes inside", unlike_inside),
+    ("tags unlike in the last two bytes", unlike_at_the_end),
+    ("tags that are anagrams", anagrams),
+    ("anagrams with the same ends", anagrams_inside),
+];
+
+pub fn numbered(row: usize, _: usize) -> String {
+    format!("T{row}")
+}
+
+/// Two letters, of which no two rows have the same.
+pub fn shortest(row: usize, _: usize) -> String {
+    lettered(row, 2, 0)
+}
+
+fn unlike_in_front(row: usize, longest: usize) -> String {
+    lettered(row, longest, 0)
+}
+
+/// Tags that all have the first of the 512 places for hints, as `table_sheet::hints` makes it of
+/// a tag of eight bytes or more: found by trying, one of some 512 has it.
+fn alike_to_the_hints(row: usize, longest: usize) -> String {
+    let alike = (0..).map(|rank| spelled(rank, longest));
+    let mut alike = alike.filter(|tag| hint_place(tag.as_bytes()) == 0);
+    alike.nth(row - 1).expect("there is always one more")
+}
+
+fn hint_place(tag: &[u8]) -> u64 {
+    let number = |bytes: &[u8]| u64::from_le_bytes(bytes.try_into().expect("eight bytes"));
+    let (front, back) = (number(&tag[..8]), number(&tag[tag.len() - 8..]));
+    let number = front ^ (back << 3);
+    let folded = (number ^ (number >> 32)) & 0xffff_ffff;
+    (folded * 1_150_506_051 / 8_388_608) % 512
+}
+
+/// A rank in letters, in front of others.
+fn spelled(mut rank: usize, length: usize) -> String {
+    let letters = (0..length).map(|_| {
+        let letter = char::from(b'a' + (rank % 26) as u8);
+        rank /= 26;
+        letter
+    });
+    letters.collect()
+}
+
+fn unlike_inside(row: usize, longest: usize) -> String {
+    lettered(row, longest, longest / 2 - 1)
+}
+
+fn unlike_at_the_end(row: usize, longest: usize) -> String {
+    lettered(row, longest, longest - 2)
+}
+
+/// The same bytes in another order for each row.
+fn anagrams(row: usize, longest: usize) -> String {
+    centred(&permuted("ABCDEFGHIJ", row * 14_173), longest)
+}
+
+/// Anagrams whose first two and last two bytes are the same too.
+fn anagrams_inside(row: usize, longest: usize) -> String {
+    centred(&permuted("ABCDEF", row * 2), longest)
+}
+
+/// As many bytes as a tag may have, all alike but two at a place, which tell the row.
+fn lettered(row: usize, length: usize, place: usize) -> String {
+    let letter = |digit: usize| char::from(b'a' + digit as u8);
+    let (high, low) = (letter((row - 1) / 16), letter((row - 1) % 16));
+    let (before, behind) = ("T".repeat(place), "T".repeat(length - place - 2));
+    format!("{before}{high}{low}{behind}")
+}
+
+fn centred(letters: &str, length: usize) -> String {
+    let before = (length - letters.len()) / 2;
+    let (before, behind) = ("T".repeat(before), length - before - letters.len());
+    format!("{before}{letters}{}", "T".repeat(behind))
+}
+
+/// The order of these letters that has a rank among all their orders; ranks begin anew behind
+/// the last.
+fn permuted(letters: &str, mut rank: usize) -> String {
+    let mut left: Vec<char> = letters.chars().collect();
+    let mut order = String::new();
+    while !left.is_empty() {
+        order.push(left.remove(rank % left.len()));
+        rank /= left.len() + 1;
+    }
+    order
+}
