@@ -1,5 +1,7 @@
 //! The tags of a table's rows, which differ in one way or another.
 
+use std::sync::OnceLock;
+
 /// The tag of a row, counted from 1 to 256, in a table whose tags have at most so many bytes.
 pub type Tag = fn(row: usize, longest: usize) -> String;
 
@@ -29,11 +31,18 @@ fn unlike_in_front(row: usize, longest: usize) -> String {
 }
 
 /// Tags that all have the first of the 512 places for hints, as `table_sheet::hints` makes it of
-/// a tag of eight bytes or more: found by trying, one of some 512 has it.
+/// a tag of eight bytes or more.
 fn alike_to_the_hints(row: usize, longest: usize) -> String {
-    let alike = (0..).map(|rank| spelled(rank, longest));
-    let mut alike = alike.filter(|tag| hint_place(tag.as_bytes()) == 0);
-    alike.nth(row - 1).expect("there is always one more")
+    static FOUND: [OnceLock<Vec<String>>; 2] = [OnceLock::new(), OnceLock::new()];
+    let found = &FOUND[usize::from(longest > 10)];
+    found.get_or_init(|| found_alike(longest))[row - 1].clone()
+}
+
+/// Found by trying: one of some 512 has that place.
+fn found_alike(longest: usize) -> Vec<String> {
+    let tags = (0..).map(|rank| spelled(rank, longest));
+    let alike = tags.filter(|tag| hint_place(tag.as_bytes()) == 0);
+    alike.take(256).collect()
 }
 
 fn hint_place(tag: &[u8]) -> u64 {
