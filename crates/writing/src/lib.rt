@@ -2,10 +2,10 @@
 mod found;
 
 ghost use mathlib.Core.Path.{_≡_};
-ghost use Prim.Native.Nat.{_*_, _≤_};
+ghost use Prim.Native.Nat.{_+_, _*_, _≤_};
 ghost use lib.ListN.{length, replicate};
 ghost use Rattle.rules.specs.Lists.{Each};
-ghost use Rattle.rules.specs.Numbers.{fileLimit, edgeLimit};
+ghost use Rattle.rules.specs.Numbers.{fileLimit, rowLimit, edgeLimit};
 ghost use Rattle.rules.specs.Index.{indexSize};
 ghost use Rattle.rules.specs.Sheets.{sentenceSheetSize};
 ghost use Rattle.table_sheet.specs.SheetRows.{tablesIn};
@@ -18,6 +18,9 @@ ghost use Rattle.writing.specs.Ready.{Entry};
 ghost use Rattle.writing.specs.Promise.{outcome, afterWritingFlat, WrittenBy};
 use found::print_sentences;
 use steps::refusals;
+
+// A tidy text is at most so much longer than its file: two bytes for each row of ORIGIN.
+const TIDY_ROOM: usize = 2 * table_sheet::ROW_LIMIT;
 
 // The answer: refusal (0 if granted), place, bytes written.
 pub struct Written {
@@ -53,7 +56,7 @@ fn print_file(
 }
 
 // The text is measured before its first byte is written.
-fn write_read(
+fn write_measured(
     file: &[u8],
     output: &mut [u8],
     tables: &[u32],
@@ -85,6 +88,33 @@ fn write_read(
     Written {
         refusal: 0,
         place,
+        length: length as u32,
+    }
+}
+
+// An output and a limit that have room for every tidy text of a file of this length: nothing has to be measured.
+fn write_read(
+    file: &[u8],
+    output: &mut [u8],
+    tables: &[u32],
+    begins: &[u32],
+    sheet: &mut [u32],
+    edges: &mut [u32],
+) -> Written
+    requires { ⌜ (length (now file) ≤ fileLimit) × WholeSheet (now file) (now tables) × Each (Entry (now file)) (now begins) × (length (now begins) ≤ indexSize) × (now sheet ≡ replicate sentenceSheetSize 0) × (now edges ≡ replicate (edgeLimit * edgeWidth) 0) × (length (partsText (now file) (tablesIn (now file) (now tables)) (now begins)) ≤ length (now file) + 2 * rowLimit) ⌝ }
+    ensures { λ r. ⌜ WrittenBy (now (file .entry)) (partsText (now (file .entry)) (tablesIn (now (file .entry)) (now (tables .entry))) (now (begins .entry))) (now (output .entry)) r (now (output .exit)) × (now (sheet .exit) ≡ replicate sentenceSheetSize 0) × (now (edges .exit) ≡ replicate (edgeLimit * edgeWidth) 0) ⌝ }
+{
+    let most = file.len() + TIDY_ROOM;
+    if most > output.len() {
+        return write_measured(file, output, tables, begins, sheet, edges);
+    }
+    if most > survey::FILE_LIMIT {
+        return write_measured(file, output, tables, begins, sheet, edges);
+    }
+    let length = print_file(file, tables, begins, sheet, edges, output);
+    Written {
+        refusal: 0,
+        place: file.len() as u32,
         length: length as u32,
     }
 }

@@ -1,12 +1,14 @@
 -- `writing::write_flat` meets its contract: a wrong size, a file too long, a file that is refused, or what its text allows.
 use borrow.Author.Needs.{needs}
 use borrow.Author.Tests.{not-true, not-false, lt-leb, le-leb}
-use Prim.Native.Nat.{ℕ}
-use mathlib.Core.Path.{_≡_, refl, sym, ap, _∙_}
+use Prim.Native.Nat.{ℕ, _+_, _*_, _≤_}
+use mathlib.Core.Path.{_≡_, refl, sym, ap, _∙_, subst}
 use mathlib.Core.Bool.{true}
 use mathlib.Core.List.{List}
 use lib.ListN.{length, length-replicate}
+use Rattle.rules.specs.Numbers.{rowLimit}
 use Rattle.rules.specs.Survey.{surveyOf, fileFits}
+use Rattle.rules.specs.Writing.{tidyOf}
 use Rattle.rules.specs.Index.{indexSize}
 use Rattle.reading.specs.declared.Read.{Read}
 use Rattle.survey.proofs.Lent.{fitting}
@@ -16,6 +18,9 @@ use Rattle.writing.proofs.WaysOut.{Sized, sizes, unfit, too-long, refus
 use Rattle.writing.proofs.ReadFiles.{answer-is, tables-are, seen-is, told-tables, begins-ready, begins-few, text-is}
 use Rattle.writing.proofs.write_flat.Statement.{statement}
 use Rattle.writing.proofs.write_flat.Tie as tie
+
+tidy-room : (f : List ℕ) → surveyOf f .refusal ≡ 0 → length (tidyOf f) ≤ length f + 2 * rowLimit
+tidy-room f e = ?
 
 abbrev start : tie.After-buffers-fit → tie.Start
 start b = b .before .before .before .before .before .before .before .before .before .before .before
@@ -68,6 +73,9 @@ module _ (k : Read-then) where
   fits : fileFits file ≡ true
   fits = le-leb (length file) 268435456 (short .if2 .left)
 
+  accepted-by : whole .read-file .result .refusal ≡ 0 → surveyOf file .refusal ≡ 0
+  accepted-by e = sym (ap (λ (x : Read). x .refusal) (answer-is file fits _ _ _ _ _ (whole .read-file .ensures))) ∙ e
+
 returns-3 : tie.Need-returns-3
 returns-3 c =
     let k = c .before in
@@ -81,16 +89,19 @@ returns-3 c =
 
 write-read-requires : tie.Need-write-read-requires
 write-read-requires c κs =
-    let k = c .before .before .before .before .before .before in
+    let g = c .before .before .before .before .before in
+    let k = g .before in
     let e = short k .before in
     let f = whole k .read-file .ensures in
-    let long = length-replicate {A = ℕ} indexSize 0 in (
+    let long = length-replicate {A = ℕ} indexSize 0 in
+    let accepted = accepted-by k (g .if3 .left) in (
       short k .if2 .left,
       told-tables (file k) (fits k) _ _ _ _ _ f,
       begins-ready (file k) (fits k) _ _ _ _ _ f long,
       begins-few (file k) (fits k) _ _ _ _ _ f long,
       cleared (page k .clear .ensures) (all-sized e .sheet-size),
       cleared (list k .clear2 .ensures) (all-sized e .edges-size),
+      subst (λ (t : List ℕ). length t ≤ length (file k) + 2 * rowLimit) (text-is (file k) (fits k) _ _ _ _ _ f long accepted) (tidy-room (file k) accepted),
     )
 
 returns-4 : tie.Need-returns-4
@@ -100,9 +111,8 @@ returns-4 c =
     let k = g .before in
     let e = short k .before in
     let f = whole k .read-file .ensures in
-    let answer = answer-is (file k) (fits k) _ _ _ _ _ f in
     let long = length-replicate {A = ℕ} indexSize 0 in
-    let accepted : surveyOf (file k) .refusal ≡ 0 = sym (ap (λ (x : Read). x .refusal) answer) ∙ g .if3 .left in
+    let accepted = accepted-by k (g .if3 .left) in
     let done = w .write-read .ensures in
     written _ _ _ _ _ _ _ (sized e) _ _ _ _ (fits k) (tables-are (file k) (fits k) _ _ _ _ _ f) (seen-is (file k) (fits k) _ _ _ _ _ f)
     (done .1) (done .2) accepted _ _ (text-is (file k) (fits k) _ _ _ _ _ f long accepted) (done .0)
