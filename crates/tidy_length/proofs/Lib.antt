@@ -1,0 +1,4 @@
+pub mod ColumnRoom
+pub mod TakenRoom
+pub mod LinesHaveRoom
+pub mod RowsHaveRoom
