@@ -90,7 +90,7 @@ openRoom s = length (headingLine s) + nodesRoom (s .words) + nodesRoom (s .phras
 abbrev pub sentenceRoom : Sentence → ℕ
 sentenceRoom s = openRoom s + length (keywordLine (bytes "#EOS" ∷ digitsOf (s .heading .number) ∷ []))
 
-abbrev numberHanded : Handed → ℕ
+abbrev pub numberHanded : Handed → ℕ
 numberHanded h = sentenceNumberOf (h .sentence)
 
 abbrev pub handedRoom : List Handed → ℕ
