@@ -7,3 +7,4 @@ pub mod ReadingRoom
 pub mod PrintedTables
 pub mod PrintedSentences
 pub mod TidyRoom
+pub mod GluedSigns

@@ -1,20 +1,17 @@
 -- A line that is taken has room for its tidy line: keyword lines, headings, words and phrases. From the columns and the comment
 -- that the line says.
-use Prim.Native.Nat.{ℕ, suc, _+_, _≤_}
+use Prim.Native.Nat.{ℕ, suc, _≤_}
 use native.Mathlib.Omega.{arith}
-use mathlib.Core.Path.{_≡_, refl, sym, ap, _∙_, subst}
-use mathlib.Core.Logic.{inl, inr}
-use mathlib.Core.Bool.{Bool, true, false}
-use mathlib.Core.List.{List, [], _∷_, _++_, map}
+use mathlib.Core.Path.{_≡_, refl, ap, subst}
+use mathlib.Core.Bool.{not}
+use mathlib.Core.List.{List, [], _∷_, _++_}
 use lib.ListN.{length}
-use Rattle.rules.specs.Lists.{bytes, joined}
-use Rattle.rules.specs.Texts.{Text, noText}
-use Rattle.rules.specs.Sentences.{Node, Heading, Sentence}
-use Rattle.rules.specs.Phases.{begun}
-use Rattle.rules.specs.Tidy.{digitsOf, idDigits, space, tab, keywordLine, commented, nodeName, nodeLine, headingLine, parted}
-use Rattle.rules.specs.GrammarColumns.{Begins, no-column, one-column, Columns, Parted}
+use Rattle.rules.specs.Lists.{pick, bytes, empty}
+use Rattle.rules.specs.Sentences.{Node, Sentence}
+use Rattle.rules.specs.Tidy.{digitsOf, idDigits, space, tab, keywordLine, commented, nodeName, nodeLine, headingLine}
+use Rattle.rules.specs.GrammarColumns.{Begins, no-column, Columns, Parted}
 use Rattle.rules.specs.AsWritten.{LineSaid, HeadSaid, columnsBehind, WordSaid, PhraseSaid}
-use Rattle.tidy_length.proofs.ColumnRoom.{columnsRoom, columns-append, parted-length, begins-room, begins-given, begins-parted, comment-room, said-room}
+use Rattle.tidy_length.proofs.ColumnRoom.{columns-append, parted-length, begins-room, begins-given, begins-parted, comment-room, said-room}
 
 -- ---- keyword lines
 
@@ -30,14 +27,11 @@ node-room l c n e s =
     omega (arith, parted-length tab (nodeName n) (columnsBehind n ++ commented (n .comment)), columns-append (columnsBehind n) (commented (n .comment)), said-room l c (columnsBehind n) (n .comment) s)
 
 name-given : (n : Node) → 1 ≤ length (n .word .bytes) → nodeName n ≡ n .word .bytes
-name-given n h = by (n .word) h refl
+name-given n h = by (n .word .bytes) h
   where
-    by : (t : Text) → 1 ≤ length (t .bytes) → n .word ≡ t → nodeName n ≡ n .word .bytes
-    by t h e = by-bytes (t .bytes) h (ap (λ (x : Text). x .bytes) e)
-      where
-        by-bytes : (xs : List ℕ) → 1 ≤ length xs → n .word .bytes ≡ xs → nodeName n ≡ n .word .bytes
-        by-bytes [] h e = absurd (omega arith)
-        by-bytes (b ∷ bs) h e = rw e
+    by : (xs : List ℕ) → 1 ≤ length xs → pick (not (empty xs)) xs (35 ∷ digitsOf (n .number)) ≡ xs
+    by [] h = absurd (omega arith)
+    by (b ∷ bs) h = refl
 
 pub word-room : (n : Node) (l : List ℕ) → WordSaid n l → length (nodeLine n) ≤ suc (length l)
 word-room n l s = node-room l (n .word .bytes) n (name-given n (begins-given (s .begins))) s
@@ -52,7 +46,6 @@ nothing-before no-column = refl
 
 pub head-room : (s : Sentence) (l : List ℕ) → HeadSaid (s .heading) l → length (headingLine s) ≤ suc (length l)
 head-room s l h =
-    let its = bytes "#BOS" ∷ digitsOf (s .heading .number) ∷ idDigits (s .heading .editor1) ∷ digitsOf (s .heading .date) ∷ digitsOf (s .heading .origin) ∷ [] in
     let p : Parted (h .comment .rest) = subst Parted (nothing-before (h .comment .begins)) (begins-parted (h .columns)) in
     let same-rest : length (h .rest) ≡ length (h .comment .rest) = ap length (nothing-before (h .comment .begins)) in
     omega (

@@ -1,12 +1,12 @@
 -- The tidy text of the sentences handed out has as many bytes as were taken for them. Node by node; the order of phrases and of
 -- sentences doesn't count, nor do places.
-use Prim.Native.Nat.{ℕ, suc, _+_, _≤_}
+use Prim.Native.Nat.{ℕ}
 use native.Mathlib.Omega.{arith}
-use mathlib.Core.Path.{_≡_, refl, sym, ap, _∙_}
+use mathlib.Core.Path.{_≡_, refl, ap, _∙_}
 use mathlib.Core.List.{List, [], _∷_, _++_, map}
 use lib.ListN.{length, length-append}
 use Rattle.rules.specs.Lists.{bytes, joined, sorted}
-use Rattle.rules.specs.Sentences.{Edge, Node, Sentence}
+use Rattle.rules.specs.Sentences.{Node, Sentence}
 use Rattle.rules.specs.Reading.{Handed}
 use Rattle.rules.specs.Meaning.{bareEdge, bareNode, nodeNumber, sentenceNumberOf, meantSentence, meantSentences}
 use Rattle.rules.specs.Tidy.{digitsOf, tabbedLine, keywordLine, commented, nodeName, edgeColumns, nodeLine, headingLine, sentenceText}

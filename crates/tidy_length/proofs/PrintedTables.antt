@@ -1,24 +1,24 @@
--- The tidy text of kept tables has no more bytes than were taken for them, and two for each ORIGIN row, of which there are at most
--- 256. Row by row; the order of the rows doesn't count.
+-- The tidy text of kept tables has no more bytes than were taken for them, and two for each ORIGIN row with a comment; of these there
+-- are at most 256. Row by row; the order of the rows doesn't count.
 use Prim.Native.Nat.{ℕ, zero, suc, _+_, _*_, _≤_}
 use native.Mathlib.Omega.{arith}
-use mathlib.Core.Path.{_≡_, refl, sym, ap, _∙_, subst}
+use mathlib.Core.Path.{_≡_, refl, ap, _∙_}
 use mathlib.Core.Bool.{Bool, true, false, not, false≢true}
 use mathlib.Core.Option.{Option, none, some}
 use mathlib.Core.List.{List, [], _∷_, _++_, map}
 use lib.ListN.{length, length-append}
 use borrow.Author.Tests.{ne-eqb}
-use Rattle.rules.specs.Lists.{bytes, empty, joined, sorted, Each}
-use Rattle.rules.specs.Texts.{Text}
+use Rattle.rules.specs.Lists.{pick, bytes, empty, joined, sorted, Each}
+use Rattle.rules.specs.Texts.{Text, given}
 use Rattle.rules.specs.Numbers.{rowLimit}
-use Rattle.rules.specs.Tables.{Tables, Row, origins}
+use Rattle.rules.specs.Tables.{Tables, Row, origins, table, rowsOf}
 use Rattle.rules.specs.Meaning.{bareRow, rowId, meantRows, byId, meantTables}
 use Rattle.rules.specs.Tidy.{tab, idDigits, keywordLine, commented, flagged, secondText, rowLine, tableName, tableText, tablesText}
 use Rattle.rules.proofs.Sorting.{total, total-sorted}
 use Rattle.rules.proofs.RowsKept.{RowOwn, RowsKept}
 use Rattle.rules.proofs.Kept.{TableKept, TablesKept}
 use Rattle.tidy_length.proofs.ColumnRoom.{columnsRoom, columns-append, parted-length, textRoom}
-use Rattle.tidy_length.proofs.TakenRoom.{total-map, total-within, joined-length, noteRoom, rowRoom, rowsRoom, namedRoom, tableRoom, tablesRoom}
+use Rattle.tidy_length.proofs.TakenRoom.{total-map, total-within, total-few, joined-length, noteRoom, rowRoom, rowsRoom, namedRoom, tableRoom, tablesRoom}
 
 -- ---- one row
 
@@ -26,20 +26,23 @@ text-given : (xs : List ℕ) → not (empty xs) ≡ true → textRoom xs ≡ suc
 text-given [] e = absurd (false≢true e)
 text-given (b ∷ bs) e = refl
 
--- %% is parted from its texts by two bytes
-note-printed : (t : Text) → columnsRoom (commented t) ≤ noteRoom (t .bytes) + 2
+-- the two bytes that part the %% of an ORIGIN row from its texts
+abbrev pub signRoom : Row → ℕ
+signRoom r = pick (given (r .second)) 2 0
+
+note-printed : (t : Text) → columnsRoom (commented t) ≤ noteRoom (t .bytes) + pick (given t) 2 0
 note-printed t = by (t .bytes)
   where
-    by : (xs : List ℕ) → columnsRoom (commented (record { start = 0; bytes = xs })) ≤ noteRoom xs + 2
+    by : (xs : List ℕ) → columnsRoom (commented (record { start = 0; bytes = xs })) ≤ noteRoom xs + pick (not (empty xs)) 2 0
     by [] = omega arith
     by (b ∷ bs) = omega arith
 
 -- what a row of the n-th table may have more than was taken for it
-abbrev glued : ℕ → ℕ
-glued zero = 2
-glued (suc n) = 0
+abbrev glued : ℕ → Row → ℕ
+glued zero r = signRoom r
+glued (suc n) r = 0
 
-origin-printed : (r : Row) → RowOwn 0 (bareRow r) → length (rowLine 0 r) ≤ rowRoom 0 r + 2
+origin-printed : (r : Row) → RowOwn 0 (bareRow r) → length (rowLine 0 r) ≤ rowRoom 0 r + signRoom r
 origin-printed r k =
     omega (
       arith,
@@ -60,13 +63,13 @@ other-printed n r k =
     parted-length tab its (r .first .bytes ∷ flagged (suc n) r ++ secondText (suc n) r) ∙ ap (λ (xs : List (List ℕ)). columnsRoom (its ∷ r .first .bytes ∷ flagged (suc n) r ++ xs)) own in
     omega (arith, columns-append (flagged (suc n) r) (r .second .bytes ∷ []), text-given (r .second .bytes) (second-given n r k))
 
-row-printed : (n : ℕ) (r : Row) → RowOwn n (bareRow r) → length (rowLine n r) ≤ rowRoom n r + glued n
+row-printed : (n : ℕ) (r : Row) → RowOwn n (bareRow r) → length (rowLine n r) ≤ rowRoom n r + glued n r
 row-printed zero r k = origin-printed r k
 row-printed (suc n) r k = other-printed n r k
 
 -- ---- the rows of a table
 
-each-printed : (n : ℕ) (done rs : List Row) → RowsKept n done (map bareRow rs) → Each (λ (r : Row). length (rowLine n r) ≤ rowRoom n r + glued n) rs
+each-printed : (n : ℕ) (done rs : List Row) → RowsKept n done (map bareRow rs) → Each (λ (r : Row). length (rowLine n r) ≤ rowRoom n r + glued n r) rs
 each-printed n done [] k = tt
 each-printed n done (r ∷ rs) k = (row-printed n r (k .0 .own), each-printed n (done ++ (bareRow r ∷ [])) rs (k .1))
 
@@ -79,13 +82,32 @@ rows-few n done (r ∷ rs) k h =
 abbrev rowsPrinted : ℕ → List Row → ℕ
 rowsPrinted n rs = total rowId (λ (r : Row). length (rowLine n r)) rs
 
-origins-printed : (rs : List Row) → RowsKept 0 [] (map bareRow rs) → rowsPrinted 0 rs ≤ rowsRoom 0 rs + 2 * rowLimit
-origins-printed rs k =
-    omega (arith, total-within rowId (λ (r : Row). length (rowLine 0 r)) (rowRoom 0) 2 rs (each-printed 0 [] rs k), rows-few 0 [] rs k (omega arith))
+-- of all its rows
+abbrev pub signsRoom : List Row → ℕ
+signsRoom rs = total rowId signRoom rs
+
+origins-printed : (rs : List Row) → RowsKept 0 [] (map bareRow rs) → rowsPrinted 0 rs ≤ rowsRoom 0 rs + signsRoom rs
+origins-printed rs k = total-within rowId (λ (r : Row). length (rowLine 0 r)) (rowRoom 0) signRoom rs (each-printed 0 [] rs k)
 
 others-printed : (n : ℕ) (rs : List Row) → RowsKept (suc n) [] (map bareRow rs) → rowsPrinted (suc n) rs ≤ rowsRoom (suc n) rs
 others-printed n rs k =
-    omega (arith, total-within rowId (λ (r : Row). length (rowLine (suc n) r)) (rowRoom (suc n)) 0 rs (each-printed (suc n) [] rs k))
+    omega (
+      arith,
+      total-within rowId (λ (r : Row). length (rowLine (suc n) r)) (rowRoom (suc n)) (λ (r : Row). 0) rs (each-printed (suc n) [] rs k),
+      total-few rowId (λ (r : Row). 0) 0 (λ r. omega arith) rs,
+    )
+
+two-a-row : (r : Row) → signRoom r ≤ 2
+two-a-row r = by (given (r .second))
+  where
+    by : (t : Bool) → pick t 2 0 ≤ 2
+    by true = omega arith
+    by false = omega arith
+
+pub signs-few : (ts : Tables) → TablesKept 0 ts → signsRoom (rowsOf (table origins ts)) ≤ 2 * rowLimit
+signs-few [] k = omega arith
+signs-few (none ∷ ts) k = omega arith
+signs-few (some rs ∷ ts) k = omega (arith, total-few rowId signRoom 2 two-a-row rs, rows-few 0 [] rs (k .0) (omega arith))
 
 -- ---- tables
 
@@ -106,7 +128,7 @@ table-printed n rs =
 sorted-printed : (n : ℕ) (rs : List Row) → rowsPrinted n (sorted rowId rs) ≡ rowsPrinted n rs
 sorted-printed n rs = total-sorted rowId (λ (r : Row). length (rowLine n r)) rs
 
-origin-table : (t : Option (List Row)) → TableKept 0 t → length (tableText 0 (meantRows (byId t))) ≤ tableRoom 0 t + 2 * rowLimit
+origin-table : (t : Option (List Row)) → TableKept 0 t → length (tableText 0 (meantRows (byId t))) ≤ tableRoom 0 t + signsRoom (rowsOf t)
 origin-table none k = omega arith
 origin-table (some rs) k = omega (arith, table-printed 0 (sorted rowId rs), sorted-printed 0 rs, origins-printed rs k)
 
@@ -126,7 +148,7 @@ tag-tables n (some rs ∷ ts) k =
       tag-tables (suc n) ts (k .1),
     )
 
-pub tables-room : (ts : Tables) → TablesKept 0 ts → length (tablesText 0 (meantTables ts)) ≤ tablesRoom 0 ts + 2 * rowLimit
+pub tables-room : (ts : Tables) → TablesKept 0 ts → length (tablesText 0 (meantTables ts)) ≤ tablesRoom 0 ts + signsRoom (rowsOf (table origins ts))
 tables-room [] k = omega arith
 tables-room (o ∷ []) k = omega (arith, length-append (tableText 0 (meantRows (byId o))) [], origin-table o (k .0))
 tables-room (o ∷ e ∷ ts) k =

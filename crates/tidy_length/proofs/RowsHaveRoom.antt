@@ -4,19 +4,17 @@ use Prim.Native.Nat.{ℕ, zero, suc, _+_, _≤_}
 use native.Mathlib.Omega.{arith}
 use mathlib.Core.Path.{_≡_, refl, sym, ap, _∙_, subst}
 use mathlib.Core.Logic.{inl, inr}
-use mathlib.Core.Bool.{Bool, true, false}
 use mathlib.Core.List.{List, [], _∷_, _++_}
 use lib.ListN.{length, length-append}
-use lib.Dec.{eqb}
 use borrow.Author.Tests.{ne-eqb}
 use Rattle.rules.specs.Lists.{bytes}
 use Rattle.rules.specs.Bytes.{percents}
 use Rattle.rules.specs.Tables.{Row, wordTags}
-use Rattle.rules.specs.Tidy.{idDigits, flagged}
+use Rattle.rules.specs.Tidy.{flagged}
 use Rattle.rules.specs.GrammarLines.{White}
-use Rattle.rules.specs.GrammarColumns.{Parted, Begins, Stripped, NameAndNote}
+use Rattle.rules.specs.GrammarColumns.{Parted, Stripped, NameAndNote}
 use Rattle.rules.specs.AsWritten.{OriginSaid, FlagSaid, TagSaid, TableRowSaid}
-use Rattle.tidy_length.proofs.ColumnRoom.{columnsRoom, columns-append, begins-room, begins-parted, textRoom, stripped-behind, stripped-within}
+use Rattle.tidy_length.proofs.ColumnRoom.{columnsRoom, begins-room, begins-parted, textRoom, stripped-behind, stripped-within}
 use Rattle.tidy_length.proofs.TakenRoom.{noteRoom, rowRoom}
 
 -- ---- an origin's name and note

@@ -1,25 +1,24 @@
 -- One line takes no more than it and its newline have, wherever a reading stands. Line by line: which line may stand where, and
 -- what it is taken for there.
-use Prim.Native.Nat.{ℕ, suc, _+_, _≤_}
+use Prim.Native.Nat.{ℕ, _≤_}
 use native.Mathlib.Nat.{zero-add}
 use native.Mathlib.Omega.{arith}
 use mathlib.Core.Path.{_≡_, refl, sym, ap, ap₂, _∙_, subst}
-use mathlib.Core.Bool.{Bool, true, false}
+use mathlib.Core.Bool.{true}
 use mathlib.Core.List.{List, [], _∷_, _++_}
 use lib.ListN.{length}
 use lib.Dec.{eqb}
 use Rattle.rules.specs.Lists.{pick, bytes, every, member}
-use Rattle.rules.specs.Bytes.{ignored}
 use Rattle.rules.specs.Texts.{Text, reads}
 use Rattle.rules.specs.Columns.{columns, written}
 use Rattle.rules.specs.Numbers.{formatNumber, number, value, good}
-use Rattle.rules.specs.Rules.{Rule, rule, Verdict, refused, granted}
+use Rattle.rules.specs.Rules.{rule, Verdict, refused, granted}
 use Rattle.rules.specs.Rows.{rowOf}
 use Rattle.rules.specs.Tables.{Row, noTables}
 use Rattle.rules.specs.Sentences.{Node, Sentence, gapless, parented, headingWritten, headingIn, headingCites, headingOf, endRules, endOf, soFar}
 use Rattle.rules.specs.Keywords.{accepts, formatOf, tableOpened, tableEnded, firstColumn, startsRow, startsWord, startsPhrase}
 use Rattle.rules.specs.Nodes.{wordOf, phraseOf}
-use Rattle.rules.specs.Phases.{Preamble, Phase, start, top, inTable, inSentence, behindSentence, begun, withWord, withPhrase, Answer, refuse, go, hand, next, step, tableAt}
+use Rattle.rules.specs.Phases.{Preamble, Phase, start, top, inTable, inSentence, behindSentence, begun, go, hand, next, step, tableAt}
 use Rattle.rules.specs.Tidy.{digitsOf, nodeLine}
 use Rattle.rules.specs.Meaning.{rowId, nodeNumber}
 use Rattle.rules.specs.GrammarColumns.{Columns}

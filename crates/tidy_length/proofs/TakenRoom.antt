@@ -3,7 +3,7 @@
 use Prim.Native.Nat.{ℕ, zero, suc, _+_, _*_, _≤_}
 use native.Mathlib.Nat.{add-zero, add-suc, suc-add, mul-suc}
 use native.Mathlib.Omega.{arith}
-use mathlib.Core.Path.{_≡_, refl, sym, ap, _∙_, subst}
+use mathlib.Core.Path.{_≡_, refl, sym, _∙_, subst}
 use mathlib.Core.Option.{Option, none, some}
 use mathlib.Core.List.{List, [], _∷_, _++_, map}
 use lib.ListN.{length, length-append, set}
@@ -28,9 +28,13 @@ module _ {A : Type 0} (key : A → ℕ) (amount : A → ℕ) where
   total-map to f [] = refl
   total-map to f (x ∷ xs) = omega (arith, total-map to f xs)
 
-  pub total-within : (other : A → ℕ) (k : ℕ) (xs : List A) → Each (λ (x : A). amount x ≤ other x + k) xs → total key amount xs ≤ total key other xs + k * length xs
-  total-within other k [] h = omega arith
-  total-within other k (x ∷ xs) h = omega (arith, h .0, total-within other k xs (h .1), mul-suc k (length xs))
+  pub total-within : (other more : A → ℕ) (xs : List A) → Each (λ (x : A). amount x ≤ other x + more x) xs → total key amount xs ≤ total key other xs + total key more xs
+  total-within other more [] h = omega arith
+  total-within other more (x ∷ xs) h = omega (arith, h .0, total-within other more xs (h .1))
+
+  pub total-few : (k : ℕ) → ((x : A) → amount x ≤ k) → (xs : List A) → total key amount xs ≤ k * length xs
+  total-few k h [] = omega arith
+  total-few k h (x ∷ xs) = omega (arith, h x, total-few k h xs, mul-suc k (length xs))
 
 pub joined-length : {A : Type 0} (key : A → ℕ) (f : A → List ℕ) (xs : List A) → length (joined (map f xs)) ≡ total key (λ (x : A). length (f x)) xs
 joined-length key f [] = refl

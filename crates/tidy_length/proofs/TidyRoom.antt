@@ -1,5 +1,5 @@
--- A tidy text is at most 512 bytes longer than its file, two for each ORIGIN row; so a round trip needs no premise of a file with
--- these bytes to spare. An accepted file has room for all that was taken from it, and that is what is printed.
+-- A tidy text is at most 512 bytes longer than its file, two for each ORIGIN row with a comment; so the round trip of a file that
+-- leaves 512 bytes free needs no premise. An accepted file has room for all that was taken from it, and that is printed.
 use Prim.Native.Nat.{ℕ, suc, _+_, _*_, _≤_}
 use native.Mathlib.Omega.{arith}
 use mathlib.Core.Path.{_≡_, refl, sym, ap, _∙_, subst}
@@ -10,6 +10,7 @@ use lib.ListN.{length, length-append}
 use Rattle.rules.specs.Lists.{pick, bytes, joined}
 use Rattle.rules.specs.Numbers.{fileLimit, rowLimit}
 use Rattle.rules.specs.Rules.{Fault}
+use Rattle.rules.specs.Tables.{origins, table, rowsOf}
 use Rattle.rules.specs.Sentences.{Sentence}
 use Rattle.rules.specs.Phases.{Phase, start, top, inTable, inSentence, behindSentence, atEnd, formatAt, tablesAt}
 use Rattle.rules.specs.Reading.{Reading, begin, read, closing, closingUnless, verdict}
@@ -21,9 +22,9 @@ use Rattle.rules.specs.Same.{SameMeaning}
 use Rattle.rules.proofs.Kept.{TablesKept, PhaseKept}
 use Rattle.rules.proofs.KeptReading.{bares, ReadingKept, file-kept, survey-read}
 use Rattle.rules.proofs.RoundTrip.{round-trip}
-use Rattle.tidy_length.proofs.TakenRoom.{tablesRoom, formatRoom, handedRoom, phaseRoom}
+use Rattle.tidy_length.proofs.TakenRoom.{tablesRoom, formatRoom, phaseRoom}
 use Rattle.tidy_length.proofs.ReadingRoom.{file-within}
-use Rattle.tidy_length.proofs.PrintedTables.{tables-room}
+use Rattle.tidy_length.proofs.PrintedTables.{signsRoom, signs-few, tables-room}
 use Rattle.tidy_length.proofs.PrintedSentences.{sentences-room}
 
 -- ---- a reading that is accepted
@@ -72,30 +73,53 @@ text-length s =
     let text : length (tidyText (meaningOf s)) ≡ length ((format ++ tables) ++ sentences) = refl in
     omega (arith, length-append (format ++ tables) sentences, length-append format tables)
 
-read-room : (f : List ℕ) → verdict (read begin f) .number ≡ 0 → length (tidyText (meaningOf (answered (read begin f)))) ≤ length f + 2 * rowLimit
+-- two bytes for each ORIGIN row with a comment
+abbrev pub signsOf : Survey → ℕ
+signsOf s = signsRoom (rowsOf (table origins (s .tables)))
+
+pub record HasRoom (file : List ℕ) (s : Survey) : Type 0 where
+  pub by-signs : length (tidyText (meaningOf s)) ≤ length file + signsOf s
+  pub few : signsOf s ≤ 2 * rowLimit
+
+read-room : (f : List ℕ) → verdict (read begin f) .number ≡ 0 → HasRoom f (answered (read begin f))
 read-room f e =
     let r = read begin f in
     let k = file-kept f in
     let a = accepted r k e in
-    omega (
-      arith,
-      text-length (answered r),
-      tables-room (tablesAt (r .phase)) (tables-kept (r .phase) (bares (r .handed)) (k .phase)),
-      sentences-room (r .handed),
-      preamble-room (r .phase) (a .ends),
-      file-within f (a .no-fault),
-    )
+    let kept = tables-kept (r .phase) (bares (r .handed)) (k .phase) in
+    record {
+      by-signs =
+          omega (
+            arith,
+            text-length (answered r),
+            tables-room (tablesAt (r .phase)) kept,
+            sentences-room (r .handed),
+            preamble-room (r .phase) (a .ends),
+            file-within f (a .no-fault),
+          );
+      few = signs-few (tablesAt (r .phase)) kept;
+    }
 
 two-refuses : (t : Bool) (r : Reading) → pick t (answered r) (nothingRead 2) .refusal ≡ 0 → t ≡ true
 two-refuses true r e = refl
 two-refuses false r e = absurd (never-zero 1 e)
 
-pub tidy-room : (f : List ℕ) → surveyOf f .refusal ≡ 0 → length (tidyOf f) ≤ length f + 2 * rowLimit
-unfolding tidyOf surveyOf
-tidy-room f e =
+has-room : (f : List ℕ) → surveyOf f .refusal ≡ 0 → HasRoom f (surveyOf f)
+unfolding surveyOf
+has-room f e =
     let fits : fileFits f ≡ true = two-refuses (fileFits f) (read begin f) e in
     let whole = survey-read f fits in
-    subst (λ (s : Survey). length (tidyText (meaningOf s)) ≤ length f + 2 * rowLimit) (sym whole) (read-room f (sym (ap (λ (s : Survey). s .refusal) whole) ∙ e))
+    subst (HasRoom f) (sym whole) (read-room f (sym (ap (λ (s : Survey). s .refusal) whole) ∙ e))
+
+-- ---- any file
+
+-- longer only by the bytes that part the %% of ORIGIN rows from their texts
+pub tidy-by-signs : (f : List ℕ) → surveyOf f .refusal ≡ 0 → length (tidyOf f) ≤ length f + signsOf (surveyOf f)
+unfolding tidyOf
+tidy-by-signs f e = has-room f e .by-signs
+
+pub tidy-room : (f : List ℕ) → surveyOf f .refusal ≡ 0 → length (tidyOf f) ≤ length f + 2 * rowLimit
+tidy-room f e = omega (arith, tidy-by-signs f e, has-room f e .few)
 
 -- so the tidy text of a file that leaves these bytes free is no longer than a file may be
 pub round-trip-room : (f : List ℕ) → surveyOf f .refusal ≡ 0 → length f + 2 * rowLimit ≤ fileLimit → (surveyOf (tidyOf f) .refusal ≡ 0) × SameMeaning (tidyOf f) f
