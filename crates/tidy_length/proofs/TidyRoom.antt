@@ -7,6 +7,7 @@ use mathlib.Core.Bool.{Bool, true, false}
 use mathlib.Core.Option.{Option, none, some}
 use mathlib.Core.List.{List, [], _∷_, _++_, map}
 use lib.ListN.{length, length-append}
+use borrow.Author.Tests.{le-leb}
 use Rattle.rules.specs.Lists.{pick, bytes, joined}
 use Rattle.rules.specs.Numbers.{fileLimit, rowLimit}
 use Rattle.rules.specs.Rules.{Fault}
@@ -17,7 +18,7 @@ use Rattle.rules.specs.Reading.{Reading, begin, read, closing, closingUnless, v
 use Rattle.rules.specs.Survey.{Survey, answered, nothingRead, surveyOf, fileFits}
 use Rattle.rules.specs.Meaning.{meantTables, meantSentences, meaningOf}
 use Rattle.rules.specs.Tidy.{digitsOf, keywordLine, tablesText, sentenceText, tidyText}
-use Rattle.rules.specs.Writing.{tidyOf}
+use Rattle.rules.specs.Writing.{tidyOf, writingAnswer}
 use Rattle.rules.specs.Same.{SameMeaning}
 use Rattle.rules.proofs.Kept.{TablesKept, PhaseKept}
 use Rattle.rules.proofs.KeptReading.{bares, ReadingKept, file-kept, survey-read}
@@ -124,3 +125,10 @@ tidy-room f e = omega (arith, tidy-by-signs f e, has-room f e .few)
 -- so the tidy text of a file that leaves these bytes free is no longer than a file may be
 pub round-trip-room : (f : List ℕ) → surveyOf f .refusal ≡ 0 → length f + 2 * rowLimit ≤ fileLimit → (surveyOf (tidyOf f) .refusal ≡ 0) × SameMeaning (tidyOf f) f
 round-trip-room f e h = round-trip f e (omega (arith, tidy-room f e))
+
+-- and an output with these bytes more than the file has room for it
+pub writing-room : (f output : List ℕ) → surveyOf f .refusal ≡ 0 → length f + 2 * rowLimit ≤ length output → length f + 2 * rowLimit ≤ fileLimit
+    → writingAnswer f output ≡ record { refusal = 0; place = length f; written = length (tidyOf f) }
+writing-room f output e h g =
+    let room = tidy-room f e in
+    rw (e, le-leb (length (tidyOf f)) (length output) (omega arith), le-leb (length (tidyOf f)) fileLimit (omega arith))
