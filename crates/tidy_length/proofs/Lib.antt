@@ -1,0 +1,10 @@
+pub mod ColumnRoom
+pub mod TakenRoom
+pub mod LinesHaveRoom
+pub mod RowsHaveRoom
+pub mod StepsHaveRoom
+pub mod ReadingRoom
+pub mod PrintedTables
+pub mod PrintedSentences
+pub mod TidyRoom
+pub mod GluedSigns

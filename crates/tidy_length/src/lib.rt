@@ -1,0 +1,1 @@
+// A tidy text is hardly longer than its file: a theorem over the rules, in proofs/. No code.
