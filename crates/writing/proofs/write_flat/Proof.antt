@@ -8,8 +8,8 @@ use mathlib.Core.List.{List}
 use lib.ListN.{length, length-replicate}
 use Rattle.rules.specs.Numbers.{rowLimit}
 use Rattle.rules.specs.Survey.{surveyOf, fileFits}
-use Rattle.rules.specs.Writing.{tidyOf}
 use Rattle.rules.specs.Index.{indexSize}
+use Rattle.tidy_length.proofs.TidyRoom.{tidy-room}
 use Rattle.reading.specs.declared.Read.{Read}
 use Rattle.survey.proofs.Lent.{fitting}
 use Rattle.sentences.proofs.Answers.{cleared}
@@ -18,9 +18,6 @@ use Rattle.writing.proofs.WaysOut.{Sized, sizes, unfit, too-long, refus
 use Rattle.writing.proofs.ReadFiles.{answer-is, tables-are, seen-is, told-tables, begins-ready, begins-few, text-is}
 use Rattle.writing.proofs.write_flat.Statement.{statement}
 use Rattle.writing.proofs.write_flat.Tie as tie
-
-tidy-room : (f : List ℕ) → surveyOf f .refusal ≡ 0 → length (tidyOf f) ≤ length f + 2 * rowLimit
-tidy-room f e = ?
 
 abbrev start : tie.After-buffers-fit → tie.Start
 start b = b .before .before .before .before .before .before .before .before .before .before .before
