@@ -16,8 +16,8 @@ use plain::generate::corpus;
 use tags::TAGS;
 use timing::best_times;
 use work::{
-    count_newlines, index, index_plainly, open_all, open_all_plainly, open_one, open_one_plainly,
-    survey, survey_plainly, write, write_plainly, Work,
+    clear_for_all, count_newlines, index, index_plainly, open_all, open_all_plainly, open_one,
+    open_one_plainly, survey, survey_plainly, write, write_plainly, Work,
 };
 
 const CORPUS: usize = 50_000;
@@ -57,7 +57,7 @@ const OPENED: [(&str, [usize; 4], Make); 3] = [
     ("edges of a sentence", [8, 32, 128, 512], files::with_edges),
 ];
 
-const OPENINGS: [Work; 4] = [survey, open_one, index, open_all];
+const OPENINGS: [Work; 5] = [survey, open_one, index, open_all, clear_for_all];
 
 /// What grows in the files that are written; the rest is what grows in those surveyed.
 const WRITTEN: [(&str, [usize; 4], Make); 3] = [
@@ -134,9 +134,9 @@ fn print_growth(what: &str, sizes: [usize; 4], make: Make) {
 
 fn print_all_openings() {
     println!(
-        "| What grows | size | bytes | survey, ns/byte | one opening | index | all by index |"
+        "| What grows | size | bytes | survey, ns/byte | one opening | index | all by index | cleared for all |"
     );
-    println!("|---|--:|--:|--:|--:|--:|--:|");
+    println!("|---|--:|--:|--:|--:|--:|--:|--:|");
     for (what, sizes, make) in OPENED {
         print_openings(what, sizes, make);
     }
@@ -146,10 +146,10 @@ fn print_all_openings() {
 fn print_openings(what: &str, sizes: [usize; 4], make: Make) {
     for (size, file) in sizes.map(|size| (size, make(size))) {
         let times = best_times(OPENINGS.map(|work| (work, &file[..])));
-        let [survey, one, index, all] = times;
-        let [one, index, all] = [one, index, all].map(|time| time / survey);
+        let [survey, one, index, all, cleared] = times;
+        let [one, index, all, cleared] = [one, index, all, cleared].map(|time| time / survey);
         let bytes = file.len();
-        println!("| {what} | {size} | {bytes} | {survey:.2} | {one:.2} | {index:.2} | {all:.2} |");
+        println!("| {what} | {size} | {bytes} | {survey:.2} | {one:.2} | {index:.2} | {all:.2} | {cleared:.2} |");
     }
 }
 

@@ -94,6 +94,15 @@ pub fn open_all_plainly(file: &[u8], lent: &mut Lent) {
     }
 }
 
+/// Sheet and list cleared once for each sentence of the last index, and nothing else: what every
+/// opening has to do, whatever the sentence.
+pub fn clear_for_all(_: &[u8], lent: &mut Lent) {
+    for _ in lent.places.iter().filter(|&&place| place != 0) {
+        black_box(&mut lent.sheet).fill(0);
+        black_box(&mut lent.edges).fill(0);
+    }
+}
+
 /// Writes the tidy text.
 pub fn write(file: &[u8], lent: &mut Lent) {
     let (tables, seen) = (&mut lent.tables, &mut lent.seen);

@@ -6,7 +6,7 @@ ghost use mathlib.Core.Bool.{true};
 ghost use lib.Dec.{eqb};
 ghost use Rattle.rules.specs.Survey.{sheetsFit};
 ghost use Rattle.rules.specs.Grammar.{Fits};
-ghost use Rattle.demands.specs.Surveying.{surveying, Readable, Promised, Answered, SameOutcome};
+ghost use Rattle.demands.specs.Surveying.{surveying, Promised, Answered};
 ghost use Rattle.demands.specs.Accepting.{ReadAsWritten};
 ghost use Rattle.survey.specs.declared.Surveyed.{Surveyed};
 use survey::Surveyed;
@@ -16,32 +16,6 @@ pub fn told(file: &[u8], sheet: &mut [u32], seen: &mut [u8]) -> Surveyed
     ensures { λ r. ⌜ Answered (surveying (now (file .entry)) (now (sheet .entry)) (now (seen .entry)) r (now (sheet .exit)) (now (seen .exit))) ⌝ }
 {
     survey::survey(file, sheet, seen)
-}
-
-// The answers of two calls.
-pub struct Two {
-    pub first: Surveyed,
-    pub second: Surveyed,
-}
-
-// Demand 1: the contract leaves no second outcome, and what buffers of the right size held before never shows.
-pub fn twice(
-    file: &[u8],
-    sheet: &mut [u32],
-    seen: &mut [u8],
-    sheet2: &mut [u32],
-    seen2: &mut [u8],
-) -> Two
-    ensures only { λ r. ⌜ (now (sheet .entry) ≡ now (sheet2 .entry) → now (seen .entry) ≡ now (seen2 .entry)
-        → SameOutcome (surveying (now (file .entry)) (now (sheet .entry)) (now (seen .entry)) (r .first) (now (sheet .exit)) (now (seen .exit)))
-        (surveying (now (file .entry)) (now (sheet2 .entry)) (now (seen2 .entry)) (r .second) (now (sheet2 .exit)) (now (seen2 .exit)))) ⌝ }
-    ensures fresh { λ r. ⌜ (Readable (now (file .entry)) (now (sheet .entry)) (now (seen .entry)) → Readable (now (file .entry)) (now (sheet2 .entry)) (now (seen2 .entry))
-        → SameOutcome (surveying (now (file .entry)) (now (sheet .entry)) (now (seen .entry)) (r .first) (now (sheet .exit)) (now (seen .exit)))
-        (surveying (now (file .entry)) (now (sheet2 .entry)) (now (seen2 .entry)) (r .second) (now (sheet2 .exit)) (now (seen2 .exit)))) ⌝ }
-{
-    let first = survey::survey(file, sheet, seen);
-    let second = survey::survey(file, sheet2, seen2);
-    Two { first, second }
 }
 
 // Demand 2: accepted exactly if it follows the paper, and then read as it is written.

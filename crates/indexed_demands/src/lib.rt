@@ -1,23 +1,44 @@
-// Demand 1, of the index: each the promise of a function that calls it and is proved from its contract and those of openings
-// alone. Nothing is required of what is lent.
+// Demand 1, of two surveys and of the index: each the promise of a function that calls them and is proved from their contracts
+// and those of openings alone. Nothing is required of what is lent.
 ghost use mathlib.Core.Path.{_≡_};
 ghost use lib.ListN.{getD};
 ghost use Rattle.rules.specs.Index.{afterIndexing};
 ghost use Rattle.rules.specs.LentBuffers.{WithinLimit};
 ghost use Rattle.rules.specs.IndexRules.{IndexSized};
 ghost use Rattle.survey.specs.Promise.{indexed};
+ghost use Rattle.demands.specs.Surveying.{surveying, Readable, SameOutcome};
 ghost use Rattle.opening.specs.Promise.{outcome, afterOpeningFlat, outcomeAt};
 ghost use Rattle.opened_demands.specs.Calls.{FlatSized, AllFlatSized};
 ghost use Rattle.indexed_demands.specs.Entries.{afterEntry, SameThere};
 use survey::Surveyed;
 
-// The answers of two indexes.
+// The answers of two surveys, or of two indexes.
 pub struct Two {
     pub first: Surveyed,
     pub second: Surveyed,
 }
 
-// The contract leaves no second outcome, and what buffers of the right size held before never shows.
+// The contract of a survey leaves no second outcome, and what buffers of the right size held before never shows.
+pub fn surveyed_twice(
+    file: &[u8],
+    sheet: &mut [u32],
+    seen: &mut [u8],
+    sheet2: &mut [u32],
+    seen2: &mut [u8],
+) -> Two
+    ensures only { λ r. ⌜ (now (sheet .entry) ≡ now (sheet2 .entry) → now (seen .entry) ≡ now (seen2 .entry)
+        → SameOutcome (surveying (now (file .entry)) (now (sheet .entry)) (now (seen .entry)) (r .first) (now (sheet .exit)) (now (seen .exit)))
+        (surveying (now (file .entry)) (now (sheet2 .entry)) (now (seen2 .entry)) (r .second) (now (sheet2 .exit)) (now (seen2 .exit)))) ⌝ }
+    ensures fresh { λ r. ⌜ (Readable (now (file .entry)) (now (sheet .entry)) (now (seen .entry)) → Readable (now (file .entry)) (now (sheet2 .entry)) (now (seen2 .entry))
+        → SameOutcome (surveying (now (file .entry)) (now (sheet .entry)) (now (seen .entry)) (r .first) (now (sheet .exit)) (now (seen .exit)))
+        (surveying (now (file .entry)) (now (sheet2 .entry)) (now (seen2 .entry)) (r .second) (now (sheet2 .exit)) (now (seen2 .exit)))) ⌝ }
+{
+    let first = survey::survey(file, sheet, seen);
+    let second = survey::survey(file, sheet2, seen2);
+    Two { first, second }
+}
+
+// So the contract of an index.
 pub fn indexed_twice(
     file: &[u8],
     tables: &mut [u32],

@@ -1,8 +1,8 @@
--- `demands::twice` meets its contract: both outcomes are what the survey's contract says, which is one.
+-- `indexed_demands::surveyed_twice` meets its contract: both outcomes are what the survey's contract says, which is one.
 use mathlib.Core.Path.{refl}
 use Rattle.demands.proofs.Outcomes.{only-outcome, old-never-shows}
-use Rattle.demands.proofs.twice.Statement.{statement}
-use Rattle.demands.proofs.twice.Tie as tie
+use Rattle.indexed_demands.proofs.surveyed_twice.Statement.{statement}
+use Rattle.indexed_demands.proofs.surveyed_twice.Tie as tie
 
 abbrev second : tie.After-slice-known8 → tie.After-survey2
 second c = c .before .before .before .before
@@ -34,6 +34,6 @@ returns c = (
   λ k l. old-never-shows _ _ (first c .survey .ensures) (second c .survey2 .ensures) refl k l,
 )
 
-pub twice-spec : {M : Type 1} → statement M
-twice-spec =
+pub surveyed-twice-spec : {M : Type 1} → statement M
+surveyed-twice-spec =
     tie.close (tie.spec survey-requires survey-requires-2 same-length same-length-2 same-length-3 same-length-4 returns)
