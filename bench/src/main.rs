@@ -17,7 +17,7 @@ use tags::TAGS;
 use timing::best_times;
 use work::{
     clear_for_all, count_newlines, index, index_plainly, open_all, open_all_plainly, open_one,
-    open_one_plainly, survey, survey_plainly, write, write_plainly, Work,
+    open_one_plainly, survey, survey_plainly, write, write_exactly, write_plainly, Work,
 };
 
 const CORPUS: usize = 50_000;
@@ -154,20 +154,21 @@ fn print_openings(what: &str, sizes: [usize; 4], make: Make) {
 }
 
 fn print_all_writings() {
-    println!("| What grows | size | bytes | survey, ns/byte | writing, ns/byte | surveys |");
-    println!("|---|--:|--:|--:|--:|--:|");
+    println!("| What grows | size | bytes | survey, ns/byte | writing, ns/byte | surveys | surveys, measured |");
+    println!("|---|--:|--:|--:|--:|--:|--:|");
     for (what, sizes, make) in GROWTHS.into_iter().chain(WRITTEN) {
         print_writings(what, sizes, make);
     }
 }
 
-/// A line for each size: the times of survey and writing, and how many surveys a writing takes.
+/// A line for each size: the times of survey and writing, and how many surveys a writing takes,
+/// with room for every text and with just enough for this one.
 fn print_writings(what: &str, sizes: [usize; 4], make: Make) {
     for (size, file) in sizes.map(|size| (size, make(size))) {
-        let works: [Work; 2] = [survey, write];
-        let [survey, writing] = best_times(works.map(|work| (work, &file[..])));
-        let (bytes, ratio) = (file.len(), writing / survey);
-        println!("| {what} | {size} | {bytes} | {survey:.2} | {writing:.2} | {ratio:.2} |");
+        let works: [Work; 3] = [survey, write, write_exactly];
+        let [survey, writing, measured] = best_times(works.map(|work| (work, &file[..])));
+        let (bytes, ratio, measured) = (file.len(), writing / survey, measured / survey);
+        println!("| {what} | {size} | {bytes} | {survey:.2} | {writing:.2} | {ratio:.2} | {measured:.2} |");
     }
 }
 

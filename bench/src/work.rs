@@ -15,6 +15,8 @@ pub struct Lent {
     edges: Vec<u32>,
     records: Vec<plain::Edge>,
     output: Vec<u8>,
+    /// How long the last text was that was written.
+    written: usize,
 }
 
 impl Lent {
@@ -28,6 +30,7 @@ impl Lent {
             edges: vec![0; EDGES],
             records: vec![plain::Edge::default(); plain::EDGE_LIST],
             output: vec![0; file + TIDY_ROOM],
+            written: 0,
         }
     }
 }
@@ -103,13 +106,26 @@ pub fn clear_for_all(_: &[u8], lent: &mut Lent) {
     }
 }
 
-/// Writes the tidy text.
+/// Writes the tidy text. The output has room for every text of a file of this length.
 pub fn write(file: &[u8], lent: &mut Lent) {
+    let room = file.len() + TIDY_ROOM;
+    lent.written = write_into(file, room, lent);
+}
+
+/// Writes it into an output of just its length, so that it has to be measured first.
+pub fn write_exactly(file: &[u8], lent: &mut Lent) {
+    let written = write_into(file, lent.written, lent);
+    assert_eq!(written, lent.written);
+}
+
+fn write_into(file: &[u8], room: usize, lent: &mut Lent) -> usize {
     let (tables, seen) = (&mut lent.tables, &mut lent.seen);
     let (sheet, edges) = (&mut lent.sheet, &mut lent.edges);
-    let answer = calls::write(file, &mut lent.output, tables, seen, sheet, edges);
+    let output = &mut lent.output[..room];
+    let answer = calls::write(file, output, tables, seen, sheet, edges);
     assert_accepted(file, answer.refusal, answer.place);
     assert!(lent.output.starts_with(b"#FORMAT 3\n"));
+    answer.length as usize
 }
 
 pub fn write_plainly(file: &[u8], lent: &mut Lent) {
