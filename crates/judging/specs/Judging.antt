@@ -16,11 +16,13 @@ use Rattle.rules.specs.Sheets.{rowPlace, seenSetSize}
 use Rattle.rules.specs.Lines.{Taking, ignoredLine, atStart, behindOne, atTop, amongRows, amongNodes}
 use Rattle.seen.specs.Bits.{bitAt}
 use Rattle.table_sheet.specs.SheetRows.{rowsFrom, tablesIn}
+use Rattle.table_sheet.specs.Outlines.{Outlined}
 use Rattle.citations.specs.Tabled.{Tabled}
 use Rattle.columns.specs.Listing.{lineOf, Listed}
 use Rattle.columns.specs.declared.listing.Line.{Line}
 use Rattle.tables.specs.RowRules.{RowsReady}
 use Rattle.nodes.specs.NodeLines.{marked}
+use Rattle.judging.specs.States.{tableOpen, rowsOpen}
 use Rattle.judging.specs.declared.state.Tally.{Tally}
 use Rattle.judging.specs.declared.state.Phase.{Phase}
 use Rattle.judging.specs.declared.state.Phase.the-variants.{Start, Top, InTable, InSentence, Behind}
@@ -75,3 +77,8 @@ Judgeable file s sheet seen Top = Ready file sheet seen
 Judgeable file s sheet seen (InTable n rows) = RowsReady file sheet n rows
 Judgeable file s sheet seen (InSentence t) = Ready file sheet seen × Countable t (s .handed)
 Judgeable file s sheet seen Behind = Ready file sheet seen
+
+-- the outlines of the rows of the table that is being read are noted; where none is, there is no row
+abbrev pub RowsOutlined : List ℕ → List ℕ → List ℕ → Phase → Type 0
+RowsOutlined outlines file sheet phase =
+    Outlined outlines file sheet (tableOpen phase) (rowPlace (tableOpen phase) 0) (rowsOpen phase)

@@ -15,10 +15,11 @@ ghost use Rattle.rules.specs.Lines.{takenAs, sentenceEnds, atStart, behindOne, 
 ghost use Rattle.columns.specs.Listing.{lineOf, Listed};
 ghost use Rattle.seen.specs.Bits.{bitAt};
 ghost use Rattle.table_sheet.specs.SheetRows.{rowsFrom, tablesIn};
+ghost use Rattle.table_sheet.specs.Outlines.{Outlined};
 ghost use Rattle.citations.specs.Tabled.{Tabled};
 ghost use Rattle.steps.specs.Steps.{stepOf};
 ghost use Rattle.tables.specs.RowRules.{RowsReady};
-ghost use Rattle.judging.specs.Judging.{soFarBy, judgedBy, First, Ready, Countable, Judgeable};
+ghost use Rattle.judging.specs.Judging.{soFarBy, judgedBy, First, Ready, Countable, Judgeable, RowsOutlined};
 use columns::listing;
 use columns::listing::Line;
 use columns::listing::Places;
@@ -83,9 +84,10 @@ fn among_rows(
     table: u32,
     rows: u32,
     sheet: &[u32],
+    outlines: &[u8; table_sheet::OUTLINES],
     classes: &[u8; 256],
 ) -> Step
-    requires { ⌜ (now classes ≡ classTable) × First (now file) line (now places) (now first) × RowsReady (now file) (now sheet) table rows ⌝ }
+    requires { ⌜ (now classes ≡ classTable) × First (now file) line (now places) (now first) × RowsReady (now file) (now sheet) table rows × Outlined (now outlines) (now file) (now sheet) table (rowPlace table 0) rows ⌝ }
     ensures { λ r. ⌜ r ≡ stepOf (amongRows (lineOf (now (file .entry)) line) (firstColumn (lineOf (now (file .entry)) line)) table (rowsFrom (now (file .entry)) (now (sheet .entry)) (rowPlace table 0) rows)) ⌝ }
 {
     if same_text(first, b"#EOT") {
@@ -99,6 +101,7 @@ fn among_rows(
             table as usize,
             rows as usize,
             sheet,
+            outlines,
             classes,
         );
     }
@@ -171,11 +174,12 @@ pub fn judge(
     s: State,
     sheet: &[u32],
     hints: &[u8; table_sheet::HINTS],
+    outlines: &[u8; table_sheet::OUTLINES],
     seen: &[u8],
     marks: &[u32; state::MARKS],
     classes: &[u8; 256],
 ) -> Step
-    requires { ⌜ (now classes ≡ classTable) × Listed (now file) line (now places) × Judgeable (now file) s (now sheet) (now seen) (s .phase) ⌝ }
+    requires { ⌜ (now classes ≡ classTable) × Listed (now file) line (now places) × Judgeable (now file) s (now sheet) (now seen) (s .phase) × RowsOutlined (now outlines) (now file) (now sheet) (s .phase) ⌝ }
     ensures { λ r. ⌜ r ≡ stepOf (judgedBy (now (file .entry)) (lineOf (now (file .entry)) line) s (now (sheet .entry)) (now (seen .entry)) (now (marks .entry))) ⌝ }
 {
     if listing::is_ignored(file, line) {
@@ -187,7 +191,17 @@ pub fn judge(
         Phase::Start => at_start(file, line, places, first, classes),
         Phase::Top => at_top(file, line, places, first, sheet, seen, classes),
         Phase::InTable { table, rows } => {
-            among_rows(file, line, places, first, table, rows, sheet, classes)
+            among_rows(
+                file,
+                line,
+                places,
+                first,
+                table,
+                rows,
+                sheet,
+                outlines,
+                classes,
+            )
         }
         Phase::InSentence(tally) => among_nodes(
             file,

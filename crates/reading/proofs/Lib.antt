@@ -4,3 +4,4 @@ pub mod Moving
 pub mod Going
 pub mod Turning
 pub mod RowsSound
+pub mod RowOutlines

@@ -6,6 +6,7 @@ ghost use lib.ListN.{length, set};
 ghost use Rattle.rules.specs.Numbers.{fileLimit};
 ghost use Rattle.judging.specs.States.{tallyIn};
 ghost use Rattle.reading.specs.Effects.{kept, formatRead, handedOut, noted, effect, notedBy, bareNode, plainStep, Applicable};
+ghost use Rattle.reading.specs.NotedTags.{outlinesBy, TagApplies};
 use crate::rows::end_table;
 use crate::rows::take_row;
 use columns::listing::Line;
@@ -17,6 +18,7 @@ use judging::state::State;
 use judging::state::Tally;
 use judging::state::first_tally;
 use judging::state::moved;
+use judging::state::table_in;
 use judging::state::tally_in;
 use judging::state::with_phrase;
 use judging::state::with_word;
@@ -58,6 +60,21 @@ pub fn note_end(step: Step, s: State, from: u32, begins: &mut [u32])
         return;
     };
     note_beginning(tally_in(phase), from, begins);
+}
+
+// The outline of a row's tag is noted, and nothing else.
+pub fn note_tag(step: Step, s: State, file: &[u8], outlines: &mut [u8; table_sheet::OUTLINES])
+    requires { ⌜ TagApplies step s (length (now file)) ⌝ }
+    ensures { λ _. ⌜ now (outlines .exit) ≡ outlinesBy step s (now (file .entry)) (now (outlines .entry)) ⌝ }
+{
+    let phase = s.phase;
+    let Step::Row(row) = step else {
+        return;
+    };
+    let first = row.first;
+    let start = first.start as usize;
+    let end = start + first.len as usize;
+    table_sheet::outlines::note(outlines, table_in(phase) as usize, &file[start..end]);
 }
 
 fn hand_out(s: State, end: u32) -> State
@@ -118,7 +135,7 @@ pub fn take_plain(plain: Plain, s: State, marks: &mut [u32; MARKS]) -> State
     }
 }
 
-// All but the beginnings.
+// All but the beginnings and the outlines.
 pub fn apply(
     step: Step,
     line: Line,

@@ -16,6 +16,7 @@ ghost use Rattle.rules.specs.Index.{beginnings};
 ghost use Rattle.reading.specs.Closing.{reachedAt, Walked, FileRead};
 use effect::apply;
 use effect::note_end;
+use effect::note_tag;
 use effect::take_plain;
 use judging::plain::Plain;
 use judging::plain::plain_line;
@@ -67,6 +68,7 @@ fn take_lines(
 {
     let mut marks = [0u32; state::MARKS];
     let mut hints = [0u8; table_sheet::HINTS];
+    let mut outlines = [0u8; table_sheet::OUTLINES];
     let mut places = [0u32; 4096];
     let mut s = state::first_state();
     let mut at = 0;
@@ -82,11 +84,23 @@ fn take_lines(
             at = line.end + 1;
             continue;
         };
-        let step = judging::judge(file, line, &places, s, sheet, &hints, seen, &marks, classes);
+        let step = judging::judge(
+            file,
+            line,
+            &places,
+            s,
+            sheet,
+            &hints,
+            &outlines,
+            seen,
+            &marks,
+            classes,
+        );
         if let Step::Refused(fault) = step {
             return stop_at(s, fault.number, at as u32);
         }
         note_end(step, s, from, begins);
+        note_tag(step, s, file, &mut outlines);
         s = apply(step, line, s, file, sheet, seen, &mut marks, &mut hints);
         at = line.end + 1;
     }

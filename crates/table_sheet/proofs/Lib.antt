@@ -5,3 +5,4 @@ pub mod LookUps
 pub mod OpenSheets
 pub mod Standing
 pub mod ReadBack
+pub mod NotedOutlines

@@ -2,3 +2,4 @@ pub mod SheetRows
 pub mod LookUps
 pub mod OpenSheets
 pub mod Standing
+pub mod Outlines

@@ -1,6 +1,7 @@
 // The table sheet: its rows are looked up, stored and cleared.
 mod hints;
 pub mod order;
+pub mod outlines;
 pub mod quick;
 
 ghost use mathlib.Core.Path.{_≡_};
@@ -43,6 +44,9 @@ pub const SIZE: usize = TABLE_COUNT + TABLE_ROOM * TABLE_COUNT;
 
 // How many guesses of a tag's row are kept: the hints of the seven tables, then their orders.
 pub const HINTS: usize = (hints::FOR_TABLE + order::FOR_TABLE) * TABLE_COUNT;
+
+// How many outlines of tags can be noted.
+pub const OUTLINES: usize = outlines::FOR_TABLE * TABLE_COUNT;
 
 pub fn row_place(table: usize, row: usize) -> usize
     requires { ⌜ (table < tableCount) × (row ≤ rowLimit) ⌝ }

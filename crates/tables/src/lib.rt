@@ -15,6 +15,7 @@ ghost use Rattle.rules.specs.Lines.{takenAs, formatLine, tableBegins, rowLine, 
 ghost use Rattle.columns.specs.Listing.{lineOf, Listed};
 ghost use Rattle.steps.specs.Steps.{stepOf};
 ghost use Rattle.table_sheet.specs.SheetRows.{rowsFrom, tablesIn};
+ghost use Rattle.table_sheet.specs.Outlines.{Outlined};
 ghost use Rattle.citations.specs.Tabled.{Counted};
 ghost use Rattle.tables.specs.RowRules.{RowsReady};
 use columns::listing;
@@ -85,9 +86,10 @@ pub fn row_line(
     table: usize,
     rows: usize,
     sheet: &[u32],
+    outlines: &[u8; table_sheet::OUTLINES],
     classes: &[u8; 256],
 ) -> Step
-    requires { ⌜ (now classes ≡ classTable) × Listed (now file) line (now places) × (0 < line .columns) × RowsReady (now file) (now sheet) table rows ⌝ }
+    requires { ⌜ (now classes ≡ classTable) × Listed (now file) line (now places) × (0 < line .columns) × RowsReady (now file) (now sheet) table rows × Outlined (now outlines) (now file) (now sheet) table (rowPlace table 0) rows ⌝ }
     ensures { λ r. ⌜ r ≡ stepOf (takenAs rowLine (rowOf table (rowsFrom (now (file .entry)) (now (sheet .entry)) (rowPlace table 0) rows) (lineOf (now (file .entry)) line))) ⌝ }
 {
     let place = table_sheet::row_place(table, 0);
@@ -97,5 +99,15 @@ pub fn row_line(
     if table == table_sheet::EDITORS {
         return rows::editor_row(file, line, places, sheet, place, rows, classes);
     }
-    tags::tag_row(file, line, places, table, sheet, place, rows, classes)
+    tags::tag_row(
+        file,
+        line,
+        places,
+        table,
+        sheet,
+        outlines,
+        place,
+        rows,
+        classes,
+    )
 }

@@ -10,12 +10,13 @@ ghost use Rattle.rules.specs.Texts.{atMost, reads};
 ghost use Rattle.rules.specs.Tables.{wordTags, tagLimit};
 ghost use Rattle.rules.specs.Rows.{lastId, follows, ownTag, tagRow};
 ghost use Rattle.rules.specs.Columns.{written};
-ghost use Rattle.rules.specs.Sheets.{rowWidth};
+ghost use Rattle.rules.specs.Sheets.{tableCount, rowWidth};
 ghost use Rattle.rules.specs.Lines.{takenAs, rowLine};
 ghost use Rattle.columns.specs.Listing.{lineOf, columnsOf, Listed};
 ghost use Rattle.steps.specs.Steps.{stepOf};
 ghost use Rattle.table_sheet.specs.SheetRows.{rowsFrom};
 ghost use Rattle.table_sheet.specs.Standing.{Inside};
+ghost use Rattle.table_sheet.specs.Outlines.{Outlined};
 ghost use Rattle.tables.specs.RowTexts.{descriptionColumn, flagOf};
 ghost use Rattle.tables.specs.RowRules.{tagInPlace};
 use crate::rows;
@@ -69,12 +70,14 @@ pub fn id_follows(sheet: &[u32], place: usize, rows: usize, id1: u32) -> bool
 pub fn tag_in_place(
     file: &[u8],
     sheet: &[u32],
+    outlines: &[u8; table_sheet::OUTLINES],
+    table: usize,
     place: usize,
     rows: usize,
     id1: u32,
     tag: &[u8],
 ) -> bool
-    requires { ⌜ (place + rowWidth * rows ≤ length (now sheet)) × Inside (now file) (now sheet) place rows ⌝ }
+    requires { ⌜ (place + rowWidth * rows ≤ length (now sheet)) × Inside (now file) (now sheet) place rows × (table < tableCount) × Outlined (now outlines) (now file) (now sheet) table place rows ⌝ }
     ensures { λ r. ⌜ ((start : ℕ) → r ≡ tagInPlace id1 (record { start = start; bytes = now (tag .entry) }) (rowsFrom (now (file .entry)) (now (sheet .entry)) place rows)) ⌝ }
 {
     if !id_follows(sheet, place, rows, id1) {
@@ -83,7 +86,7 @@ pub fn tag_in_place(
     if !own_tag(id1, tag) {
         return false;
     }
-    !table_sheet::is_row(table_sheet::seek_tag(file, sheet, place, rows, tag))
+    table_sheet::outlines::is_new(file, sheet, outlines, table, place, rows, tag)
 }
 
 pub fn is_tag(table: usize, tag: &[u8]) -> bool
@@ -135,11 +138,12 @@ pub fn tag_row(
     places: &Places,
     table: usize,
     sheet: &[u32],
+    outlines: &[u8; table_sheet::OUTLINES],
     place: usize,
     rows: usize,
     classes: &[u8; 256],
 ) -> Step
-    requires { ⌜ (now classes ≡ classTable) × Listed (now file) line (now places) × (0 < line .columns) × (place + rowWidth * rows ≤ length (now sheet)) × Inside (now file) (now sheet) place rows ⌝ }
+    requires { ⌜ (now classes ≡ classTable) × Listed (now file) line (now places) × (0 < line .columns) × (place + rowWidth * rows ≤ length (now sheet)) × Inside (now file) (now sheet) place rows × (table < tableCount) × Outlined (now outlines) (now file) (now sheet) table place rows ⌝ }
     ensures { λ r. ⌜ r ≡ stepOf (takenAs rowLine (tagRow table (rowsFrom (now (file .entry)) (now (sheet .entry)) place rows) (lineOf (now (file .entry)) line))) ⌝ }
 {
     let described = listing::text_from(line, places, description_column(table));
@@ -162,7 +166,7 @@ pub fn tag_row(
     if DESCRIPTION_LIMIT < described.len {
         return steps::refused_text(refusals::BAD_TEXT, described);
     }
-    if !tag_in_place(file, sheet, place, rows, id1, tag) {
+    if !tag_in_place(file, sheet, outlines, table, place, rows, id1, tag) {
         return steps::refused(refusals::ROW_OUT_OF_PLACE, line.start);
     }
     rows::with_room(line, rows, id1, first, described, flag)

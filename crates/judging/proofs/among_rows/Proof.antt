@@ -33,7 +33,7 @@ row-line-requires c κs =
     let s = c .before .before .before in
     let x = start s in
     let some = row-columns (line s) (x .args .first .now) (x .pre .1 .is) (c .before .starts-row .ensures) (c .if2 .taken) in
-    (x .pre .0, x .pre .1 .listed, omega (arith, x .pre .1 .listed .counted, some), x .pre .2)
+    (x .pre .0, x .pre .1 .listed, omega (arith, x .pre .1 .listed .counted, some), x .pre .2, x .pre .3)
 
 returns-2 : tie.Need-returns-2
 returns-2 c =

@@ -4,7 +4,7 @@ use mathlib.Core.Path.{_≡_, sym, _∙_, subst}
 use Rattle.rules.specs.Texts.{Text}
 use Rattle.columns.specs.Listing.{lineOf}
 use Rattle.steps.specs.Steps.{stepOf}
-use Rattle.judging.specs.Judging.{lineBy, judgedBy, First, Judgeable}
+use Rattle.judging.specs.Judging.{lineBy, judgedBy, First, Judgeable, RowsOutlined}
 use Rattle.judging.specs.declared.state.Phase.{Phase}
 use Rattle.judging.proofs.FirstColumns.{judged-ignored, judged-line}
 use Rattle.judging.proofs.judge.Statement.{statement}
@@ -51,7 +51,9 @@ among-rows-requires : tie.Need-among-rows-requires
 among-rows-requires c κs =
     let k = c .before in
     let d = k .before .before in
-    (start d .pre .0, first d, needs-of d _ (k .phase .given .1))
+    let a = start d .args in
+    let e = k .phase .given .1 in
+    (start d .pre .0, first d, needs-of d _ e, subst (RowsOutlined (a .outlines .now) (a .file .now) (a .sheet .now)) e (start d .pre .3))
 
 among-nodes-requires : tie.Need-among-nodes-requires
 among-nodes-requires c κs =

@@ -1,29 +1,31 @@
--- `reading::take_lines` meets its contract: between two lines what it keeps is what the rules' reading has. The measure is
--- what is left of the file.
+-- `reading::take_lines` meets its contract: between two lines what it keeps is what the rules' reading has, and the outlines
+-- of the open table's rows are noted. The measure is what is left of the file.
 use borrow.Author.Needs.{needs}
 use native.Mathlib.Omega.{arith}
-use Prim.Native.Nat.{ℕ, _-_, _≤_}
+use Prim.Native.Nat.{ℕ, _+_, _-_, _≤_}
 use mathlib.Core.Path.{_≡_, refl, sym, ap, _∙_}
 use mathlib.Core.List.{List, []}
-use lib.ListN.{length}
+use lib.ListN.{length, length-replicate}
 use Rattle.rules.specs.Numbers.{fileLimit}
 use Rattle.rules.specs.Tables.{noTables}
 use Rattle.seen.proofs.SeenSets.{length-seen-set}
 use Rattle.table_sheet.proofs.OpenSheets.{none-have-room, length-table-sheet}
 use Rattle.lines.proofs.FoundLines.{told-end, told-start, told-listed}
 use Rattle.columns.specs.declared.listing.Line as listing
+use Rattle.judging.specs.Judging.{RowsOutlined}
 use Rattle.reading.specs.Effects.{Kept, kept}
 use Rattle.reading.proofs.Going.{Going, going-start, sheet-size, seen-size, begins-size, begun-limit, stop-unread, stop-end}
 use Rattle.reading.proofs.Turning.{LineHere, onward, inside, ready, goes-on-noted, applies, stops, plainly}
+use Rattle.reading.proofs.RowOutlines.{tag-applies, no-row, stay-outlined, plainly-outlined}
 use Rattle.reading.proofs.take_lines.Statement.{statement}
 use Rattle.reading.proofs.take_lines.Tie as tie
 
 abbrev Inv-loop : tie.InvT-loop
-Inv-loop file sheet₀ seen₀ from begins₀ classes marks₀ hints₀ places₀ s₀ at₀ sheet seen begins marks hints places s at =
-    Going file from (length begins₀) at (kept s sheet seen marks begins)
+Inv-loop file sheet₀ seen₀ from begins₀ classes marks₀ hints₀ outlines₀ places₀ s₀ at₀ sheet seen begins marks hints outlines places s at =
+    Going file from (length begins₀) at (kept s sheet seen marks begins) × RowsOutlined outlines file sheet (s .phase)
 
 abbrev μ-loop : tie.MeasureT-loop
-μ-loop file sheet₀ seen₀ from begins₀ classes marks₀ hints₀ places₀ s₀ at₀ sheet seen begins marks hints places s at =
+μ-loop file sheet₀ seen₀ from begins₀ classes marks₀ hints₀ outlines₀ places₀ s₀ at₀ sheet seen begins marks hints outlines places s at =
     length file - at
 
 abbrev Standing : Type 0
@@ -48,7 +50,10 @@ abbrev held : Standing → Kept
 held l = kept (l .loop .s) (l .loop .sheet) (l .loop .seen) (l .loop .marks) (l .loop .begins)
 
 abbrev going : (l : Standing) → Going (file l) (low l) (size l) (at l) (held l)
-going l = l .loop .inv
+going l = l .loop .inv .0
+
+abbrev outlined : (l : Standing) → RowsOutlined (l .loop .outlines) (file l) (held l .sheet) (held l .state .phase)
+outlined l = l .loop .inv .1
 
 abbrev short : (l : Standing) → length (file l) ≤ fileLimit
 short l = start l .pre .1
@@ -103,12 +108,14 @@ abbrev Judged : Type 0
 Judged = tie.After-judge Inv-loop μ-loop
 
 abbrev whole : Judged → Line
-whole j = asked (j .before .before .before .before .before .before .before .before)
+whole j = asked (j .before .before .before .before .before .before .before .before .before)
 
 loop-holds : tie.Need-loop-holds Inv-loop μ-loop
 loop-holds c =
-    let x = c .before .before .before .before .before in
-    going-start (x .args .file .now) (x .args .from) (length (x .args .begins .now)) _ _ _ _ _ (c .first-state .ensures) (x .pre .2) (x .pre .3) refl (x .pre .4)
+    let x = c .before .before .before .before .before in (
+      going-start (x .args .file .now) (x .args .from) (length (x .args .begins .now)) _ _ _ _ _ (c .first-state .ensures) (x .pre .2) (x .pre .3) refl (x .pre .4),
+      rw (c .first-state .ensures) (no-row _ (x .args .file .now) (length-replicate {A = ℕ} 7168 0)),
+    )
 
 next-line-requires : tie.Need-next-line-requires Inv-loop μ-loop
 next-line-requires c κs = let l = c .before .before .before in (going l .in-file, start l .pre .0, short l)
@@ -152,13 +159,16 @@ loop-less c = let h = line-here (asked (quickly c)) in omega (arith, inside h, o
 loop-again : tie.Need-loop-again Inv-loop μ-loop
 loop-again c =
     let q = quickly c in
-    plainly (line-here (asked q)) (q .plain-line .result) (q .plain-line .ensures _) (c .before .before .before .match2 .keys2) .1 _ (c .before .take-plain .ensures _ _ _ _ _ _)
+    let l = here (asked q) in
+    let goes = plainly (line-here (asked q)) (q .plain-line .result) (q .plain-line .ensures _) (c .before .before .before .match2 .keys2) in
+    let e = c .before .take-plain .ensures (low l) (at l) (end (asked q) + 1) (held l .sheet) (held l .seen) (held l .begins) in
+    (goes .1 _ e, plainly-outlined (l .loop .outlines) (file l) (low l) (at l) (end (asked q) + 1) 0 (held l) (outlined l) (q .plain-line .result) (goes .0) _ e)
 
 -- another is judged
 judge-requires : tie.Need-judge-requires Inv-loop μ-loop
 judge-requires c κs =
-    let k = asked (c .before .before .before .before .before .before .before) in
-    (start (here k) .pre .0, line-here k .listed, ready (line-here k))
+    let k = asked (c .before .before .before .before .before .before .before .before) in
+    (start (here k) .pre .0, line-here k .listed, ready (line-here k), outlined (here k))
 
 cast-stop-at-2 : tie.Need-cast-stop-at-2 Inv-loop μ-loop
 cast-stop-at-2 c =
@@ -176,12 +186,15 @@ returns-2 c =
     let j = refused-at c in
     rw (c .stop-at2 .ensures) (stops (line-here (whole j)) _ (j .judge .ensures) _ (c .before .before .step .given .1))
 
--- the sentence that ends is noted, and then the step is applied
+-- the sentence that ends is noted, the outline of a row's tag, and then the step is applied
 abbrev Applied : Type 0
 Applied = tie.After-apply Inv-loop μ-loop
 
+abbrev tagged : Applied → tie.After-note-tag Inv-loop μ-loop
+tagged a = a .before .before .before .before .before
+
 abbrev ended : Applied → tie.After-note-end Inv-loop μ-loop
-ended a = a .before .before .before .before .before .before .before
+ended a = tagged a .before .before .before .before
 
 abbrev judged : Applied → Judged
 judged a = ended a .before .before .before
@@ -191,9 +204,15 @@ note-end-requires c κs =
     let l = here (whole (c .before .before)) in
     begun-limit (file l) (low l) (size l) (at l) (held l) (going l) (short l)
 
+note-tag-requires : tie.Need-note-tag-requires Inv-loop μ-loop
+note-tag-requires c κs =
+    let m = c .before .before .before .before .before in
+    let j = m .before in
+    tag-applies _ (j .judge .result) _ (applies (line-here (whole j)) _ (j .judge .ensures) (m .match3 .keys2) .2)
+
 apply-requires : tie.Need-apply-requires Inv-loop μ-loop
 apply-requires c κs =
-    let m = c .before .before .before .before .before .before .before .before in
+    let m = c .before .before .before .before .before .before .before .before .before .before in
     let j = m .before in
     applies (line-here (whole j)) _ (j .judge .ensures) (m .match3 .keys2)
 
@@ -216,7 +235,15 @@ loop-again-2 c =
     let n = ended a in
     let m = n .before .before in
     let j = m .before in
-    goes-on-noted (line-here (whole j)) _ (j .judge .ensures) (m .match3 .keys2) _ _ _ _ _ (n .note-end .ensures) (a .apply .ensures _ _)
+    let k = whole j in
+    let l = here k in
+    let h = line-here k in
+    let o = m .match3 .keys2 in (
+      goes-on-noted h _ (j .judge .ensures) o _ _ _ _ _ (n .note-end .ensures) (a .apply .ensures _ _),
+      rw (tagged a .note-tag .ensures)
+          (stay-outlined (l .loop .outlines) (file l) (low l) (line k .start) (end k + 1) (length (file l)) (kept (held l .state) (held l .sheet) (held l .seen) (held l .marks) [])
+          (outlined l) (j .judge .result) (applies h _ (j .judge .ensures) o .2) _ (a .apply .ensures (low l) [])),
+    )
 
 closing-requires : tie.Need-closing-requires Inv-loop μ-loop
 closing-requires c κs = sheet-size _ _ _ _ _ (going (c .before .before))
@@ -267,6 +294,7 @@ take-lines-spec =
     (λ c. same-begins (here (whole (refused-at c))))
     returns-2
     note-end-requires
+    note-tag-requires
     apply-requires
     add-at-2
     loop-less-2

@@ -41,7 +41,7 @@ tag-row-requires : tie.Need-tag-row-requires
 tag-row-requires c κs =
     let p = c .before .before in
     let s = start p in
-    (s .pre .0, s .pre .1, s .pre .2, rw (p .row-place .ensures) (s .pre .3 .room), rw (p .row-place .ensures) (s .pre .3 .inside))
+    (s .pre .0, s .pre .1, s .pre .2, rw (p .row-place .ensures) (s .pre .3 .room), rw (p .row-place .ensures) (s .pre .3 .inside), s .pre .3 .named, rw (p .row-place .ensures) (s .pre .4))
 
 returns-3 : tie.Need-returns-3
 returns-3 c =

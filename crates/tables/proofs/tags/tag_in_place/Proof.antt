@@ -1,13 +1,12 @@
 -- `tables::tags::tag_in_place` meets its contract: the three tests are made one after the other.
 use borrow.Author.Needs.{needs}
 use borrow.Author.Tests.{not-true, not-false}
-use mathlib.Core.Path.{_≡_, sym, ap, _∙_}
-use mathlib.Core.Bool.{not}
+use mathlib.Core.Path.{_≡_, sym}
 use mathlib.Core.List.{List}
 use Rattle.rules.specs.Tables.{Row}
 use Rattle.rules.specs.Rows.{lastId, follows}
 use Rattle.table_sheet.specs.SheetRows.{rowsFrom}
-use Rattle.table_sheet.proofs.LookUps.{tag-found, tag-by-bytes}
+use Rattle.table_sheet.proofs.LookUps.{tag-by-bytes}
 use Rattle.tables.proofs.tags.tag_in_place.Statement.{statement}
 use Rattle.tables.proofs.tags.tag_in_place.Tie as tie
 
@@ -30,13 +29,12 @@ returns-2 c at =
 
 returns-3 : tie.Need-returns-3
 returns-3 c at =
-    let s = c .before in
-    let o = s .before .before in
+    let o = c .before .before in
     let i = o .before .before in
-    rw (id-is i, not-false (i .id-follows .result) (o .before .if1 .left), ← (o .own-tag .ensures at), not-false (o .own-tag .result) (s .before .if2 .left), tag-by-bytes)
-    (ap not (c .is-row .ensures ∙ tag-found (start i .args .tag .now) (rows i) (s .seek-tag .result) (s .seek-tag .ensures)))
+    rw (id-is i, not-false (i .id-follows .result) (o .before .if1 .left), ← (o .own-tag .ensures at), not-false (o .own-tag .result) (c .before .if2 .left), tag-by-bytes)
+    (c .is-new .ensures)
 
 pub tag-in-place-spec : {M : Type 1} → statement M
 tag-in-place-spec =
     tie.close
-    (tie.spec (λ c κs. search needs) returns (λ c κs. search needs) returns-2 (λ c κs. search needs) (λ c κs. search needs) returns-3)
+    (tie.spec (λ c κs. search needs) returns (λ c κs. search needs) returns-2 (λ c κs. search needs) returns-3)

@@ -184,7 +184,7 @@ refused-at-requires-2 c κs =
     (flag-here k (flagged-if-wrong (flagged x) (isFlag (flag x)) (unflagged c)), (file x, listed x))
 
 tag-in-place-requires : tie.Need-tag-in-place-requires
-tag-in-place-requires c κs = let s = start (whole c) in (s .pre .3, s .pre .4)
+tag-in-place-requires c κs = let s = start (whole c) in (s .pre .3, s .pre .4, s .pre .5, s .pre .6)
 
 refused-requires-2 : tie.Need-refused-requires-2
 refused-requires-2 c κs = line-fits (whole (c .before .before))
