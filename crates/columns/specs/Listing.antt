@@ -35,6 +35,9 @@ placesOf cs = joined (map bounds cs)
 abbrev pub spanOf : Text → Span
 spanOf t = record { start = t .start; len = length (t .bytes) }
 
+abbrev pub noSpan : Span
+noSpan = record { start = 0; len = 0 }
+
 -- the line lies in a file that is read, and its columns' places stand first among these
 pub record Listed (file : List ℕ) (l : Line) (places : List ℕ) : Type 0 where
   pub order : l .start ≤ l .end

@@ -6,10 +6,10 @@ use mathlib.Core.List.{List}
 use Rattle.rules.specs.Columns.{Column, written}
 use Rattle.rules.specs.Rules.{Verdict}
 use Rattle.rules.specs.Lines.{Taking}
-use Rattle.columns.specs.Listing.{spanOf}
+use Rattle.columns.specs.Listing.{spanOf, noSpan}
 use Rattle.steps.specs.Steps.{stepOf}
 use Rattle.steps.specs.declared.Step.the-variants as steps
-use Rattle.nodes.specs.PlainNodes.{noSpan, plainSaid}
+use Rattle.nodes.specs.PlainNodes.{plainSaid}
 use Rattle.judging.specs.declared.plain.Plain.{Plain}
 use Rattle.judging.specs.declared.plain.Plain.the-variants.{Word, Phrase, Other}
 

@@ -4,12 +4,7 @@ ghost use mathlib.Core.List.{List};
 ghost use mathlib.Core.Path.{_≡_};
 ghost use mathlib.Core.Logic.{_≢_};
 ghost use Prim.Native.Nat.{ℕ, _+_, _≤_};
-ghost use Rattle.rules.specs.Lists.{pick};
-ghost use Rattle.rules.specs.Bytes.{ignored};
 ghost use Rattle.rules.specs.Numbers.{edgeLimit};
-ghost use Rattle.rules.specs.Rules.{granted};
-ghost use Rattle.rules.specs.Keywords.{firstColumn};
-ghost use Rattle.rules.specs.Lines.{ignoredLine, amongNodes};
 ghost use Rattle.columns.specs.Listing.{lineOf, columnsOf, Listed};
 ghost use Rattle.table_sheet.specs.SheetRows.{tablesIn};
 ghost use Rattle.citations.specs.Tabled.{Tabled};
@@ -96,7 +91,7 @@ pub fn plain_node(
     marks: &[u32; MARKS],
 ) -> Plain
     requires { ⌜ Listed (now file) line (now places) × Tabled (now file) (now sheet) × Countable t handed ⌝ }
-    ensures { λ r. ⌜ ((format : ℕ) → PlainBy (columnsOf (now (file .entry)) line) (t .words) (pick (ignored (lineOf (now (file .entry)) line .bytes)) (granted ignoredLine) (amongNodes (lineOf (now (file .entry)) line) (firstColumn (lineOf (now (file .entry)) line)) format (tablesIn (now (file .entry)) (now (sheet .entry))) (soFarBy t (now (marks .entry)) (handed + 1)))) r) ⌝ }
+    ensures { λ r. ⌜ ((format : ℕ) → PlainBy (columnsOf (now (file .entry)) line) (t .words) (sentenceLine (lineOf (now (file .entry)) line) format (tablesIn (now (file .entry)) (now (sheet .entry))) (soFarBy t (now (marks .entry)) (handed + 1))) r) ⌝ }
 {
     if line.columns != ORDINARY {
         return Plain::Other;

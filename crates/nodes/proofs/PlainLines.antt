@@ -21,13 +21,13 @@ use Rattle.rules.specs.Nodes.{nodeOf, shaped, pairs, paired, parentsWritten, ta
 use Rattle.rules.proofs.Conjunctions.{and-both}
 use Rattle.rules.proofs.Same.{same-eq}
 use Rattle.rules.proofs.Largest.{larger-zero}
-use Rattle.columns.specs.Listing.{spanOf}
+use Rattle.columns.specs.Listing.{spanOf, noSpan}
 use Rattle.steps.specs.Faults.{noFault, faultIn}
 use Rattle.steps.specs.Steps.{nodeSaid, stepOf}
 use Rattle.steps.specs.declared.Step.the-variants.{Word, Phrase}
 use Rattle.nodes.specs.NodeLines.{phraseIn, firstFault}
 use Rattle.nodes.specs.PlainFields.{PlainFields}
-use Rattle.nodes.specs.PlainNodes.{noSpan, plainSaid}
+use Rattle.nodes.specs.PlainNodes.{plainSaid}
 use Rattle.nodes.proofs.NodeSteps.{word-stepped, phrase-stepped, taken-as}
 
 -- the five columns as fields

@@ -3,12 +3,9 @@
 use Prim.Native.Nat.{ℕ}
 use mathlib.Core.List.{List}
 use Rattle.rules.specs.Columns.{Column, written}
-use Rattle.columns.specs.Listing.{spanOf}
+use Rattle.columns.specs.Listing.{spanOf, noSpan}
 use Rattle.columns.specs.declared.listing.Span.{Span}
 use Rattle.steps.specs.declared.NodeSaid.{NodeSaid}
-
-abbrev pub noSpan : Span
-noSpan = record { start = 0; len = 0 }
 
 -- the columns, where the word stands, the node's number, its parent
 abbrev pub plainSaid : List Column → Span → ℕ → ℕ → NodeSaid

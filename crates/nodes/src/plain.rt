@@ -12,14 +12,14 @@ ghost use Rattle.rules.specs.Numbers.{wordLimit, edgeLimit};
 ghost use Rattle.rules.specs.Sentences.{SoFar};
 ghost use Rattle.rules.specs.Lines.{takenAs, wordLine, phraseLine};
 ghost use Rattle.rules.specs.Nodes.{wordOf, phraseOf};
-ghost use Rattle.columns.specs.Listing.{lineOf, columnsOf, spanOf, Listed};
+ghost use Rattle.columns.specs.Listing.{lineOf, columnsOf, spanOf, noSpan, Listed};
 ghost use Rattle.table_sheet.specs.SheetRows.{tablesIn};
 ghost use Rattle.citations.specs.Tabled.{Tabled};
 ghost use Rattle.steps.specs.Steps.{stepOf};
 ghost use Rattle.steps.specs.declared.Step.the-variants.{Word, Phrase};
 ghost use Rattle.nodes.specs.NodeLines.{phraseIn};
 ghost use Rattle.nodes.specs.PlainFields.{PlainTag, PlainFields};
-ghost use Rattle.nodes.specs.PlainNodes.{noSpan, plainSaid};
+ghost use Rattle.nodes.specs.PlainNodes.{plainSaid};
 use columns::listing::Line;
 use columns::listing::Places;
 

@@ -11,7 +11,7 @@ use Rattle.rules.specs.Numbers.{fileLimit, rowLimit}
 use Rattle.rules.specs.Sheets.{tableCount, rowPlace, tableSheetSize}
 use Rattle.seen.specs.Bits.{bitAt, withBit}
 use Rattle.columns.specs.Splices.{splice}
-use Rattle.columns.specs.declared.listing.Span.{Span}
+use Rattle.columns.specs.Listing.{noSpan}
 use Rattle.steps.specs.declared.NodeSaid.{NodeSaid}
 use Rattle.steps.specs.declared.RowSaid.{RowSaid}
 use Rattle.steps.specs.declared.Step.{Step}
@@ -93,18 +93,15 @@ notedBy from step s begins = effect from step 0 0 (kept s [] [] [] begins) .begi
 
 -- ---- an ordinary line, that was not judged
 
-abbrev nowhere : Span
-nowhere = record { start = 0; len = 0 }
-
 -- its node without the texts, of which a reading keeps nothing
 abbrev pub bareNode : ℕ → ℕ → NodeSaid
 bareNode its-number its-parent =
     record {
-      word = nowhere;
-      tag = nowhere;
-      morphology = nowhere;
-      edge = nowhere;
-      comment = nowhere;
+      word = noSpan;
+      tag = noSpan;
+      morphology = noSpan;
+      edge = noSpan;
+      comment = noSpan;
       number = its-number;
       parent = its-parent;
       edges = 0;

@@ -11,14 +11,14 @@ use Rattle.rules.specs.Tables.{Tables}
 use Rattle.rules.specs.Sheets.{tableCount}
 use Rattle.rules.specs.Keywords.{firstColumn}
 use Rattle.rules.specs.Lines.{Taking, ignoredLine, amongNodes}
-use Rattle.columns.specs.Listing.{lineOf, columnsOf, spanOf}
+use Rattle.columns.specs.Listing.{lineOf, columnsOf, spanOf, noSpan}
 use Rattle.columns.specs.declared.listing.Line.{Line}
 use Rattle.table_sheet.specs.SheetRows.{tablesIn}
 use Rattle.citations.proofs.NoTables.{no-tables}
 use Rattle.steps.specs.Steps.{stepOf}
 use Rattle.steps.specs.declared.NodeSaid.{NodeSaid}
 use Rattle.steps.specs.declared.Step.the-variants as steps
-use Rattle.nodes.specs.PlainNodes.{noSpan, plainSaid}
+use Rattle.nodes.specs.PlainNodes.{plainSaid}
 use Rattle.judging.specs.Judging.{soFarBy}
 use Rattle.judging.specs.PlainLines.{PlainBy}
 use Rattle.judging.specs.declared.state.Tally.{Tally}

@@ -4,14 +4,12 @@ use Prim.Native.Nat.{ℕ, _+_, _-_, _*_, _≤_, _<_}
 use mathlib.Core.Path.{_≡_}
 use mathlib.Core.List.{List}
 use lib.ListN.{length, getD, set}
-use Rattle.rules.specs.Lists.{pick, joined}
-use Rattle.rules.specs.Bytes.{ignored}
+use Rattle.rules.specs.Lists.{joined}
 use Rattle.rules.specs.Texts.{Text}
 use Rattle.rules.specs.Numbers.{fileLimit, edgeLimit}
-use Rattle.rules.specs.Rules.{Verdict, granted}
+use Rattle.rules.specs.Rules.{Verdict}
 use Rattle.rules.specs.Tables.{noTables}
-use Rattle.rules.specs.Keywords.{firstColumn}
-use Rattle.rules.specs.Lines.{Taking, ignoredLine, amongNodes}
+use Rattle.rules.specs.Lines.{Taking}
 use Rattle.rules.specs.Sheets.{nodeRoom, fieldPlace, sentenceSheetSize}
 use Rattle.columns.specs.Splices.{splice}
 use Rattle.columns.specs.declared.listing.Line.{Line}
@@ -24,6 +22,7 @@ use Rattle.steps.specs.declared.Step.the-variants.{Ignored, Format, TableBegins
 use Rattle.nodes.specs.NodeLines.{Whole}
 use Rattle.judging.specs.States.{countedWord, countedPhrase}
 use Rattle.judging.specs.Judging.{soFarBy}
+use Rattle.judging.specs.PlainStarts.{sentenceLine}
 use Rattle.judging.specs.declared.state.Tally.{Tally}
 use Rattle.sentences.specs.LineEdges.{pairEdges}
 
@@ -34,8 +33,7 @@ pub record MarkedUpTo (most : ℕ) (marks : List ℕ) : Type 0 where
 
 -- there are no tables; the phrases of the sentence are marked with its stamp
 unfoldable pub takenBy : Text → Tally → List ℕ → ℕ → Verdict Taking
-takenBy line t marks stamp =
-    pick (ignored (line .bytes)) (granted ignoredLine) (amongNodes line (firstColumn line) 3 noTables (soFarBy t marks stamp))
+takenBy line t marks stamp = sentenceLine line 3 noTables (soFarBy t marks stamp)
 
 -- the counts, the sentence sheet, the flat list of secondary edges, the marks of the phrases
 pub record Stored : Type 0 where
