@@ -17,7 +17,7 @@ use Rattle.rules.specs.Sheets.{rowWidth}
 use Rattle.rules.proofs.Conjunctions.{or-found}
 use Rattle.rules.proofs.Same.{eq-same, same-eq}
 use Rattle.table_sheet.specs.SheetRows.{rowAt, rowsFrom}
-use Rattle.table_sheet.specs.LookUps.{isFound, idFrom, idFound, tagsOf, tagAmong, TagFound, TagsDiffer}
+use Rattle.table_sheet.specs.LookUps.{isFound, idFrom, idFound, FourWithout, tagsOf, tagAmong, TagFound, TagsDiffer}
 use Rattle.table_sheet.specs.declared.Found.{Found}
 use Rattle.table_sheet.specs.declared.Found.the-variants as found
 
@@ -42,6 +42,15 @@ module _ (file sheet : List ℕ) (at row rows id1 : ℕ) where
   id-end h =
       let m : rows - row ≡ 0 = omega arith in
       rw m
+
+pub ids-miss : (file sheet : List ℕ) (at row rows id1 : ℕ) → row + 4 ≤ rows → FourWithout sheet at id1
+    → idFrom (row + 4) id1 (rowsFrom file sheet (at + 24) (rows - (row + 4))) ≡ idFrom row id1 (rowsFrom file sheet at (rows - row))
+ids-miss file sheet at row rows id1 h w =
+    ap₂ (λ (r a : ℕ). idFrom r id1 (rowsFrom file sheet a (rows - r))) (omega arith) (omega arith)
+    ∙ id-miss file sheet (at + rowWidth + rowWidth + rowWidth) (row + 1 + 1 + 1) rows id1 (omega arith) (w .fourth)
+    ∙ id-miss file sheet (at + rowWidth + rowWidth) (row + 1 + 1) rows id1 (omega arith) (w .third)
+    ∙ id-miss file sheet (at + rowWidth) (row + 1) rows id1 (omega arith) (w .second)
+    ∙ id-miss file sheet at row rows id1 (omega arith) (w .first)
 
 found-from : (k i : ℕ) (rs : List Row) → isFound (idFrom k i rs) ≡ hasId i rs
 unfolding idFrom hasId

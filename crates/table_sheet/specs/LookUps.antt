@@ -1,5 +1,5 @@
 -- What a look-up along the rows of a table answers: by an id + 1 the first row that has it, by a tag a row that has it.
-use Prim.Native.Nat.{ℕ, suc, _<_}
+use Prim.Native.Nat.{ℕ, suc, _+_, _<_}
 use mathlib.Core.Path.{_≡_}
 use mathlib.Core.Bool.{Bool, true, false}
 use mathlib.Core.List.{List, [], _∷_, map}
@@ -7,6 +7,7 @@ use lib.Dec.{eqb}
 use lib.ListN.{length, getD}
 use Rattle.rules.specs.Lists.{pick, any, same}
 use Rattle.rules.specs.Tables.{Row}
+use Rattle.rules.specs.Sheets.{rowWidth}
 use Rattle.table_sheet.specs.declared.Found.{Found}
 use Rattle.table_sheet.specs.declared.Found.the-variants as found
 
@@ -23,6 +24,13 @@ idFrom k i (r ∷ rs) =
 
 abbrev pub idFound : ℕ → List Row → Found
 idFound i rs = idFrom 0 i rs
+
+-- none of the four rows from a place on has it
+pub record FourWithout (sheet : List ℕ) (at i : ℕ) : Type 0 where
+  pub first : getD sheet at 0 ≡ i → ⊥
+  pub second : getD sheet (at + rowWidth) 0 ≡ i → ⊥
+  pub third : getD sheet (at + rowWidth + rowWidth) 0 ≡ i → ⊥
+  pub fourth : getD sheet (at + rowWidth + rowWidth + rowWidth) 0 ≡ i → ⊥
 
 -- ---- tags: the first texts of the rows
 

@@ -1,4 +1,5 @@
 // The table sheet: its rows are looked up, stored and cleared.
+mod fours;
 mod hints;
 pub mod order;
 pub mod outlines;
@@ -75,8 +76,8 @@ pub fn find_id(sheet: &[u32], place: usize, rows: usize, id1: u32) -> Found
     requires { ⌜ place + rowWidth * rows ≤ length (now sheet) ⌝ }
     ensures { λ r. ⌜ ((file : List ℕ) → r ≡ idFound id1 (rowsFrom file (now (sheet .entry)) place rows)) ⌝ }
 {
-    let mut row = 0;
-    let mut at = place;
+    let mut row = fours::pass_fours(sheet, place, rows, id1);
+    let mut at = place + ROW_WIDTH * row;
     while row < rows {
         if sheet[at] == id1 {
             return Found::Row(row);

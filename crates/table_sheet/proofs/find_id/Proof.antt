@@ -1,7 +1,6 @@
 -- `table_sheet::find_id` meets its contract: from here on the rows give the answer of all the rows asked for.
 -- The measure is the number of rows left.
 use borrow.Author.Needs.{needs}
-use native.Mathlib.Nat.{sub-zero}
 use native.Mathlib.Omega.{arith}
 use Prim.Native.Nat.{ℕ, _+_, _-_, _*_, _≤_}
 use mathlib.Core.Path.{_≡_, sym, _∙_}
@@ -23,7 +22,7 @@ abbrev μ-loop : tie.MeasureT-loop
 μ-loop sheet place rows id1 row₀ at₀ row at = rows - row
 
 loop-holds : tie.Need-loop-holds Inv-loop μ-loop
-loop-holds c = (omega arith, omega arith, λ file. rw sub-zero)
+loop-holds c = (c .pass-fours .ensures .0, omega arith, c .pass-fours .ensures .1)
 
 mul-if1 : tie.Need-mul-if1 Inv-loop μ-loop
 mul-if1 c = search needs
@@ -35,15 +34,15 @@ returns : tie.Need-returns Inv-loop μ-loop
 returns c file =
     let t = c .before .before in
     let l = t .before in
-    let a = l .before .args in
+    let a = l .before .before .before .args in
     sym (id-hit file (a .sheet .now) (l .loop .at) (l .loop .row) (a .rows) (a .id1) (t .loop-test .taken) (c .if1 .taken))
     ∙ l .loop .inv .2 file
 
 add-row : tie.Need-add-row Inv-loop μ-loop
 add-row c = search needs
 
-add-at : tie.Need-add-at Inv-loop μ-loop
-add-at c = search needs
+add-at-2 : tie.Need-add-at-2 Inv-loop μ-loop
+add-at-2 c = search needs
 
 loop-less : tie.Need-loop-less Inv-loop μ-loop
 loop-less c = search needs
@@ -52,7 +51,7 @@ loop-again : tie.Need-loop-again Inv-loop μ-loop
 loop-again c =
     let t = c .before .before in
     let l = t .before in
-    let a = l .before .args in (
+    let a = l .before .before .before .args in (
       omega arith,
       omega arith,
       λ file.
@@ -63,7 +62,7 @@ loop-again c =
 returns-2 : tie.Need-returns-2 Inv-loop μ-loop
 returns-2 c file =
     let l = c .before in
-    let a = l .before .args in
+    let a = l .before .before .before .args in
     sym (id-end file (a .sheet .now) (l .loop .at) (l .loop .row) (a .rows) (a .id1) (c .loop-test .left)) ∙ l .loop .inv .2 file
 
 pub find-id-spec : {M : Type 1} → statement M
@@ -72,12 +71,15 @@ find-id-spec =
     (tie.spec
     Inv-loop
     μ-loop
+    (λ c κs. search needs)
+    (λ c. search needs)
+    (λ c. search needs)
     loop-holds
     mul-if1
     shared-slice-read-if1
     returns
     add-row
-    add-at
+    add-at-2
     loop-less
     loop-again
     returns-2)
