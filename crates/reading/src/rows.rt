@@ -14,7 +14,7 @@ use judging::state::rows_in;
 use judging::state::table_in;
 use steps::RowSaid;
 
-// A row's numbers go into the sheet, its tag is hinted at, and it takes its place in the table's order.
+// A row's numbers go into the sheet; its tag, if it has one, is hinted at, or takes its place in the table's order.
 fn put_row(
     row: RowSaid,
     table: usize,
@@ -37,6 +37,9 @@ fn put_row(
         row.flag,
     ];
     table_sheet::put(sheet, table_sheet::row_place(table, rows), &six);
+    if table < table_sheet::WORD_TAGS {
+        return;
+    }
     let start = first.start as usize;
     let end = start + first.len as usize;
     let tag = &file[start..end];

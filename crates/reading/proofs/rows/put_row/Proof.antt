@@ -1,18 +1,19 @@
 -- `reading::rows::put_row` meets its contract.
 use borrow.Author.Needs.{needs}
-use mathlib.Core.Path.{ap, _∙_}
+use mathlib.Core.Path.{_≡_, ap, _∙_}
 use Prim.Native.Nat.{ℕ}
+use Rattle.rules.specs.Sheets.{rowPlace}
 use Rattle.columns.specs.Splices.{splice}
 use Rattle.reading.specs.Effects.{sixOf}
 use Rattle.reading.proofs.rows.put_row.Statement.{statement}
 use Rattle.reading.proofs.rows.put_row.Tie as tie
 
-returns : tie.Need-returns
-returns c =
-    let p = c .before .before .before .before .before .before .before .before in
+put : (p : tie.After-put) → let a = p .before .before .before .before .before .before .before .before .args in
+    p .put .last .0 ≡ splice (rowPlace (a .table) (a .rows)) (sixOf (a .row)) (a .sheet .now)
+put p =
     let d = p .before .before in
-    let a = d .before .before .before .before .before .before in
-    p .put .ensures ∙ ap (λ (place : ℕ). splice place (sixOf (a .args .row)) (a .args .sheet .now)) (d .row-place .ensures)
+    let a = d .before .before .before .before .before .before .args in
+    p .put .ensures ∙ ap (λ (place : ℕ). splice place (sixOf (a .row)) (a .sheet .now)) (d .row-place .ensures)
 
 pub put-row-spec : {M : Type 1} → statement M
 put-row-spec =
@@ -22,6 +23,8 @@ put-row-spec =
     (λ c. search needs)
     (λ c κs. search needs)
     (λ c. search needs)
+    (λ c. put (c .before .before .before))
+    (λ c. search needs)
     (λ c. search needs)
     (λ c. search needs)
     (λ c. search needs)
@@ -29,4 +32,4 @@ put-row-spec =
     (λ c. search needs)
     (λ c κs. search needs)
     (λ c. search needs)
-    returns)
+    (λ c. put (c .before .before .before .before .before .before .before .before .before)))
