@@ -34,7 +34,7 @@ RULES: dict[int, Rule] = {
     16: Rule("the sentence has a 501st word or a 513th secondary edge", "Often an #EOS and a #BOS were lost; else divide the sentence."),
     17: Rule("the phrase number is given twice in the sentence", "Remove the line if it is a copy; else number it anew, and look which nodes belong under it."),
     18: Rule("a tag isn't in its table", "Correct the tag, or add a row to the table."),
-    19: Rule("a parent can't be: it isn't larger than its phrase, or it is 0 and the edge isn't --", "Write -- for the edge of a node with parent 0; number phrases from the leaves up."),
+    19: Rule("a parent can't be: it isn't larger than its phrase, it is 0 and the edge isn't --, or a secondary one is the phrase itself", "Write -- for the edge of a node with parent 0; number phrases from the leaves up; lead a secondary edge to another phrase."),
     20: Rule("#EOS has another number than #BOS", "Look whether lines were lost: this may be the front of one sentence and the end of another."),
     21: Rule("the sentence's phrases aren't numbered from 500 without a gap", "Bring the lost phrase back, or number them from 500 on, with their children's parents."),
     22: Rule("a node of the sentence names a parent that isn't there", "Look above this line for a parent beyond the highest phrase; bring that phrase back, or correct the parent."),

@@ -56,7 +56,7 @@ class Node:
 
     @property
     def secondary(self) -> List[SecondaryEdge]:
-        """The secondary edges in the order of the line."""
+        """The secondary edges in the order of the line, each to another phrase; they may form circles."""
         return self.sentence._secondary_of(self.number)
 
     def __eq__(self, other: object) -> bool:

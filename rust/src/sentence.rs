@@ -78,11 +78,11 @@ impl<'f> Sentence<'f> {
 /// A secondary edge.
 #[derive(Clone, Copy, PartialEq, Eq, Debug)]
 pub struct Edge<'f> {
-    /// The number of the node below.
+    /// The number of the node that has it.
     pub child: u32,
     /// Its label.
     pub label: &'f [u8],
-    /// The number of the phrase above.
+    /// The number of the phrase that it leads to: any but the node itself, so edges may form a circle.
     pub parent: u32,
 }
 
@@ -161,7 +161,7 @@ impl<'s, 'f> Node<'s, 'f> {
         self.sentence.nodes().filter(under)
     }
 
-    /// The secondary edges to phrases above.
+    /// The secondary edges to other phrases.
     pub fn secondary(&self) -> impl Iterator<Item = Edge<'f>> + 's {
         let number = self.number;
         self.sentence

@@ -69,6 +69,14 @@ class Sentences(unittest.TestCase):
         self.assertEqual((sentence.editor, sentence.origin, sentence.date), (0, 1, 0))
         self.assertEqual(Corpus(UNTIDY)[1].editor, -1)
 
+    def test_secondary_edges_down_and_round(self):
+        corpus = Corpus(GALLERY / "shared-subject.export")
+        joined, circle = corpus[7], corpus[8]
+        self.assertEqual(joined.phrase(501).parent, joined.phrase(502))
+        self.assertEqual(joined.phrase(501).secondary, [("SB", joined.phrase(500))])
+        self.assertEqual(circle.phrase(500).secondary, [("RE", circle.phrase(501))])
+        self.assertEqual(circle.phrase(501).secondary, [("RE", circle.phrase(500))])
+
     def test_order_and_numbers(self):
         corpus = Corpus(UNTIDY)
         self.assertEqual([s.number for s in corpus], [2, 1])

@@ -17,7 +17,7 @@ use Rattle.rules.specs.Numbers.{wordLimit, edgeLimit, parentNumber, decimal, go
 use Rattle.rules.specs.Tables.{Tables, wordTags, nodeTags}
 use Rattle.rules.specs.Sentences.{SoFar}
 use Rattle.rules.specs.Lines.{takenAs, wordLine, phraseLine}
-use Rattle.rules.specs.Nodes.{nodeOf, shaped, pairs, paired, parentsWritten, tagsShort, tagsKnown, parentsRise, wordOf, phraseOf}
+use Rattle.rules.specs.Nodes.{nodeOf, shaped, pairs, paired, parentsWritten, tagsShort, tagsKnown, parentsAllowed, wordOf, phraseOf}
 use Rattle.rules.proofs.Conjunctions.{and-both}
 use Rattle.rules.proofs.Same.{same-eq}
 use Rattle.rules.proofs.Largest.{larger-zero}
@@ -87,12 +87,12 @@ module _ (format : ℕ) (cs : List Column) (ts : Tables) (tags p : ℕ) (f : Pla
   unfolding faultIn tagsKnown pairs
   known-fine = rw (f .tag .listed, f .morphology .listed, f .edge .listed)
 
-  rise-fine : (n : ℕ) → n < p → faultIn (parentsRise format (five cs) n) ≡ noFault
-  unfolding faultIn parentsRise pairs
-  rise-fine n h = rw (f .parent, ne-eqb p 0 (λ z. omega (arith, z)), lt-ltb n p h)
+  allowed-fine : (n : ℕ) → n < p → faultIn (parentsAllowed format (five cs) n) ≡ noFault
+  unfolding faultIn parentsAllowed pairs
+  allowed-fine n h = rw (f .parent, ne-eqb p 0 (λ z. omega (arith, z)), lt-ltb n p h)
 
   no-fault : (n : ℕ) → n < p → firstFault format (five cs) ts tags n noFault .number ≡ 0
-  no-fault n h = rw (parents-fine, short-fine, known-fine, rise-fine n h)
+  no-fault n h = rw (parents-fine, short-fine, known-fine, allowed-fine n h)
 
   -- and the line says what its columns say
   said : (n : ℕ) (t : Text) → nodeSaid (nodeOf format (five cs) n t noText) ≡ plainSaid cs (spanOf t) n p

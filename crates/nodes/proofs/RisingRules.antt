@@ -10,12 +10,12 @@ use Rattle.rules.specs.Lists.{every}
 use Rattle.rules.specs.Texts.{Text}
 use Rattle.rules.specs.Rules.{Rule, rule}
 use Rattle.rules.specs.Tables.{Tables}
-use Rattle.rules.specs.Nodes.{itsPairs, parentsWritten, tagsShort, tagsKnown, parentsRise}
+use Rattle.rules.specs.Nodes.{itsPairs, parentsWritten, tagsShort, tagsKnown, parentsAllowed}
 use Rattle.rules.proofs.Conjunctions.{and-left, and-right, and-both, every-front, every-back}
 use Rattle.rules.proofs.RuleLaws.{rising, numbered}
 use Rattle.steps.specs.Faults.{faultIn, orElse}
 use Rattle.steps.proofs.StepLaws.{fault-append}
-use Rattle.nodes.specs.NodeLines.{parentWritten, labelShort, labelKnown, parentRises, firstFault}
+use Rattle.nodes.specs.NodeLines.{parentWritten, labelShort, labelKnown, parentDiffers, firstFault}
 use Rattle.steps.specs.declared.Fault.{Fault}
 
 -- rising from a number on
@@ -62,24 +62,24 @@ two-groups a b g n more = fault-append a b (every-front Numbered a b n) ∙ ap (
 
 module _ (format : ℕ) (fs : List Text) (ts : Tables) (tags its-number : ℕ) (limits : List Rule) where
   abbrev pub fieldRules : List Rule
-  fieldRules = parentsWritten format fs ++ tagsShort format fs tags ++ (limits ++ tagsKnown format fs ts tags) ++ parentsRise format fs its-number
+  fieldRules = parentsWritten format fs ++ tagsShort format fs tags ++ (limits ++ tagsKnown format fs ts tags) ++ parentsAllowed format fs its-number
 
   -- limits have numbers from 10 to 18
   pub fields-rise : (n : ℕ) → leb n 8 ≡ true → ((t : Text) (b : Bool) (rs : List Rule) → risesFrom 10 (limits ++ (rule 18 t b ∷ rs)) ≡ risesFrom 18 rs)
       → risesFrom n fieldRules ≡ true
-  unfolding parentsWritten tagsShort tagsKnown parentsRise
+  unfolding parentsWritten tagsShort tagsKnown parentsAllowed
   fields-rise n h up =
       let ps = itsPairs format fs in
-      ap (risesFrom n) (in-a-row (parentsWritten format fs) (tagsShort format fs tags) limits (tagsKnown format fs ts tags) (parentsRise format fs its-number))
+      ap (risesFrom n) (in-a-row (parentsWritten format fs) (tagsShort format fs tags) limits (tagsKnown format fs ts tags) (parentsAllowed format fs its-number))
       ∙ rw h
       (through parentWritten 8 (λ p. refl) ps _
       ∙ through labelShort 10 (λ p. refl) ps _
       ∙ up _ _ _
       ∙ through (labelKnown ts) 18 (λ p. refl) ps _
-      ∙ through-end (parentRises its-number) 19 (λ p. refl) ps)
+      ∙ through-end (parentDiffers its-number) 19 (λ p. refl) ps)
 
   pub fields-fault : numbered fieldRules ≡ true → faultIn fieldRules ≡ firstFault format fs ts tags its-number (faultIn limits)
   fields-fault n =
-      let row = in-a-row (parentsWritten format fs) (tagsShort format fs tags) limits (tagsKnown format fs ts tags) (parentsRise format fs its-number) in
+      let row = in-a-row (parentsWritten format fs) (tagsShort format fs tags) limits (tagsKnown format fs ts tags) (parentsAllowed format fs its-number) in
       ap faultIn row
       ∙ two-groups _ _ _ (rw row at n) (λ n. two-groups _ _ _ n (λ n. two-groups _ _ _ n (λ n. two-groups _ _ _ n (λ n. refl))))

@@ -5,7 +5,7 @@ use mathlib.Core.Path.{_≡_}
 use mathlib.Core.Bool.{Bool, true, _&&_}
 use mathlib.Core.Option.{Option}
 use mathlib.Core.List.{List, map}
-use lib.Dec.{leb, ltb, eqb}
+use lib.Dec.{leb, eqb}
 use lib.ListN.{length, getD, drop}
 use Rattle.rules.specs.Lists.{pick}
 use Rattle.rules.specs.Texts.{Text, atMost}
@@ -60,8 +60,8 @@ labelShort p = rule 10 (p .label) (atMost (tagLimit secEdgeTags) (p .label))
 abbrev pub labelKnown : Tables → nodes.Pair → Rule
 labelKnown ts p = rule 18 (p .label) (known ts secEdgeTags (p .label))
 
-abbrev pub parentRises : ℕ → nodes.Pair → Rule
-parentRises its-number p = rule 19 (p .parent) (ltb its-number (value (phraseIn (p .parent))))
+abbrev pub parentDiffers : ℕ → nodes.Pair → Rule
+parentDiffers its-number p = rule 19 (p .parent) (nodes.isAnother its-number p)
 
 -- ---- the parents
 
@@ -83,7 +83,7 @@ firstFault format fs ts tags its-number limits =
     orElse (faultIn (nodes.parentsWritten format fs))
     (orElse (faultIn (nodes.tagsShort format fs tags))
     (orElse limits
-    (orElse (faultIn (nodes.tagsKnown format fs ts tags)) (faultIn (nodes.parentsRise format fs its-number)))))
+    (orElse (faultIn (nodes.tagsKnown format fs ts tags)) (faultIn (nodes.parentsAllowed format fs its-number)))))
 
 -- how many numbers there are for phrases
 abbrev pub phraseCount : ℕ

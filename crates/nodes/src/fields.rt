@@ -1,5 +1,6 @@
 // One field of a node line.
 ghost use mathlib.Core.Path.{_≡_};
+ghost use mathlib.Core.Bool.{not};
 ghost use mathlib.Core.List.{List};
 ghost use Prim.Native.Nat.{ℕ, _<_};
 ghost use lib.Dec.{eqb, ltb};
@@ -68,8 +69,8 @@ pub fn is_known(
     citations::is_known(file, sheet, hints, table, field(file, line, places, k))
 }
 
-// A secondary parent above the node.
-pub fn rises(
+// A secondary parent other than the node. One that can't be read counts as 0.
+pub fn is_another(
     file: &[u8],
     line: Line,
     places: &Places,
@@ -78,13 +79,13 @@ pub fn rises(
     classes: &[u8; 256],
 ) -> bool
     requires { ⌜ (now classes ≡ classTable) × FieldAt (now file) line (now places) k ⌝ }
-    ensures { λ r. ⌜ r ≡ ltb number (value (phraseIn (text (fieldsOf (now (file .entry)) line) k))) ⌝ }
+    ensures { λ r. ⌜ r ≡ not (eqb number (value (phraseIn (text (fieldsOf (now (file .entry)) line) k)))) ⌝ }
 {
     let read = PhraseNumber::read(field(file, line, places, k), classes);
     let Number::Good(parent) = read else {
-        return false;
+        return number != 0;
     };
-    number < parent
+    number != parent
 }
 
 // Only --, the root's edge, has parent 0; any other parent is above the node.

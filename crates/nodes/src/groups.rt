@@ -3,7 +3,7 @@ ghost use mathlib.Core.Path.{_≡_};
 ghost use Prim.Native.Nat.{ℕ, _<_};
 ghost use Rattle.rules.specs.Bytes.{classTable};
 ghost use Rattle.rules.specs.Numbers.{value};
-ghost use Rattle.rules.specs.Nodes.{itsParent, parentsWritten, tagsShort, tagsKnown, parentsRise};
+ghost use Rattle.rules.specs.Nodes.{itsParent, parentsWritten, tagsShort, tagsKnown, parentsAllowed};
 ghost use Rattle.table_sheet.specs.SheetRows.{tablesIn};
 ghost use Rattle.citations.specs.Tabled.{Tabled};
 ghost use Rattle.steps.specs.Faults.{faultIn};
@@ -86,7 +86,7 @@ fn tags_known(
 }
 
 // 19
-fn parents_rise(
+fn parents_allowed(
     file: &[u8],
     line: Line,
     places: &Places,
@@ -96,12 +96,12 @@ fn parents_rise(
     classes: &[u8; 256],
 ) -> Fault
     requires { ⌜ (now classes ≡ classTable) × Whole (now file) line (now places) count × (parent ≡ value (itsParent 0 (fieldsOf (now file) line))) ⌝ }
-    ensures { λ r. ⌜ ((format : ℕ) → r ≡ faultIn (parentsRise format (fieldsOf (now (file .entry)) line) number)) ⌝ }
+    ensures { λ r. ⌜ ((format : ℕ) → r ≡ faultIn (parentsAllowed format (fieldsOf (now (file .entry)) line) number)) ⌝ }
 {
     if !fields::has_parent(file, line, places, number, parent) {
         return fields::fault_at(places, refusals::WRONG_PARENT, 4);
     }
-    pairs::parents_rise(file, line, places, count, number, classes)
+    pairs::parents_differ(file, line, places, count, number, classes)
 }
 
 // The groups in the order of their numbers, with the sentence's limits among them.
@@ -134,9 +134,9 @@ pub fn judge(
     if known.number != 0 {
         return Judged::Faulty(known);
     }
-    let rise = parents_rise(file, line, places, count, own.number, parent, classes);
-    if rise.number != 0 {
-        return Judged::Faulty(rise);
+    let allowed = parents_allowed(file, line, places, count, own.number, parent, classes);
+    if allowed.number != 0 {
+        return Judged::Faulty(allowed);
     }
     Judged::Fine(parent, highest)
 }

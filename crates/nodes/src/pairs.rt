@@ -6,7 +6,7 @@ ghost use Rattle.rules.specs.Highest.{larger};
 ghost use Rattle.table_sheet.specs.SheetRows.{tablesIn};
 ghost use Rattle.citations.specs.Tabled.{Tabled};
 ghost use Rattle.steps.specs.Faults.{faultIn};
-ghost use Rattle.nodes.specs.NodeLines.{fieldsOf, pairsFrom, Whole, parentWritten, labelShort, labelKnown, parentRises, highestOf, unlessFaulty};
+ghost use Rattle.nodes.specs.NodeLines.{fieldsOf, pairsFrom, Whole, parentWritten, labelShort, labelKnown, parentDiffers, highestOf, unlessFaulty};
 use crate::fields;
 use columns::listing::Line;
 use columns::listing::Places;
@@ -98,7 +98,7 @@ pub fn labels_known(
 }
 
 // 19
-pub fn parents_rise(
+pub fn parents_differ(
     file: &[u8],
     line: Line,
     places: &Places,
@@ -107,11 +107,11 @@ pub fn parents_rise(
     classes: &[u8; 256],
 ) -> Fault
     requires { ⌜ (now classes ≡ classTable) × Whole (now file) line (now places) count ⌝ }
-    ensures { λ r. ⌜ r ≡ faultIn (map (parentRises number) (pairsFrom (fieldsOf (now (file .entry)) line) 5)) ⌝ }
+    ensures { λ r. ⌜ r ≡ faultIn (map (parentDiffers number) (pairsFrom (fieldsOf (now (file .entry)) line) 5)) ⌝ }
 {
     let mut k = 5;
     while k < count {
-        if !fields::rises(file, line, places, k + 1, number, classes) {
+        if !fields::is_another(file, line, places, k + 1, number, classes) {
             return fields::fault_at(places, refusals::WRONG_PARENT, k + 1);
         }
         k += 2;

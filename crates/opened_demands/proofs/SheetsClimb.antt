@@ -15,7 +15,7 @@ use Rattle.rules.specs.Sentences.{Edge, Node, Sentence}
 use Rattle.rules.specs.Sheets.{nodeRoom, nodes, sentenceSheet, EdgeRecord, noEdge, edgeRecord, edgeList}
 use Rattle.rules.specs.Climbing.{parentIn, parentOn, Climbs}
 use Rattle.rules.specs.SentenceFrom.{sentenceFrom}
-use Rattle.rules.specs.BeginsThere.{PhraseAbove as ListedAbove, ParentsAbove}
+use Rattle.rules.specs.BeginsThere.{OtherPhrase, ParentsThere}
 use Rattle.rules.proofs.Conjunctions.{and-left, and-right}
 use Rattle.rules.proofs.EachElement.{each-then, each-joined, each-map}
 use Rattle.rules.proofs.NoGap.{listed-is}
@@ -27,7 +27,7 @@ use Rattle.rules.proofs.ParentsOnSheet.{parent-in-room, parent-on-sheet}
 use Rattle.rules.proofs.BeginsThere.{its-climbing, stands-there}
 use Rattle.opening.specs.FlatLists.{flat, edgeRecords}
 use Rattle.opening.specs.Promise.{OpenedFlat, afterOpeningFlat, OpenedFlatAt, afterOpeningFlatAt}
-use Rattle.opened_demands.specs.ClimbingSheets.{phrasesOn, PhraseAboveOn, SheetClimbs}
+use Rattle.opened_demands.specs.ClimbingSheets.{phrasesOn, PhraseAboveOn, OtherPhraseOn, SheetClimbs}
 use Rattle.opened_demands.proofs.Gives.{Given, zero-gives, begins-somewhere, zero-gives-at}
 
 -- ---- records lent as numbers, zeros behind them
@@ -76,38 +76,38 @@ module _ (file : List ℕ) (at : ℕ) (s : Sentence) (e : sentenceFrom file at �
       (climbs-same (parentIn s) (parentOn sheet) (suc (length (s .phrases))) n
       (λ j. climbed-same (parentIn s) (parentOn sheet) nodeRoom (parent-on-sheet s) (λ m l. parent-in-room s climbable m) j n h) (sentence-climbs s climbable n))
 
-  abbrev EdgeAbove : EdgeRecord → Type 0
-  EdgeAbove e = (e ≡ noEdge) ⊎ PhraseAboveOn sheet (e .child) (e .parent)
+  abbrev EdgeThere : EdgeRecord → Type 0
+  EdgeThere e = (e ≡ noEdge) ⊎ OtherPhraseOn sheet (e .child) (e .parent)
 
-  listed-above : (n parent : ℕ) → ListedAbove s n parent → PhraseAboveOn sheet n parent
-  listed-above n parent a =
+  other-there : (n parent : ℕ) → OtherPhrase s n parent → OtherPhraseOn sheet n parent
+  other-there n parent a =
       let ps = s .phrases in
       let b : (leb 500 parent && leb parent (499 + length ps)) ≡ true = sym (listed-is ps (numbered-apart ps (climbable .numbered) (climbable .apart)) (climbable .whole) parent) ∙ a .0 in
       record {
-        larger = a .1;
+        other = a .1;
         phrase = leb-true 500 parent (and-left (leb 500 parent) (leb parent (499 + length ps)) b);
         there = omega (arith, leb-true parent (499 + length ps) (and-right (leb 500 parent) (leb parent (499 + length ps)) b), phrases-on);
       }
 
-  edges-above : (ns : List Node) → Each (ParentsAbove s) ns → Each EdgeAbove (joined (map (λ (n : Node). map (edgeRecord (n .number)) (n .secondary)) ns))
-  edges-above [] a = tt
-  edges-above (n ∷ ns) a =
-      each-joined EdgeAbove (map (edgeRecord (n .number)) (n .secondary)) _
-      (each-map (edgeRecord (n .number)) EdgeAbove (n .secondary)
-      (each-then (λ (x : Edge). ListedAbove s (n .number) (x .parent)) (λ (x : Edge). EdgeAbove (edgeRecord (n .number) x)) (λ x b. inr (listed-above (n .number) (x .parent) b)) (n .secondary) (a .0 .secondary)))
-      (edges-above ns (a .1))
+  edges-there : (ns : List Node) → Each (ParentsThere s) ns → Each EdgeThere (joined (map (λ (n : Node). map (edgeRecord (n .number)) (n .secondary)) ns))
+  edges-there [] a = tt
+  edges-there (n ∷ ns) a =
+      each-joined EdgeThere (map (edgeRecord (n .number)) (n .secondary)) _
+      (each-map (edgeRecord (n .number)) EdgeThere (n .secondary)
+      (each-then (λ (x : Edge). OtherPhrase s (n .number) (x .parent)) (λ (x : Edge). EdgeThere (edgeRecord (n .number) x)) (λ x b. inr (other-there (n .number) (x .parent) b)) (n .secondary) (a .0 .secondary)))
+      (edges-there ns (a .1))
 
   abbrev theirs : List EdgeRecord
   theirs = joined (map (λ (n : Node). map (edgeRecord (n .number)) (n .secondary)) (nodes s))
 
-  list-above : Each EdgeAbove (edgeList s)
+  list-there : Each EdgeThere (edgeList s)
   unfolding edgeList
-  list-above =
+  list-there =
       let zeros = edgeLimit - length theirs in
-      each-joined EdgeAbove theirs (replicate zeros noEdge) (edges-above (nodes s) (stands-there file at s e .parents)) (each-same EdgeAbove noEdge (inl refl) zeros)
+      each-joined EdgeThere theirs (replicate zeros noEdge) (edges-there (nodes s) (stands-there file at s e .parents)) (each-same EdgeThere noEdge (inl refl) zeros)
 
   pub sheet-climbs : SheetClimbs sheet (flat (edgeList s))
-  sheet-climbs = record { parents = zero-or-above; chains = climbs-from; secondary = each-record EdgeAbove (inl refl) edgeLimit (edgeList s) list-above }
+  sheet-climbs = record { parents = zero-or-above; chains = climbs-from; secondary = each-record EdgeThere (inl refl) edgeLimit (edgeList s) list-there }
 
 -- ---- as opened
 

@@ -20,8 +20,14 @@ pub record PhraseAboveOn (sheet : List ℕ) (node parent : ℕ) : Type 0 where
   pub phrase : 500 ≤ parent
   pub there : parent < 500 + phrasesOn sheet
 
+-- the number of a phrase on the sheet, other than the node's (document 02, request 1)
+pub record OtherPhraseOn (sheet : List ℕ) (node parent : ℕ) : Type 0 where
+  pub other : parent ≡ node → ⊥
+  pub phrase : 500 ≤ parent
+  pub there : parent < 500 + phrasesOn sheet
+
 -- of every record of the sheet, and of every record of the list
 pub record SheetClimbs (sheet edges : List ℕ) : Type 0 where
   pub parents : (n : ℕ) → n < nodeRoom → (parentOn sheet n ≡ 0) ⊎ PhraseAboveOn sheet n (parentOn sheet n)
   pub chains : (n : ℕ) → n < nodeRoom → Climbs (parentOn sheet) (suc (phrasesOn sheet)) n
-  pub secondary : Each (λ (e : EdgeRecord). (e ≡ noEdge) ⊎ PhraseAboveOn sheet (e .child) (e .parent)) (edgeRecords edgeLimit edges)
+  pub secondary : Each (λ (e : EdgeRecord). (e ≡ noEdge) ⊎ OtherPhraseOn sheet (e .child) (e .parent)) (edgeRecords edgeLimit edges)

@@ -16,7 +16,7 @@ use Rattle.rules.specs.Numbers.{wordLimit, phraseNumber, number, parentN
 use Rattle.rules.specs.Rules.{Rule, rule}
 use Rattle.rules.specs.Tables.{Tables, wordTags, nodeTags}
 use Rattle.rules.specs.Sentences.{Node, SoFar, Sentence, soFar}
-use Rattle.rules.specs.Nodes.{Pair, secondaryParent, itsParent, itsPairs, parentsWritten, tagsShort, tagsKnown, parentsRise, roomy, wordOf, phraseOf}
+use Rattle.rules.specs.Nodes.{Pair, secondaryParent, itsParent, itsPairs, parentsWritten, tagsShort, tagsKnown, parentsAllowed, roomy, wordOf, phraseOf}
 use Rattle.rules.specs.Keywords.{digits, firstColumn, startsWord, startsPhrase}
 use Rattle.rules.specs.Phases.{Preamble, inSentence, Answer, next}
 use Rattle.rules.specs.GrammarNumbers.{phraseRange}
@@ -91,28 +91,28 @@ module _ (format : ℕ) (fs : List Text) where
                 (λ p e l q g. number-written (p .parent .bytes) (e .parentText) q .1 g) (itsPairs format fs) (n .secondary) (sh .at-pairs) (w .secondary))),
           )
 
-  -- behind the parents: tags, the node's own rules, and that parents rise
+  -- behind the parents: tags, the node's own rules, and which parents are allowed
   module _ (tags : ℕ) (ts : Tables) (own : List Rule) (its : ℕ) where
     abbrev later : List Rule
-    later = tagsShort format fs tags ++ ((own ++ tagsKnown format fs ts tags) ++ parentsRise format fs its)
+    later = tagsShort format fs tags ++ ((own ++ tagsKnown format fs ts tags) ++ parentsAllowed format fs its)
 
     abbrev nodeRules : List Rule
-    nodeRules = parentsWritten format fs ++ tagsShort format fs tags ++ (own ++ tagsKnown format fs ts tags) ++ parentsRise format fs its
+    nodeRules = parentsWritten format fs ++ tagsShort format fs tags ++ (own ++ tagsKnown format fs ts tags) ++ parentsAllowed format fs its
 
     later-past : every pastEight own ≡ true → every pastEight later ≡ true
-    unfolding tagsShort tagsKnown parentsRise
+    unfolding tagsShort tagsKnown parentsAllowed
     later-past h =
         let ps = itsPairs format fs in
-        every-append pastEight (tagsShort format fs tags) ((own ++ tagsKnown format fs ts tags) ++ parentsRise format fs its)
+        every-append pastEight (tagsShort format fs tags) ((own ++ tagsKnown format fs ts tags) ++ parentsAllowed format fs its)
         (mapped pastEight _ (λ p. refl) ps)
-        (every-append pastEight (own ++ tagsKnown format fs ts tags) (parentsRise format fs its)
+        (every-append pastEight (own ++ tagsKnown format fs ts tags) (parentsAllowed format fs its)
         (every-append pastEight own (tagsKnown format fs ts tags) h (mapped pastEight _ (λ p. refl) ps))
         (mapped pastEight _ (λ p. refl) ps))
 
     parted : nodeRules ≡ parentsWritten format fs ++ later
     parted =
-        append-assoc (parentsWritten format fs ++ tagsShort format fs tags) (own ++ tagsKnown format fs ts tags) (parentsRise format fs its)
-        ∙ append-assoc (parentsWritten format fs) (tagsShort format fs tags) ((own ++ tagsKnown format fs ts tags) ++ parentsRise format fs its)
+        append-assoc (parentsWritten format fs ++ tagsShort format fs tags) (own ++ tagsKnown format fs ts tags) (parentsAllowed format fs its)
+        ∙ append-assoc (parentsWritten format fs) (tagsShort format fs tags) ((own ++ tagsKnown format fs ts tags) ++ parentsAllowed format fs its)
 
     -- with rules of number 8 in front
     node-eight : {P : Type 0} (firsts : List Rule) → every eight firsts ≡ true → every pastEight own ≡ true → (every holdsOf (firsts ++ parentsWritten format fs) ≡ true) ↔ P

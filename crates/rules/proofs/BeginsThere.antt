@@ -4,12 +4,11 @@ use Prim.Native.Nat.{ℕ, _+_}
 use native.Mathlib.Omega.{arith}
 use mathlib.Core.Path.{_≡_, refl, sym, ap, _∙_, subst}
 use mathlib.Core.Logic.{_⊎_, inl, inr}
-use mathlib.Core.Bool.{true, false≢true}
+use mathlib.Core.Bool.{true, false≢true, not}
 use mathlib.Core.Option.{some}
 use mathlib.Core.List.{List, [], _∷_, _++_}
 use lib.ListN.{length}
-use lib.Dec.{ltb}
-use borrow.Author.Tests.{ltb-true}
+use lib.Dec.{eqb}
 use Rattle.rules.specs.Lists.{bytes, member, Each}
 use Rattle.rules.specs.Bytes.{newline}
 use Rattle.rules.specs.Texts.{Text, reads}
@@ -22,9 +21,10 @@ use Rattle.rules.specs.Sheets.{nodes}
 use Rattle.rules.specs.SentenceFrom.{sentenceFrom}
 use Rattle.rules.specs.Places.{SentenceLies, HandedLies}
 use Rattle.rules.specs.AsWritten.{SentenceSaid}
-use Rattle.rules.specs.BeginsThere.{PhraseAbove, ParentsAbove, BeginsThere}
+use Rattle.rules.specs.BeginsThere.{PhraseAbove, OtherPhrase, ParentsThere, BeginsThere}
 use Rattle.rules.proofs.EachElement.{each-then, each-both}
 use Rattle.rules.proofs.SaidOfLists.{every-each}
+use Rattle.rules.proofs.TestsAsFacts.{other-is}
 use Rattle.rules.proofs.RulesHeld.{held}
 use Rattle.rules.proofs.Takings.{goBegun, answerBehind, answerAt}
 use Rattle.rules.proofs.Steps.{either, next-checked, step-cases}
@@ -39,7 +39,7 @@ use Rattle.rules.proofs.HeadingsAlone.{Alone}
 use Rattle.rules.proofs.WithoutTables.{alone, Alike, step-alike}
 use Rattle.rules.proofs.ReadFromPlace.{Begun, begun-at, first-keeps}
 use Rattle.rules.proofs.CutThere.{kept-there, lost-there}
-use Rattle.rules.proofs.Climbable.{Rises, OthersRise, Climbable, PhaseRises, one-rises}
+use Rattle.rules.proofs.Climbable.{Rises, OthersDiffer, Climbable, PhaseRises, one-rises}
 use Rattle.rules.proofs.ParentsClimb.{chains-climb}
 use Rattle.rules.proofs.ParentsOnSheet.{chains-climb-on-sheet}
 
@@ -91,16 +91,16 @@ module _ (at : ℕ) where
 
 -- ---- its parents
 
-above : (s : Sentence) (n : Node) → parented (s .phrases) n ≡ true → Rises n → OthersRise n → ParentsAbove s n
-above s n e r o =
+there : (s : Sentence) (n : Node) → parented (s .phrases) n ≡ true → Rises n → OthersDiffer n → ParentsThere s n
+there s n e r o =
     let L : Edge → Type 0 = λ (x : Edge). listed (s .phrases) (x .parent) ≡ true in
-    let G : Edge → Type 0 = λ (x : Edge). ltb (n .number) (x .parent) ≡ true in
+    let D : Edge → Type 0 = λ (x : Edge). not (eqb (n .number) (x .parent)) ≡ true in
     record {
       parent = by r (parent-listed (s .phrases) n e);
       secondary =
-          each-then (λ (x : Edge). L x × G x) (λ (x : Edge). PhraseAbove s (n .number) (x .parent)) (λ x a. (a .0, ltb-true (n .number) (x .parent) (a .1))) (n .secondary)
-          (each-both L G (n .secondary) (every-each (λ (x : Edge). listed (s .phrases) (x .parent)) (n .secondary) (secondary-listed (s .phrases) n e))
-          (every-each (λ (x : Edge). ltb (n .number) (x .parent)) (n .secondary) o));
+          each-then (λ (x : Edge). L x × D x) (λ (x : Edge). OtherPhrase s (n .number) (x .parent)) (λ x a. (a .0, other-is (n .number) (x .parent) .0 (a .1))) (n .secondary)
+          (each-both L D (n .secondary) (every-each (λ (x : Edge). listed (s .phrases) (x .parent)) (n .secondary) (secondary-listed (s .phrases) n e))
+          (every-each (λ (x : Edge). not (eqb (n .number) (x .parent))) (n .secondary) o));
     }
   where
     by : Rises n → (n .parent ≡ 0) ⊎ (listed (s .phrases) (n .parent) ≡ true) → (n .parent ≡ 0) ⊎ PhraseAbove s (n .number) (n .parent)
@@ -108,12 +108,12 @@ above s n e r o =
     by (inr h) (inl z) = inl z
     by (inr h) (inr l) = inr (l, h)
 
-each-above : (s : Sentence) → Climbable s → Each (ParentsAbove s) (nodes s)
-each-above s k =
-    let Q : Node → Type 0 = λ (n : Node). Rises n × OthersRise n in
+each-there : (s : Sentence) → Climbable s → Each (ParentsThere s) (nodes s)
+each-there s k =
+    let Q : Node → Type 0 = λ (n : Node). Rises n × OthersDiffer n in
     let R : Node → Type 0 = λ (n : Node). parented (s .phrases) n ≡ true in
-    each-then (λ (n : Node). R n × Q n) (ParentsAbove s) (λ n a. above s n (a .0) (a .1 .0) (a .1 .1)) (nodes s)
-    (each-both R Q (nodes s) (every-each (parented (s .phrases)) (nodes s) (k .parents)) (each-both Rises OthersRise (nodes s) (k .rises) (k .others)))
+    each-then (λ (n : Node). R n × Q n) (ParentsThere s) (λ n a. there s n (a .0) (a .1 .0) (a .1 .1)) (nodes s)
+    (each-both R Q (nodes s) (every-each (parented (s .phrases)) (nodes s) (k .parents)) (each-both Rises OthersDiffer (nodes s) (k .rises) (k .others)))
 
 -- ---- all of it
 
@@ -157,7 +157,7 @@ module _ (file : List ℕ) (at : ℕ) (s : Sentence) (e : sentenceFrom file at �
         end = b .handed .end;
         written = its-written;
         lies = its-lies;
-        parents = each-above s its-climbing;
+        parents = each-there s its-climbing;
         climbs = chains-climb s its-climbing;
         climbs-on-sheet = chains-climb-on-sheet s its-climbing;
         kept = kept-there file at s b;

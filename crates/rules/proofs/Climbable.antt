@@ -1,10 +1,11 @@
 -- What every sentence handed out has for its chains of parents to climb: phrases numbered from 500 without a gap, each parent 0
--- or a phrase of a larger number. Line by line: a node's own rules, and those of the sentence's end.
+-- or a phrase of a larger number; and each secondary parent another node. Line by line: a node's own rules, and those of the
+-- sentence's end.
 use Prim.Native.Nat.{ℕ, _≤_, _<_}
 use native.Mathlib.Omega.{arith}
 use mathlib.Core.Path.{_≡_, refl, sym, _∙_}
 use mathlib.Core.Logic.{_⊎_, inl, inr}
-use mathlib.Core.Bool.{Bool, true, false}
+use mathlib.Core.Bool.{Bool, true, false, not}
 use mathlib.Core.List.{List, [], _++_, map}
 use lib.ListN.{length}
 use lib.Dec.{ltb, eqb}
@@ -17,7 +18,7 @@ use Rattle.rules.specs.Rules.{Rule, rule}
 use Rattle.rules.specs.Tables.{Tables, noTables}
 use Rattle.rules.specs.Rows.{rowOf}
 use Rattle.rules.specs.Sentences.{Edge, Node, Sentence, gapless, parented, headingOf, endRules, endOf, soFar}
-use Rattle.rules.specs.Nodes.{Pair, secondaryParent, asEdge, itsParent, itsPairs, parentsRise, wordOf, phraseOf}
+use Rattle.rules.specs.Nodes.{Pair, asEdge, isAnother, itsParent, itsPairs, parentsAllowed, wordOf, phraseOf}
 use Rattle.rules.specs.Keywords.{formatOf, tableOpened, tableEnded, firstColumn, startsRow, startsWord, startsPhrase}
 use Rattle.rules.specs.Phases.{Preamble, Phase, start, top, inTable, inSentence, behindSentence, Answer, refuse, go, hand, next, step}
 use Rattle.rules.specs.Reading.{Handed, begin, read}
@@ -41,26 +42,26 @@ use Rattle.rules.proofs.ByLines.{LineAnswered, ReadByLines, by-lines}
 abbrev pub Rises : Node → Type 0
 Rises n = (n .parent ≡ 0) ⊎ (n .number < n .parent)
 
--- and each secondary parent is larger
-abbrev pub OthersRise : Node → Type 0
-OthersRise n = every (λ (e : Edge). ltb (n .number) (e .parent)) (n .secondary) ≡ true
+-- and each secondary parent is another node
+abbrev pub OthersDiffer : Node → Type 0
+OthersDiffer n = every (λ (e : Edge). not (eqb (n .number) (e .parent))) (n .secondary) ≡ true
 
 pub record Climbable (s : Sentence) : Type 0 where
   pub numbered : Each PhraseNumbered (s .phrases)
   pub apart : Distinct nodeNumber (s .phrases)
   pub in-room : Each InRoom (nodes s)
   pub rises : Each Rises (nodes s)
-  pub others : Each OthersRise (nodes s)
+  pub others : Each OthersDiffer (nodes s)
   pub whole : gapless (s .phrases) ≡ true
   pub parents : every (parented (s .phrases)) (nodes s) ≡ true
 
 -- ---- a sentence that is being read
 
 abbrev pub WordRises : Node → Type 0
-WordRises n = InRoom n × Rises n × OthersRise n
+WordRises n = InRoom n × Rises n × OthersDiffer n
 
 abbrev pub PhraseRises : Node → Type 0
-PhraseRises n = PhraseNumbered n × Rises n × OthersRise n
+PhraseRises n = PhraseNumbered n × Rises n × OthersDiffer n
 
 pub record Rising (s : Sentence) : Type 0 where
   pub words : Each WordRises (s .words)
@@ -91,15 +92,16 @@ larger-parent n parent b e = by (eqb parent 0) refl e
 
 -- parent 0 needs the edge --, another parent is larger than the node's number
 node-rises : (format : ℕ) (fs : List Text) (ts : Tables) (tags k : ℕ) → NodeHolds format fs ts tags k → (value (itsParent format fs) ≡ 0) ⊎ (k < value (itsParent format fs))
-unfolding parentsRise
-node-rises format fs ts tags k h = larger-parent k _ _ (held (parentsRise format fs k) (h .rise) .0)
+unfolding parentsAllowed
+node-rises format fs ts tags k h = larger-parent k _ _ (held (parentsAllowed format fs k) (h .allowed) .0)
 
-others-rise : (format : ℕ) (fs : List Text) (ts : Tables) (tags k : ℕ) → NodeHolds format fs ts tags k → every (λ (e : Edge). ltb k (e .parent)) (map asEdge (itsPairs format fs)) ≡ true
-unfolding parentsRise
-others-rise format fs ts tags k h =
-    let larger : Pair → Rule = λ (p : Pair). rule 19 (p .parent) (ltb k (value (secondaryParent p))) in
-    every-map (λ (e : Edge). ltb k (e .parent)) asEdge (itsPairs format fs) ∙ sym (every-map holdsOf larger (itsPairs format fs))
-    ∙ hold (map larger (itsPairs format fs)) (held (parentsRise format fs k) (h .rise) .1)
+others-differ : (format : ℕ) (fs : List Text) (ts : Tables) (tags k : ℕ) → NodeHolds format fs ts tags k
+    → every (λ (e : Edge). not (eqb k (e .parent))) (map asEdge (itsPairs format fs)) ≡ true
+unfolding parentsAllowed
+others-differ format fs ts tags k h =
+    let another : Pair → Rule = λ (p : Pair). rule 19 (p .parent) (isAnother k p) in
+    every-map (λ (e : Edge). not (eqb k (e .parent))) asEdge (itsPairs format fs) ∙ sym (every-map holdsOf another (itsPairs format fs))
+    ∙ hold (map another (itsPairs format fs)) (held (parentsAllowed format fs k) (h .allowed) .1)
 
 module _ (line : Text) (p : Preamble) (s : Sentence) (k : Rising s) where
   abbrev fs : List Text
@@ -110,7 +112,7 @@ module _ (line : Text) (p : Preamble) (s : Sentence) (k : Rising s) where
       word-cases (p .format) (p .tables) (soFar s) line AnswerRises bad (goWord p s)
       (λ h.
       record {
-        words = each-more WordRises (s .words) _ (k .words) (omega (arith, h .few), node-rises (p .format) fs (p .tables) _ (length (s .words)) (h .own), others-rise (p .format) fs (p .tables) _ (length (s .words)) (h .own));
+        words = each-more WordRises (s .words) _ (k .words) (omega (arith, h .few), node-rises (p .format) fs (p .tables) _ (length (s .words)) (h .own), others-differ (p .format) fs (p .tables) _ (length (s .words)) (h .own));
         phrases = k .phrases;
         apart = k .apart;
       })
@@ -121,7 +123,7 @@ module _ (line : Text) (p : Preamble) (s : Sentence) (k : Rising s) where
       (λ i h.
       record {
         words = k .words;
-        phrases = each-more PhraseRises (s .phrases) _ (k .phrases) (number-range phraseNumber _ i (h .number), node-rises (p .format) fs (p .tables) _ i (h .own), others-rise (p .format) fs (p .tables) _ i (h .own));
+        phrases = each-more PhraseRises (s .phrases) _ (k .phrases) (number-range phraseNumber _ i (h .number), node-rises (p .format) fs (p .tables) _ i (h .own), others-differ (p .format) fs (p .tables) _ i (h .own));
         apart = distinct-last nodeNumber (s .phrases) _ (k .apart) (h .new);
       })
 
@@ -141,8 +143,8 @@ module _ (line : Text) (p : Preamble) (s : Sentence) (k : Rising s) where
             (each-then PhraseNumbered InRoom (λ n a. omega (arith, a .1)) (s .phrases) numbered);
         rises = each-joined Rises (s .words) (s .phrases) (each-then WordRises Rises (λ n a. a .1) (s .words) (k .words)) (each-then PhraseRises Rises (λ n a. a .1) (s .phrases) (k .phrases));
         others =
-            each-joined OthersRise (s .words) (s .phrases) (each-then WordRises OthersRise (λ n a. a .2) (s .words) (k .words))
-            (each-then PhraseRises OthersRise (λ n a. a .2) (s .phrases) (k .phrases));
+            each-joined OthersDiffer (s .words) (s .phrases) (each-then WordRises OthersDiffer (λ n a. a .2) (s .words) (k .words))
+            (each-then PhraseRises OthersDiffer (λ n a. a .2) (s .phrases) (k .phrases));
         whole = r .1 .1 .1 .0;
         parents = r .1 .1 .1 .1 .0;
       })

@@ -15,7 +15,7 @@ use Rattle.rules.specs.Rules.{broken, checked}
 use Rattle.rules.specs.Tables.{hasId, hasTag, known}
 use Rattle.rules.specs.Rows.{originRow, editorRow, tagRow}
 use Rattle.rules.specs.Sentences.{headingOf, endRules, endOf}
-use Rattle.rules.specs.Nodes.{pairs, paired, parentsWritten, tagsShort, tagsKnown, parentsRise, wordOf, phraseOf}
+use Rattle.rules.specs.Nodes.{pairs, paired, parentsWritten, tagsShort, tagsKnown, parentsAllowed, wordOf, phraseOf}
 use Rattle.rules.specs.Keywords.{formatOf, tableOpened, tableEnded, firstColumn}
 use Rattle.rules.specs.Lines.{atStart, behindOne, atTop, amongRows, amongNodes}
 use Rattle.rules.specs.Phases.{lineAt, taken, judged, after, step}
@@ -79,11 +79,11 @@ contentByHand =
     }
 
 accepted-by-hand : surveyOf fileByHand .refusal ≡ 0
-unfolding ignored rightTrim trimFrom frontBytes behindFrom columnsFrom fields comment valueFrom decimal broken checked hasId hasTag known originRow editorRow tagRow headingOf endRules endOf pairs paired parentsWritten tagsShort tagsKnown parentsRise wordOf phraseOf formatOf tableOpened tableEnded firstColumn atStart behindOne atTop amongRows amongNodes lineAt taken judged after step surveyOf
+unfolding ignored rightTrim trimFrom frontBytes behindFrom columnsFrom fields comment valueFrom decimal broken checked hasId hasTag known originRow editorRow tagRow headingOf endRules endOf pairs paired parentsWritten tagsShort tagsKnown parentsAllowed wordOf phraseOf formatOf tableOpened tableEnded firstColumn atStart behindOne atTop amongRows amongNodes lineAt taken judged after step surveyOf
 accepted-by-hand = refl
 
 read-by-hand : contentOf (surveyOf fileByHand) ≡ contentByHand
-unfolding ignored rightTrim trimFrom frontBytes behindFrom columnsFrom fields comment valueFrom decimal broken checked hasId hasTag known originRow editorRow tagRow headingOf endRules endOf pairs paired parentsWritten tagsShort tagsKnown parentsRise wordOf phraseOf formatOf tableOpened tableEnded firstColumn atStart behindOne atTop amongRows amongNodes lineAt taken judged after step surveyOf
+unfolding ignored rightTrim trimFrom frontBytes behindFrom columnsFrom fields comment valueFrom decimal broken checked hasId hasTag known originRow editorRow tagRow headingOf endRules endOf pairs paired parentsWritten tagsShort tagsKnown parentsAllowed wordOf phraseOf formatOf tableOpened tableEnded firstColumn atStart behindOne atTop amongRows amongNodes lineAt taken judged after step surveyOf
 read-by-hand = refl
 
 pub contains-by-hand : Contains sentenceRange fileByHand contentByHand

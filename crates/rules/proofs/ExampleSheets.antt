@@ -14,7 +14,7 @@ use Rattle.rules.specs.Rules.{broken, checked}
 use Rattle.rules.specs.Tables.{hasId, hasTag, known}
 use Rattle.rules.specs.Rows.{originRow, editorRow, tagRow}
 use Rattle.rules.specs.Sentences.{Sentence, headingOf, endRules, endOf}
-use Rattle.rules.specs.Nodes.{pairs, paired, parentsWritten, tagsShort, tagsKnown, parentsRise, wordOf, phraseOf}
+use Rattle.rules.specs.Nodes.{pairs, paired, parentsWritten, tagsShort, tagsKnown, parentsAllowed, wordOf, phraseOf}
 use Rattle.rules.specs.Keywords.{formatOf, tableOpened, tableEnded, firstColumn}
 use Rattle.rules.specs.Lines.{atStart, behindOne, atTop, amongRows, amongNodes}
 use Rattle.rules.specs.Phases.{lineAt, taken, judged, after, step}
@@ -27,7 +27,7 @@ use Rattle.rules.proofs.ExampleFile.{fileB}
 
 -- ---- the table sheet: seven counts, then each table's rows, and zeros
 
-abbrev zeros : ℕ → List ℕ
+abbrev pub zeros : ℕ → List ℕ
 zeros n = replicate n 0
 
 abbrev pub tableSheetB : List ℕ
@@ -49,12 +49,12 @@ tableSheetB =
     ++ zeros 1530
 
 pub tables-of-B : T (same (tableSheet (surveyOf fileB .tables)) tableSheetB)
-unfolding ignored rightTrim trimFrom frontBytes behindFrom columnsFrom fields comment valueFrom decimal broken checked hasId hasTag known originRow editorRow tagRow headingOf endRules endOf pairs paired parentsWritten tagsShort tagsKnown parentsRise wordOf phraseOf formatOf tableOpened tableEnded firstColumn atStart behindOne atTop amongRows amongNodes lineAt taken judged after step surveyOf rowsRoom tableSheet
+unfolding ignored rightTrim trimFrom frontBytes behindFrom columnsFrom fields comment valueFrom decimal broken checked hasId hasTag known originRow editorRow tagRow headingOf endRules endOf pairs paired parentsWritten tagsShort tagsKnown parentsAllowed wordOf phraseOf formatOf tableOpened tableEnded firstColumn atStart behindOne atTop amongRows amongNodes lineAt taken judged after step surveyOf rowsRoom tableSheet
 tables-of-B = tt
 
 -- ---- sentence 12: number, editor + 1, date, origin, comment, words, phrases, edges; nodes 0, 1, 500, 501, 502
 
-abbrev sheetOf : Option Sentence → List ℕ
+abbrev pub sheetOf : Option Sentence → List ℕ
 sheetOf none = []
 sheetOf (some s) = sentenceSheet s
 
@@ -70,29 +70,29 @@ sheet12 =
     ++ zeros 5467
 
 pub sheet-of-12 : T (same (sheetOf (sentenceOf 12 (surveyOf fileB .handed))) sheet12)
-unfolding ignored rightTrim trimFrom frontBytes behindFrom columnsFrom fields comment valueFrom decimal broken checked hasId hasTag known originRow editorRow tagRow headingOf endRules endOf pairs paired parentsWritten tagsShort tagsKnown parentsRise wordOf phraseOf formatOf tableOpened tableEnded firstColumn atStart behindOne atTop amongRows amongNodes lineAt taken judged after step surveyOf sentenceSheet
+unfolding ignored rightTrim trimFrom frontBytes behindFrom columnsFrom fields comment valueFrom decimal broken checked hasId hasTag known originRow editorRow tagRow headingOf endRules endOf pairs paired parentsWritten tagsShort tagsKnown parentsAllowed wordOf phraseOf formatOf tableOpened tableEnded firstColumn atStart behindOne atTop amongRows amongNodes lineAt taken judged after step surveyOf sentenceSheet
 sheet-of-12 = tt
 
 -- ---- its secondary edges: child, label start and length, parent
 
-abbrev flat : List EdgeRecord → List ℕ
+abbrev pub flat : List EdgeRecord → List ℕ
 flat [] = []
 flat (e ∷ es) = e .child ∷ e .labelStart ∷ e .labelLength ∷ e .parent ∷ flat es
 
-abbrev edgesOf : Option Sentence → List ℕ
+abbrev pub edgesOf : Option Sentence → List ℕ
 edgesOf none = []
 edgesOf (some s) = flat (edgeList s)
 
 pub edges-of-12 : T (same (edgesOf (sentenceOf 12 (surveyOf fileB .handed))) ((500 ∷ 553 ∷ 2 ∷ 502 ∷ 500 ∷ 560 ∷ 2 ∷ 501 ∷ []) ++ zeros 2040))
-unfolding ignored rightTrim trimFrom frontBytes behindFrom columnsFrom fields comment valueFrom decimal broken checked hasId hasTag known originRow editorRow tagRow headingOf endRules endOf pairs paired parentsWritten tagsShort tagsKnown parentsRise wordOf phraseOf formatOf tableOpened tableEnded firstColumn atStart behindOne atTop amongRows amongNodes lineAt taken judged after step surveyOf edgeList
+unfolding ignored rightTrim trimFrom frontBytes behindFrom columnsFrom fields comment valueFrom decimal broken checked hasId hasTag known originRow editorRow tagRow headingOf endRules endOf pairs paired parentsWritten tagsShort tagsKnown parentsAllowed wordOf phraseOf formatOf tableOpened tableEnded firstColumn atStart behindOne atTop amongRows amongNodes lineAt taken judged after step surveyOf edgeList
 edges-of-12 = tt
 
 -- ---- where sentences begin: one more than the place of #BOS
 
 pub begins-at-B : T (same (beginnings 0 14 (surveyOf fileB .handed)) (0 ∷ 0 ∷ 0 ∷ 594 ∷ 0 ∷ 0 ∷ 0 ∷ 0 ∷ 0 ∷ 0 ∷ 0 ∷ 0 ∷ 438 ∷ 0 ∷ []))
-unfolding ignored rightTrim trimFrom frontBytes behindFrom columnsFrom fields comment valueFrom decimal broken checked hasId hasTag known originRow editorRow tagRow headingOf endRules endOf pairs paired parentsWritten tagsShort tagsKnown parentsRise wordOf phraseOf formatOf tableOpened tableEnded firstColumn atStart behindOne atTop amongRows amongNodes lineAt taken judged after step surveyOf beginnings
+unfolding ignored rightTrim trimFrom frontBytes behindFrom columnsFrom fields comment valueFrom decimal broken checked hasId hasTag known originRow editorRow tagRow headingOf endRules endOf pairs paired parentsWritten tagsShort tagsKnown parentsAllowed wordOf phraseOf formatOf tableOpened tableEnded firstColumn atStart behindOne atTop amongRows amongNodes lineAt taken judged after step surveyOf beginnings
 begins-at-B = tt
 
 pub begins-at-A : T (same (beginnings 0 9 (surveyOf fileA .handed)) (0 ∷ 0 ∷ 0 ∷ 0 ∷ 0 ∷ 0 ∷ 0 ∷ 75 ∷ 0 ∷ []))
-unfolding ignored rightTrim trimFrom frontBytes behindFrom columnsFrom fields comment valueFrom decimal broken checked hasId hasTag known originRow editorRow tagRow headingOf endRules endOf pairs paired parentsWritten tagsShort tagsKnown parentsRise wordOf phraseOf formatOf tableOpened tableEnded firstColumn atStart behindOne atTop amongRows amongNodes lineAt taken judged after step surveyOf beginnings
+unfolding ignored rightTrim trimFrom frontBytes behindFrom columnsFrom fields comment valueFrom decimal broken checked hasId hasTag known originRow editorRow tagRow headingOf endRules endOf pairs paired parentsWritten tagsShort tagsKnown parentsAllowed wordOf phraseOf formatOf tableOpened tableEnded firstColumn atStart behindOne atTop amongRows amongNodes lineAt taken judged after step surveyOf beginnings
 begins-at-A = tt

@@ -16,7 +16,7 @@ use Rattle.rules.specs.Rules.{Rule, rule, broken, unless, checked}
 use Rattle.rules.specs.Tables.{Tables, Row, origins, editors, wordTags, nodeTags, secEdgeTags, known, tagLimit}
 use Rattle.rules.specs.Rows.{originRow, editorRow, tagRow, rowOf}
 use Rattle.rules.specs.Sentences.{Node, headingOf, endRules, endOf, SoFar, soFar}
-use Rattle.rules.specs.Nodes.{Pair, secondaryParent, itsPairs, roomy, wordOf, phraseOf, parentsWritten, tagsShort, tagsKnown, parentsRise}
+use Rattle.rules.specs.Nodes.{Pair, secondaryParent, isAnother, itsPairs, roomy, wordOf, phraseOf, parentsWritten, tagsShort, tagsKnown, parentsAllowed}
 use Rattle.rules.specs.Keywords.{formatOf, tableOpened, tableEnded, firstColumn, startsRow, startsWord, startsPhrase}
 use Rattle.rules.specs.Phases.{Preamble, Phase, start, top, inTable, inSentence, behindSentence, Answer, refuse, go, hand, next, step}
 use Rattle.rules.proofs.Takings.{answerStart, answerBehind, answerTop, answerRows, answerNodes, answerAt, answerTo, lineRules, step-answers}
@@ -50,17 +50,17 @@ pairs-six n about holds h [] = refl
 pairs-six n about holds h (p ∷ ps) = rw (h, pairs-six n about holds h ps)
 
 node-six : (format : ℕ) (fs : List Text) (tags : ℕ) (own : List Rule) (ts : Tables) (n : ℕ) → every six own ≡ true
-    → every six (parentsWritten format fs ++ tagsShort format fs tags ++ (own ++ tagsKnown format fs ts tags) ++ parentsRise format fs n) ≡ true
-unfolding parentsWritten tagsShort tagsKnown parentsRise
+    → every six (parentsWritten format fs ++ tagsShort format fs tags ++ (own ++ tagsKnown format fs ts tags) ++ parentsAllowed format fs n) ≡ true
+unfolding parentsWritten tagsShort tagsKnown parentsAllowed
 node-six format fs tags own ts n h =
     let ps = itsPairs format fs in
-    every-append six (parentsWritten format fs ++ tagsShort format fs tags ++ (own ++ tagsKnown format fs ts tags)) (parentsRise format fs n)
+    every-append six (parentsWritten format fs ++ tagsShort format fs tags ++ (own ++ tagsKnown format fs ts tags)) (parentsAllowed format fs n)
     (every-append six (parentsWritten format fs ++ tagsShort format fs tags) (own ++ tagsKnown format fs ts tags)
     (every-append six (parentsWritten format fs) (tagsShort format fs tags)
     (pairs-six 8 (λ (p : Pair). p .parent) (λ (p : Pair). good (secondaryParent p)) refl ps)
     (pairs-six 10 (λ (p : Pair). p .label) (λ (p : Pair). atMost (tagLimit secEdgeTags) (p .label)) refl ps))
     (every-append six own (tagsKnown format fs ts tags) h (pairs-six 18 (λ (p : Pair). p .label) (λ (p : Pair). known ts secEdgeTags (p .label)) refl ps)))
-    (pairs-six 19 (λ (p : Pair). p .parent) (λ (p : Pair). ltb n (value (secondaryParent p))) refl ps)
+    (pairs-six 19 (λ (p : Pair). p .parent) (isAnother n) refl ps)
 
 -- ---- lines
 

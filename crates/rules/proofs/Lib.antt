@@ -118,6 +118,7 @@ pub mod OpenedExactly
 pub mod WrittenExactly
 pub mod ExampleFile
 pub mod ExampleSheets
+mod Coordination
 pub mod CleanFronts
 pub mod FromSix
 pub mod BadLines

@@ -15,7 +15,7 @@ use Rattle.rules.specs.Numbers.{wordLimit, edgeLimit, phraseNumber, numb
 use Rattle.rules.specs.Rules.{Rule, rule, granted}
 use Rattle.rules.specs.Tables.{Tables, wordTags, nodeTags}
 use Rattle.rules.specs.Sentences.{Node, SoFar}
-use Rattle.rules.specs.Nodes.{itsPairs, nodeOf, shaped, parentsWritten, tagsShort, tagsKnown, parentsRise, roomy, wordOf, phraseOf}
+use Rattle.rules.specs.Nodes.{itsPairs, nodeOf, shaped, parentsWritten, tagsShort, tagsKnown, parentsAllowed, roomy, wordOf, phraseOf}
 use Rattle.rules.specs.Phases.{Answer, refuse, next}
 use Rattle.rules.proofs.Conjunctions.{and-left, and-right, not-true, every-append, every-front, every-back}
 use Rattle.rules.proofs.RuleLaws.{holdsOf, holds-granted}
@@ -60,17 +60,17 @@ module _ (f : Rule → Bool) (a b c d e : List Rule) where
 
 module _ (format : ℕ) (fs : List Text) (ts : Tables) (tags k : ℕ) (place : List Rule) where
   abbrev nodeRules : List Rule
-  nodeRules = five (parentsWritten format fs) (tagsShort format fs tags) place (tagsKnown format fs ts tags) (parentsRise format fs k)
+  nodeRules = five (parentsWritten format fs) (tagsShort format fs tags) place (tagsKnown format fs ts tags) (parentsAllowed format fs k)
 
   own-rules : shaped format fs ≡ true → every holdsOf nodeRules ≡ true → NodeHolds format fs ts tags k × (every holdsOf place ≡ true)
   own-rules s h =
-      let r = each holdsOf (parentsWritten format fs) (tagsShort format fs tags) place (tagsKnown format fs ts tags) (parentsRise format fs k) h in
-      (record { shape = s; parents = r .first; short = r .second; tabled = r .fourth; rise = r .fifth }, r .third)
+      let r = each holdsOf (parentsWritten format fs) (tagsShort format fs tags) place (tagsKnown format fs ts tags) (parentsAllowed format fs k) h in
+      (record { shape = s; parents = r .first; short = r .second; tabled = r .fourth; allowed = r .fifth }, r .third)
 
   all-rules : NodeHolds format fs ts tags k → every holdsOf place ≡ true → every holdsOf nodeRules ≡ true
   all-rules h p =
-      together holdsOf (parentsWritten format fs) (tagsShort format fs tags) place (tagsKnown format fs ts tags) (parentsRise format fs k)
-      (record { first = h .parents; second = h .short; third = p; fourth = h .tabled; fifth = h .rise })
+      together holdsOf (parentsWritten format fs) (tagsShort format fs tags) place (tagsKnown format fs ts tags) (parentsAllowed format fs k)
+      (record { first = h .parents; second = h .short; third = p; fourth = h .tabled; fifth = h .allowed })
 
 -- ---- words
 

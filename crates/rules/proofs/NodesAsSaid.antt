@@ -15,7 +15,7 @@ use Rattle.rules.specs.Columns.{text}
 use Rattle.rules.specs.Numbers.{phraseNumber, number, parentNumber, good, value}
 use Rattle.rules.specs.Rules.{Rule, rule}
 use Rattle.rules.specs.Tables.{Tables, morphTags, edgeTags, secEdgeTags, dashes, known, tagLimit}
-use Rattle.rules.specs.Nodes.{parentField, Pair, secondaryParent, asEdge, nodeOf, itsTag, itsMorphology, itsEdge, itsParent, itsPairs, parentsWritten, tagsShort, tagsKnown, parentsRise}
+use Rattle.rules.specs.Nodes.{parentField, Pair, secondaryParent, asEdge, isAnother, nodeOf, itsTag, itsMorphology, itsEdge, itsParent, itsPairs, parentsWritten, tagsShort, tagsKnown, parentsAllowed}
 use Rattle.rules.proofs.EachElement.{each-joined, each-front, each-back, each-map, each-mapped, each-both}
 use Rattle.rules.proofs.ColumnsSaid.{front-said}
 use Rattle.rules.proofs.BareColumns.{frontColumns, commentOf}
@@ -23,7 +23,7 @@ use Rattle.rules.specs.GrammarContent.{EdgeContent, NodeContent}
 use Rattle.rules.specs.GrammarSurvey.{edgeRead, nodeRead}
 use Rattle.rules.specs.GrammarTables.{TableLines}
 use Rattle.rules.specs.GrammarNodes.{EdgeSaid, NodeLine, nodeColumns, EdgeFits, NodeFits, edgeSays, nodeSays}
-use Rattle.rules.proofs.TestsAsFacts.{reads-are, leb-is, good-some, some-good, some-value}
+use Rattle.rules.proofs.TestsAsFacts.{reads-are, leb-is, other-is, good-some, some-good, some-value}
 use Rattle.rules.proofs.Elements.{map-map}
 use Rattle.rules.proofs.NumeralsAsSaid.{number-said, parent-said}
 use Rattle.rules.proofs.TablesAsSaid.{Stand, known-is}
@@ -67,23 +67,23 @@ module _ (format : ℕ) (T : Tables) (fs : List Text) (tags n : ℕ) where
     pub edge-known : known T edgeTags (itsEdge format fs) ≡ true
     pub labels-known : Each (λ (p : Pair). known T secEdgeTags (p .label) ≡ true) (itsPairs format fs)
     pub rises : Rises n (value (itsParent format fs)) (itsEdge format fs .bytes)
-    pub secondary-rise : Each (λ (p : Pair). ltb n (value (secondaryParent p)) ≡ true) (itsPairs format fs)
+    pub secondary-others : Each (λ (p : Pair). isAnother n p ≡ true) (itsPairs format fs)
 
   module _ (own : List Rule) where
     abbrev rules : List Rule
-    rules = parentsWritten format fs ++ tagsShort format fs tags ++ (own ++ tagsKnown format fs T tags) ++ parentsRise format fs n
+    rules = parentsWritten format fs ++ tagsShort format fs tags ++ (own ++ tagsKnown format fs T tags) ++ parentsAllowed format fs n
 
     pub own-held : Hold rules → Hold own
     own-held h =
         each-front Holds own (tagsKnown format fs T tags)
         (each-back Holds (parentsWritten format fs ++ tagsShort format fs tags) (own ++ tagsKnown format fs T tags)
-        (each-front Holds (parentsWritten format fs ++ tagsShort format fs tags ++ (own ++ tagsKnown format fs T tags)) (parentsRise format fs n) h))
+        (each-front Holds (parentsWritten format fs ++ tagsShort format fs tags ++ (own ++ tagsKnown format fs T tags)) (parentsAllowed format fs n) h))
 
     pub node-held : Hold rules → NodeHeld
-    unfolding parentsWritten tagsShort tagsKnown parentsRise
+    unfolding parentsWritten tagsShort tagsKnown parentsAllowed
     node-held h =
-        let front = each-front Holds (parentsWritten format fs ++ tagsShort format fs tags ++ (own ++ tagsKnown format fs T tags)) (parentsRise format fs n) h in
-        let nineteen = each-back Holds (parentsWritten format fs ++ tagsShort format fs tags ++ (own ++ tagsKnown format fs T tags)) (parentsRise format fs n) h in
+        let front = each-front Holds (parentsWritten format fs ++ tagsShort format fs tags ++ (own ++ tagsKnown format fs T tags)) (parentsAllowed format fs n) h in
+        let nineteen = each-back Holds (parentsWritten format fs ++ tagsShort format fs tags ++ (own ++ tagsKnown format fs T tags)) (parentsAllowed format fs n) h in
         let two = each-front Holds (parentsWritten format fs ++ tagsShort format fs tags) (own ++ tagsKnown format fs T tags) front in
         let eighteen = each-back Holds own (tagsKnown format fs T tags) (each-back Holds (parentsWritten format fs ++ tagsShort format fs tags) (own ++ tagsKnown format fs T tags) front) in
         let eight = each-front Holds (parentsWritten format fs) (tagsShort format fs tags) two in
@@ -100,13 +100,13 @@ module _ (format : ℕ) (T : Tables) (fs : List Text) (tags n : ℕ) where
           edge-known = eighteen .1 .1 .0;
           labels-known = each-mapped (λ (p : Pair). rule 18 (p .label) (known T secEdgeTags (p .label))) Holds (itsPairs format fs) (eighteen .1 .1 .1);
           rises = rises-read n (value (itsParent format fs)) (itsEdge format fs) .0 (nineteen .0);
-          secondary-rise = each-mapped (λ (p : Pair). rule 19 (p .parent) (ltb n (value (secondaryParent p)))) Holds (itsPairs format fs) (nineteen .1);
+          secondary-others = each-mapped (λ (p : Pair). rule 19 (p .parent) (isAnother n p)) Holds (itsPairs format fs) (nineteen .1);
         }
 
     pub held-node : Hold own → NodeHeld → Hold rules
-    unfolding parentsWritten tagsShort tagsKnown parentsRise
+    unfolding parentsWritten tagsShort tagsKnown parentsAllowed
     held-node o h =
-        each-joined Holds (parentsWritten format fs ++ tagsShort format fs tags ++ (own ++ tagsKnown format fs T tags)) (parentsRise format fs n)
+        each-joined Holds (parentsWritten format fs ++ tagsShort format fs tags ++ (own ++ tagsKnown format fs T tags)) (parentsAllowed format fs n)
         (each-joined Holds (parentsWritten format fs ++ tagsShort format fs tags) (own ++ tagsKnown format fs T tags)
         (each-joined Holds (parentsWritten format fs) (tagsShort format fs tags)
         (h .parent-good, each-map (λ (p : Pair). rule 8 (p .parent) (good (secondaryParent p))) Holds (itsPairs format fs) (h .parents-good)) (
@@ -124,7 +124,7 @@ module _ (format : ℕ) (T : Tables) (fs : List Text) (tags n : ℕ) where
           ),
         ))) (
           rises-read n (value (itsParent format fs)) (itsEdge format fs) .1 (h .rises),
-          each-map (λ (p : Pair). rule 19 (p .parent) (ltb n (value (secondaryParent p)))) Holds (itsPairs format fs) (h .secondary-rise),
+          each-map (λ (p : Pair). rule 19 (p .parent) (isAnother n p)) Holds (itsPairs format fs) (h .secondary-others),
         )
 
 -- ---- a node as read, and as said
@@ -176,9 +176,9 @@ module _ (format : ℕ) (T : Tables) (ts : List TableLines) (s : Stand T ts) (li
         each-secondary = edges-said (itsPairs format fs) (h .parents-good) (h .labels-short) (h .labels-known);
       }
 
-  -- and back: the rules hold of a line whose node fits, if parents rise above the node's number
+  -- and back: the rules hold of a line whose node fits, if its parent rises above the node's number and the others are others
   module _ (node : NodeLine) (sh : Shaped format fs node) (fit : NodeFits format ts tags node)
-      (larger : (node .parent ≡ 0) ⊎ (n < node .parent)) (secondary-larger : Each (λ (e : EdgeSaid). n < e .parent) (node .secondary)) where
+      (larger : (node .parent ≡ 0) ⊎ (n < node .parent)) (others : Each (λ (e : EdgeSaid). e .parent ≡ n → ⊥) (node .secondary)) where
     parent-read : itsParent format fs ≡ some (node .parent)
     parent-read = ap parentNumber (sh .at-parent) ∙ parent-said (node .parentText) (node .parent) .1 (fit .parent-written)
 
@@ -208,11 +208,11 @@ module _ (format : ℕ) (T : Tables) (ts : List TableLines) (s : Stand T ts) (li
               each-pair (EdgeFits ts) (λ (p : Pair). known T secEdgeTags (p .label) ≡ true)
               (λ p e l q f. known-is T ts s secEdgeTags (p .label) .1 (rw l (f .label-known))) (itsPairs format fs) (node .secondary) (sh .at-pairs) (fit .each-secondary);
           rises = rw (same-parent, sh .at-edge) (fit .parent-zero, larger);
-          secondary-rise =
-              each-pair (λ (e : EdgeSaid). EdgeFits ts e × (n < e .parent)) (λ (p : Pair). ltb n (value (secondaryParent p)) ≡ true)
-              (λ p e l q f. lt-ltb n (value (secondaryParent p)) (rw (some-value (secondaryParent p) (e .parent) (pair-number p e q (f .0))) (f .1)))
+          secondary-others =
+              each-pair (λ (e : EdgeSaid). EdgeFits ts e × (e .parent ≡ n → ⊥)) (λ (p : Pair). isAnother n p ≡ true)
+              (λ p e l q f. other-is n (value (secondaryParent p)) .1 (λ z. f .1 (sym (some-value (secondaryParent p) (e .parent) (pair-number p e q (f .0))) ∙ z)))
               (itsPairs format fs) (node .secondary) (sh .at-pairs)
-              (each-both (EdgeFits ts) (λ (e : EdgeSaid). n < e .parent) (node .secondary) (fit .each-secondary) secondary-larger);
+              (each-both (EdgeFits ts) (λ (e : EdgeSaid). e .parent ≡ n → ⊥) (node .secondary) (fit .each-secondary) others);
         }
 
     edges-same : (ps : List Pair) (es : List EdgeSaid) → PairsAre ps es → Each (EdgeFits ts) es → map edgeRead (map asEdge ps) ≡ map edgeSays es

@@ -12,7 +12,7 @@ use Rattle.rules.specs.Columns.{text}
 use Rattle.rules.specs.Numbers.{good, value}
 use Rattle.rules.specs.Rules.{Rule}
 use Rattle.rules.specs.Tables.{Tables, morphTags, edgeTags, secEdgeTags, dashes, known, tagLimit}
-use Rattle.rules.specs.Nodes.{tagField, morphologyField, edgeField, parentField, pairsField, Pair, pairs, paired, asEdge, itsTag, itsMorphology, itsEdge, itsParent, itsPairs, nodeOf, shaped, parentsWritten, tagsShort, tagsKnown, parentsRise}
+use Rattle.rules.specs.Nodes.{tagField, morphologyField, edgeField, parentField, pairsField, Pair, pairs, paired, asEdge, itsTag, itsMorphology, itsEdge, itsParent, itsPairs, nodeOf, shaped, parentsWritten, tagsShort, tagsKnown, parentsAllowed}
 use Rattle.rules.specs.Meaning.{bareEdge, bareNode, meantTables}
 use Rattle.rules.proofs.RuleLaws.{holdsOf}
 use Rattle.rules.proofs.Elements.{map-map, drop-map}
@@ -24,7 +24,7 @@ pub record NodeHolds (format : ℕ) (fs : List Text) (ts : Tables) (tags k : ℕ
   pub parents : every holdsOf (parentsWritten format fs) ≡ true
   pub short : every holdsOf (tagsShort format fs tags) ≡ true
   pub tabled : every holdsOf (tagsKnown format fs ts tags) ≡ true
-  pub rise : every holdsOf (parentsRise format fs k) ≡ true
+  pub allowed : every holdsOf (parentsAllowed format fs k) ≡ true
 
 abbrev barePair : Pair → Pair
 barePair p = record { label = bare (p .label); parent = bare (p .parent) }
@@ -79,9 +79,9 @@ module _ (format : ℕ) (fs : List Text) where
       (ap (λ (b : Bool). known ts tags (itsTag format fs) && (known ts morphTags (itsMorphology format fs) && (known ts edgeTags (itsEdge format fs) && b)))
       (every-pairs _ _ (λ p. known-meant ts secEdgeTags (p .label)) (itsPairs format fs))))
 
-  rise-bare : (k : ℕ) → every holdsOf (parentsRise format (map bare fs) k) ≡ every holdsOf (parentsRise format fs k)
-  unfolding parentsRise
-  rise-bare k =
+  allowed-bare : (k : ℕ) → every holdsOf (parentsAllowed format (map bare fs) k) ≡ every holdsOf (parentsAllowed format fs k)
+  unfolding parentsAllowed
+  allowed-bare k =
       rw (text-bare fs (parentField format), text-bare fs (edgeField format), its-pairs-bare)
       (ap (λ (b : Bool). pick (eqb (value (itsParent format fs)) 0) (reads dashes (itsEdge format fs)) (ltb k (value (itsParent format fs))) && b)
       (every-pairs _ _ (λ p. refl) (itsPairs format fs)))
@@ -93,7 +93,7 @@ module _ (format : ℕ) (fs : List Text) where
         parents = parents-bare ∙ h .parents;
         short = short-bare tags ∙ h .short;
         tabled = known-bare ts tags ∙ h .tabled;
-        rise = rise-bare k ∙ h .rise;
+        allowed = allowed-bare k ∙ h .allowed;
       }
 
   pub holds-placed : (ts : Tables) (tags k : ℕ) → NodeHolds format (map bare fs) (meantTables ts) tags k → NodeHolds format fs ts tags k
@@ -103,7 +103,7 @@ module _ (format : ℕ) (fs : List Text) where
         parents = sym parents-bare ∙ h .parents;
         short = sym (short-bare tags) ∙ h .short;
         tabled = sym (known-bare ts tags) ∙ h .tabled;
-        rise = sym (rise-bare k) ∙ h .rise;
+        allowed = sym (allowed-bare k) ∙ h .allowed;
       }
 
   pub node-placeless : (k : ℕ) (w c : Text) → nodeOf format (map bare fs) k (bare w) (bare c) ≡ bareNode (nodeOf format fs k w c)

@@ -14,7 +14,7 @@ use Rattle.rules.specs.Rules.{broken, checked}
 use Rattle.rules.specs.Tables.{hasId, hasTag, known}
 use Rattle.rules.specs.Rows.{originRow, editorRow, tagRow}
 use Rattle.rules.specs.Sentences.{headingOf, endRules, endOf}
-use Rattle.rules.specs.Nodes.{pairs, paired, parentsWritten, tagsShort, tagsKnown, parentsRise, wordOf, phraseOf}
+use Rattle.rules.specs.Nodes.{pairs, paired, parentsWritten, tagsShort, tagsKnown, parentsAllowed, wordOf, phraseOf}
 use Rattle.rules.specs.Keywords.{formatOf, tableOpened, tableEnded, firstColumn}
 use Rattle.rules.specs.Lines.{atStart, behindOne, atTop, amongRows, amongNodes}
 use Rattle.rules.specs.Phases.{lineAt, taken, judged, after, step}
@@ -143,7 +143,7 @@ unknownTags =
     ∷ case (behindTables "#BOT SECEDGETAG\n#EOT SECEDGETAG\n#BOS 7 2 0 1\nJa T -- -- 0 s 500\n") 18 119 0 0
     ∷ []
 
--- a parent is not larger, or parent 0 without --
+-- a parent is not larger, a secondary parent is the node itself, or parent 0 without --
 abbrev wrongParents : List Case
 wrongParents =
     case (inside "Ja T -- SB 0\n") 19 87 0 0
@@ -161,5 +161,5 @@ badEnds =
     ∷ []
 
 pub each-number : T (every holds (cannotStand ++ wrongColumns ++ badNumbers ++ badTexts ++ rowsOutOfPlace ++ badHeadings ++ phraseTwice ++ unknownTags ++ wrongParents ++ badEnds))
-unfolding ignored rightTrim trimFrom frontBytes behindFrom columnsFrom fields comment valueFrom decimal broken checked hasId hasTag known originRow editorRow tagRow headingOf endRules endOf pairs paired parentsWritten tagsShort tagsKnown parentsRise wordOf phraseOf formatOf tableOpened tableEnded firstColumn atStart behindOne atTop amongRows amongNodes lineAt taken judged after step surveyOf
+unfolding ignored rightTrim trimFrom frontBytes behindFrom columnsFrom fields comment valueFrom decimal broken checked hasId hasTag known originRow editorRow tagRow headingOf endRules endOf pairs paired parentsWritten tagsShort tagsKnown parentsAllowed wordOf phraseOf formatOf tableOpened tableEnded firstColumn atStart behindOne atTop amongRows amongNodes lineAt taken judged after step surveyOf
 each-number = tt

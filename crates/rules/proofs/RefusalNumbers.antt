@@ -14,7 +14,7 @@ use Rattle.rules.specs.Rules.{Rule, rule, checked}
 use Rattle.rules.specs.Tables.{Tables, Row, origins, editors, wordTags, nodeTags, secEdgeTags, known, tagLimit}
 use Rattle.rules.specs.Rows.{originRow, editorRow, tagRow, rowOf}
 use Rattle.rules.specs.Sentences.{Node, Sentence, headingOf, endRules, endOf, SoFar, soFar}
-use Rattle.rules.specs.Nodes.{Pair, secondaryParent, itsPairs, roomy, wordOf, phraseOf, parentsWritten, tagsShort, tagsKnown, parentsRise}
+use Rattle.rules.specs.Nodes.{Pair, secondaryParent, isAnother, itsPairs, roomy, wordOf, phraseOf, parentsWritten, tagsShort, tagsKnown, parentsAllowed}
 use Rattle.rules.specs.Keywords.{formatOf, tableOpened, tableEnded, firstColumn, startsRow, startsWord, startsPhrase}
 use Rattle.rules.specs.Phases.{Preamble, Phase, start, top, inTable, inSentence, behindSentence, Answer, refuse, go, hand, next, step}
 use Rattle.rules.proofs.Takings.{answerStart, answerBehind, answerTop, answerRows, answerNodes, answerAt}
@@ -55,19 +55,19 @@ module _ (format : ℕ) (fs : List Text) where
   unfolding tagsKnown
   tags-known ts tags = one-number 18 (λ (p : Pair). p .label) (λ (p : Pair). known ts secEdgeTags (p .label)) refl (itsPairs format fs)
 
-  pub parents-rise : (n : ℕ) → numbered (parentsRise format fs n) ≡ true
-  unfolding parentsRise
-  parents-rise n = one-number 19 (λ (p : Pair). p .parent) (λ (p : Pair). ltb n (value (secondaryParent p))) refl (itsPairs format fs)
+  pub parents-allowed : (n : ℕ) → numbered (parentsAllowed format fs n) ≡ true
+  unfolding parentsAllowed
+  parents-allowed n = one-number 19 (λ (p : Pair). p .parent) (isAnother n) refl (itsPairs format fs)
 
 -- the rules of a node's line behind those of its kind: 8, 10, some of its own, 18, 19
 pub node-numbered : (format : ℕ) (fs : List Text) (tags : ℕ) (own : List Rule) (ts : Tables) (n : ℕ) → numbered own ≡ true
-    → numbered (parentsWritten format fs ++ tagsShort format fs tags ++ (own ++ tagsKnown format fs ts tags) ++ parentsRise format fs n) ≡ true
+    → numbered (parentsWritten format fs ++ tagsShort format fs tags ++ (own ++ tagsKnown format fs ts tags) ++ parentsAllowed format fs n) ≡ true
 node-numbered format fs tags own ts n h =
-    every-append test (parentsWritten format fs ++ tagsShort format fs tags ++ (own ++ tagsKnown format fs ts tags)) (parentsRise format fs n)
+    every-append test (parentsWritten format fs ++ tagsShort format fs tags ++ (own ++ tagsKnown format fs ts tags)) (parentsAllowed format fs n)
     (every-append test (parentsWritten format fs ++ tagsShort format fs tags) (own ++ tagsKnown format fs ts tags)
     (every-append test (parentsWritten format fs) (tagsShort format fs tags) (parents-written format fs) (tags-short format fs tags))
     (every-append test own (tagsKnown format fs ts tags) h (tags-known format fs ts tags)))
-    (parents-rise format fs n)
+    (parents-allowed format fs n)
 
 -- ---- lines
 

@@ -2,7 +2,7 @@
 -- a tag or a number is among others.
 use Prim.Native.Nat.{ℕ, _≤_}
 use native.Mathlib.Omega.{arith}
-use mathlib.Core.Path.{_≡_, refl, ap}
+use mathlib.Core.Path.{_≡_, refl, sym, ap}
 use mathlib.Core.Logic.{_↔_}
 use mathlib.Core.Bool.{Bool, true, false≢true, not}
 use mathlib.Core.Option.{Option, none, some}
@@ -34,6 +34,9 @@ leb-is a b = (leb-true a b, le-leb a b)
 
 pub eqb-is : (a b : ℕ) → (eqb a b ≡ true) ↔ (a ≡ b)
 eqb-is a b = (eqb-true a b, eq-eqb a b)
+
+pub other-is : (a b : ℕ) → (not (eqb a b) ≡ true) ↔ (b ≡ a → ⊥)
+other-is a b = (λ e z. not-both-ways (eqb a b) .0 e (eq-eqb a b (sym z)), λ n. not-both-ways (eqb a b) .1 (λ q. n (sym (eqb-true a b q))))
 
 pub good-some : (o : Option ℕ) → good o ≡ true → o ≡ some (value o)
 good-some none e = absurd (false≢true e)

@@ -11,7 +11,7 @@ use Rattle.rules.specs.Columns.{columns, fields}
 use Rattle.rules.specs.Rules.{Rule, rule, Verdict, refused, granted, checked}
 use Rattle.rules.specs.Tables.{Tables, noTables, reserved, present, known, hasTag, rowsOf, table, wordTags, morphTags, nodeTags, edgeTags, secEdgeTags}
 use Rattle.rules.specs.Sentences.{Sentence, soFar, endOf}
-use Rattle.rules.specs.Nodes.{Pair, itsPairs, parentsWritten, tagsShort, tagsKnown, parentsRise, wordOf, phraseOf}
+use Rattle.rules.specs.Nodes.{Pair, itsPairs, parentsWritten, tagsShort, tagsKnown, parentsAllowed, wordOf, phraseOf}
 use Rattle.rules.specs.Keywords.{firstColumn, startsWord, startsPhrase}
 use Rattle.rules.specs.Phases.{Preamble, inSentence, Answer, refuse, go, hand, next, step}
 use Rattle.rules.proofs.Conjunctions.{and-both, every-map}
@@ -49,8 +49,8 @@ tags-alone format fs tags e =
 
 -- the format says nothing yet of where the fields stand
 node-alone : (format : ℕ) (fs : List Text) (ts : Tables) (tags k : ℕ) → present tags noTables ≡ false → NodeHolds format fs ts tags k → NodeHolds 3 fs noTables tags k
-unfolding parentsWritten tagsShort parentsRise
-node-alone format fs ts tags k e h = record { shape = h .shape; parents = h .parents; short = h .short; tabled = tags-alone 3 fs tags e; rise = h .rise }
+unfolding parentsWritten tagsShort parentsAllowed
+node-alone format fs ts tags k e h = record { shape = h .shape; parents = h .parents; short = h .short; tabled = tags-alone 3 fs tags e; allowed = h .allowed }
 
 -- ---- what is granted with tables is granted without
 

@@ -17,7 +17,7 @@ use Rattle.rules.specs.Numbers.{wordLimit, edgeLimit, phraseNumber, numb
 use Rattle.rules.specs.Rules.{Rule, rule}
 use Rattle.rules.specs.Tables.{Tables, wordTags, nodeTags}
 use Rattle.rules.specs.Sentences.{Node, SoFar, Sentence}
-use Rattle.rules.specs.Nodes.{Pair, secondaryParent, itsPairs, shaped, roomy, wordOf, phraseOf}
+use Rattle.rules.specs.Nodes.{Pair, secondaryParent, isAnother, itsPairs, shaped, roomy, wordOf, phraseOf}
 use Rattle.rules.specs.Phases.{Phase, Answer, next}
 use Rattle.rules.proofs.EachElement.{each-then}
 use Rattle.rules.proofs.ColumnsSaid.{said-front, front-comment}
@@ -28,7 +28,7 @@ use Rattle.rules.specs.GrammarTables.{TableLines}
 use Rattle.rules.specs.GrammarNodes.{EdgeSaid, NodeLine, PhraseLine, nodeColumns, EdgeFits, WordFits, PhraseFits, nodeSays, phraseSays}
 use Rattle.rules.proofs.PlaceFree.{front-columns, comment-there}
 use Rattle.rules.proofs.SaidOfLists.{length-map, and-both-ways, not-both-ways}
-use Rattle.rules.proofs.TestsAsFacts.{good-some, some-good, some-value}
+use Rattle.rules.proofs.TestsAsFacts.{other-is, good-some, some-good, some-value}
 use Rattle.rules.proofs.NumeralsAsSaid.{number-said}
 use Rattle.rules.proofs.TablesAsSaid.{Stand}
 use Rattle.rules.proofs.NodeColumns.{saidPair, PairsAre, shaped-columns, columns-shaped}
@@ -98,7 +98,7 @@ module _ (format : ℕ) (T : Tables) (ts : List TableLines) (s : Stand T ts) (K 
   word-grants node l w alone few room goes-on =
       let sh = columns-shaped format fs node (front-columns line ∙ ap frontColumns (sym l) ∙ said-front (node .line) (nodeColumns format node) (node .comment) (w .node .columns)) in
       let larger : (node .parent ≡ 0) ⊎ (so .words < node .parent) = above (w .node .parent-written .1) in
-      let others = each-then (EdgeFits ts) (λ (e : EdgeSaid). so .words < e .parent) (λ e k. omega (arith, k .parent-written .from, few)) (node .secondary) (w .node .each-secondary) in
+      let others = each-then (EdgeFits ts) (λ (e : EdgeSaid). e .parent ≡ so .words → ⊥) (λ e k z. omega (arith, k .parent-written .from, few, z)) (node .secondary) (w .node .each-secondary) in
       held-through K out f _ _ (
         alone,
         (
@@ -133,9 +133,9 @@ module _ (format : ℕ) (T : Tables) (ts : List TableLines) (s : Stand T ts) (K 
   abbrev own-phrase : ℕ → List Rule
   own-phrase n = rule 16 line (roomy format (so .edges) fs) ∷ rule 17 line (not (so .given-before n)) ∷ []
 
-  rise-said : (n : ℕ) (ps : List Pair) → Each (λ (p : Pair). ltb n (value (secondaryParent p)) ≡ true) ps → Each (λ (e : EdgeSaid). n < e .parent) (map saidPair ps)
-  rise-said n [] h = tt
-  rise-said n (p ∷ ps) h = (ltb-true n (value (secondaryParent p)) (h .0), rise-said n ps (h .1))
+  others-said : (n : ℕ) (ps : List Pair) → Each (λ (p : Pair). isAnother n p ≡ true) ps → Each (λ (e : EdgeSaid). e .parent ≡ n → ⊥) (map saidPair ps)
+  others-said n [] h = tt
+  others-said n (p ∷ ps) h = (other-is n (value (secondaryParent p)) .0 (h .0), others-said n ps (h .1))
 
   pub phrase-granted : Through K out (next f (phraseOf format T so line)) → PhraseRead
   unfolding phraseOf
@@ -156,7 +156,7 @@ module _ (format : ℕ) (T : Tables) (ts : List TableLines) (s : Stand T ts) (K 
               sign = q;
               number-written = number-said phraseNumber (drop 1 (text fs 0 .bytes)) n .0 (good-some o (h .0 .1 .0));
               parent-larger = held .rises .1;
-              secondary-larger = rise-said n (itsPairs format fs) (held .secondary-rise);
+              secondary-others = others-said n (itsPairs format fs) (held .secondary-others);
             };
         front = front;
         new = not-both-ways (so .given-before n) .0 (own .1 .0);
@@ -176,7 +176,7 @@ module _ (format : ℕ) (T : Tables) (ts : List TableLines) (s : Stand T ts) (K 
       let is : o ≡ some (p .number) = ap (λ (xs : List ℕ). number phraseNumber (drop 1 xs)) (sh .at-first ∙ w .sign) ∙ number-said phraseNumber (w .digits) (p .number) .1 (w .number-written) in
       let v : value o ≡ p .number = some-value o (p .number) is in
       let larger : (node .parent ≡ 0) ⊎ (value o < node .parent) = rw v (w .parent-larger) in
-      let others : Each (λ (e : EdgeSaid). value o < e .parent) (node .secondary) = rw v (w .secondary-larger) in
+      let others : Each (λ (e : EdgeSaid). e .parent ≡ value o → ⊥) (node .secondary) = rw v (w .secondary-others) in
       held-through K out f _ _ (
         sh .whole,
         (

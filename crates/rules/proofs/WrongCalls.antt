@@ -17,7 +17,7 @@ use Rattle.rules.specs.Rules.{broken, checked}
 use Rattle.rules.specs.Tables.{noTables, hasId, hasTag, known}
 use Rattle.rules.specs.Rows.{originRow, editorRow, tagRow}
 use Rattle.rules.specs.Sentences.{headingOf, endRules, endOf}
-use Rattle.rules.specs.Nodes.{pairs, paired, parentsWritten, tagsShort, tagsKnown, parentsRise, wordOf, phraseOf}
+use Rattle.rules.specs.Nodes.{pairs, paired, parentsWritten, tagsShort, tagsKnown, parentsAllowed, wordOf, phraseOf}
 use Rattle.rules.specs.Keywords.{formatOf, tableOpened, tableEnded, firstColumn}
 use Rattle.rules.specs.Lines.{atStart, behindOne, atTop, amongRows, amongNodes}
 use Rattle.rules.specs.Phases.{lineAt, taken, judged, after, step}
@@ -33,15 +33,15 @@ use Rattle.rules.proofs.OpenedExactly.{opened-exactly}
 use Rattle.rules.proofs.WrongReadings.{handed-A, nine, faulty, none-cut}
 
 pub of-A : (surveyOf fileA .refusal ≡ 0) × (getD (tableSheet (surveyOf fileA .tables)) 0 0 ≡ 2) × (getD (seenSet (numbers (surveyOf fileA .handed))) 0 0 ≡ 128)
-unfolding ignored rightTrim trimFrom frontBytes behindFrom columnsFrom fields comment valueFrom decimal broken checked hasId hasTag known originRow editorRow tagRow headingOf endRules endOf pairs paired parentsWritten tagsShort tagsKnown parentsRise wordOf phraseOf formatOf tableOpened tableEnded firstColumn atStart behindOne atTop amongRows amongNodes lineAt taken judged after step surveyOf tableSheet rowsRoom seenSet
+unfolding ignored rightTrim trimFrom frontBytes behindFrom columnsFrom fields comment valueFrom decimal broken checked hasId hasTag known originRow editorRow tagRow headingOf endRules endOf pairs paired parentsWritten tagsShort tagsKnown parentsAllowed wordOf phraseOf formatOf tableOpened tableEnded firstColumn atStart behindOne atTop amongRows amongNodes lineAt taken judged after step surveyOf tableSheet rowsRoom seenSet
 of-A = (refl, refl, refl)
 
 pub of-two : length (surveyOf (take 126 fileA ++ nine) .handed) ≡ 2
-unfolding ignored rightTrim trimFrom frontBytes behindFrom columnsFrom fields comment valueFrom decimal broken checked hasId hasTag known originRow editorRow tagRow headingOf endRules endOf pairs paired parentsWritten tagsShort tagsKnown parentsRise wordOf phraseOf formatOf tableOpened tableEnded firstColumn atStart behindOne atTop amongRows amongNodes lineAt taken judged after step surveyOf
+unfolding ignored rightTrim trimFrom frontBytes behindFrom columnsFrom fields comment valueFrom decimal broken checked hasId hasTag known originRow editorRow tagRow headingOf endRules endOf pairs paired parentsWritten tagsShort tagsKnown parentsAllowed wordOf phraseOf formatOf tableOpened tableEnded firstColumn atStart behindOne atTop amongRows amongNodes lineAt taken judged after step surveyOf
 of-two = refl
 
 pub of-faulty : (surveyOf faulty .place ≡ 139) × (lastEnd (surveyOf faulty .handed) ≡ 126) × (surveyOf (take (surveyOf faulty .soundEnd) faulty) .place ≡ 126)
-unfolding ignored rightTrim trimFrom frontBytes behindFrom columnsFrom fields comment valueFrom decimal broken checked hasId hasTag known originRow editorRow tagRow headingOf endRules endOf pairs paired parentsWritten tagsShort tagsKnown parentsRise wordOf phraseOf formatOf tableOpened tableEnded firstColumn atStart behindOne atTop amongRows amongNodes lineAt taken judged after step surveyOf
+unfolding ignored rightTrim trimFrom frontBytes behindFrom columnsFrom fields comment valueFrom decimal broken checked hasId hasTag known originRow editorRow tagRow headingOf endRules endOf pairs paired parentsWritten tagsShort tagsKnown parentsAllowed wordOf phraseOf formatOf tableOpened tableEnded firstColumn atStart behindOne atTop amongRows amongNodes lineAt taken judged after step surveyOf
 of-faulty = (refl, refl, refl)
 
 abbrev tables : List ℕ

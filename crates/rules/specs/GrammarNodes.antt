@@ -66,15 +66,15 @@ pub record PhraseLine : Type 0 where
   pub node : NodeLine
   pub number : ℕ
 
--- # with its number, 500 to 999, at once after it; its parent, unless 0, and each of its secondary parents is larger than its
--- own number
+-- # with its number, 500 to 999, at once after it; its parent, unless 0, is larger than its own number, and each of its
+-- secondary parents is another phrase (document 02, request 1)
 pub record PhraseFits (format : ℕ) (ts : List TableLines) (p : PhraseLine) : Type 0 where
   pub node : NodeFits format ts ofNodetag (p .node)
   pub digits : List ℕ
   pub sign : p .node .first ≡ bytes "#" ++ digits
   pub number-written : NumberIn phraseRange digits (p .number)
   pub parent-larger : (p .node .parent ≡ 0) ⊎ (p .number < p .node .parent)
-  pub secondary-larger : Each (λ (e : EdgeSaid). p .number < e .parent) (p .node .secondary)
+  pub secondary-others : Each (λ (e : EdgeSaid). e .parent ≡ p .number → ⊥) (p .node .secondary)
 
 -- ---- what they say
 

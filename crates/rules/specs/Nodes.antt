@@ -1,4 +1,5 @@
--- Document 01, "The file from top to bottom": words, phrases and their secondary edges, line by line.
+-- Document 01, "The file from top to bottom", and document 02, request 1: words, phrases and their secondary edges, line by
+-- line.
 use Prim.Native.Nat.{ℕ, suc, _+_}
 use mathlib.Core.Bool.{Bool, true, false, not, _&&_}
 use mathlib.Core.Option.{Option}
@@ -49,6 +50,10 @@ secondaryParent p = number phraseNumber (p .parent .bytes)
 
 abbrev pub asEdge : Pair → Edge
 asEdge p = record { label = p .label; parent = value (secondaryParent p) }
+
+-- request 1: a secondary parent is any phrase of the sentence other than the node itself
+abbrev pub isAnother : ℕ → Pair → Bool
+isAnother its-number p = not (eqb its-number (value (secondaryParent p)))
 
 module _ (format : ℕ) (fs : List Text) where
   abbrev pub itsTag : Text
@@ -107,13 +112,13 @@ module _ (format : ℕ) (fs : List Text) where
       ∷ rule 18 itsEdge (known ts edgeTags itsEdge)
       ∷ map (λ (p : Pair). rule 18 (p .label) (known ts secEdgeTags (p .label))) itsPairs
 
-  -- 19: parent 0 needs the edge --; another parent, and each secondary parent, is larger than the node's number
-  -- (a word's number is below 500, so of a word this says nothing)
-  unfoldable pub parentsRise : ℕ → List Rule
+  -- 19: parent 0 needs the edge --, another parent is larger than the node's number, and no secondary parent is the node
+  -- (a word's number is below 500, so of a word only the first is asked)
+  unfoldable pub parentsAllowed : ℕ → List Rule
   unfolding pairs
-  parentsRise its-number =
+  parentsAllowed its-number =
       rule 19 (text fs (parentField format)) (pick (eqb (value itsParent) 0) (reads dashes itsEdge) (ltb its-number (value itsParent)))
-      ∷ map (λ (p : Pair). rule 19 (p .parent) (ltb its-number (value (secondaryParent p)))) itsPairs
+      ∷ map (λ (p : Pair). rule 19 (p .parent) (isAnother its-number p)) itsPairs
 
 -- 16: at most 512 secondary edges, of which so many stand in front of this line
 abbrev pub roomy : ℕ → ℕ → List Text → Bool
@@ -130,7 +135,7 @@ wordOf format ts s line =
     ∷ parentsWritten format fs
     ++ tagsShort format fs wordTags
     ++ (rule 16 line (ltb (s .words) wordLimit && roomy format (s .edges) fs) ∷ tagsKnown format fs ts wordTags)
-    ++ parentsRise format fs (s .words))
+    ++ parentsAllowed format fs (s .words))
     (nodeOf format fs (s .words) (text fs 0) (comment (columns line)))
 
 -- phrases are numbered from 500 and come in any order
@@ -145,5 +150,5 @@ phraseOf format ts s line =
     ∷ parentsWritten format fs
     ++ tagsShort format fs nodeTags
     ++ (rule 16 line (roomy format (s .edges) fs) ∷ rule 17 line (not (s .given-before (value its-number))) ∷ tagsKnown format fs ts nodeTags)
-    ++ parentsRise format fs (value its-number))
+    ++ parentsAllowed format fs (value its-number))
     (nodeOf format fs (value its-number) noText (comment (columns line)))

@@ -5,7 +5,7 @@ use compiled::beside::{agreed, Call};
 use compiled::openings::{headings, numbers_given, openings_agree};
 use plain::generate::{small, small_accepted, Dice, SMALL_FILE};
 
-const FILES: u64 = 50;
+const FILES: u64 = 60;
 const MOST_BEHIND: usize = 200;
 
 /// Half of the files are whole before the cut.

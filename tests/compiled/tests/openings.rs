@@ -5,7 +5,7 @@ use compiled::openings::{headings, numbers_given, numbers_to_ask, openings_agree
 use plain::generate::{accepted, damaged};
 
 const ACCEPTED_SEEDS: u64 = 6_000;
-const DAMAGED_SEEDS: u64 = 18_000;
+const DAMAGED_SEEDS: u64 = 20_000;
 
 /// Each refusal that a file can earn is met this often, and acceptance too.
 const OFTEN_ENOUGH: usize = 50;

@@ -156,14 +156,9 @@ impl OpenSentence {
         node.number = phrase_number(&columns.bytes(0)[1..], &mut faults);
         check_tags(&node, NODETAG, columns.file, tables, &mut faults);
         faults.add_if(self.has_phrase(node.number), PHRASE_TWICE);
-        let too_small = |parent: u32| parent <= node.number;
-        faults.add_if(node.parent != 0 && too_small(node.parent), PARENT);
-        faults.add_if(
-            node.secondary_edges
-                .iter()
-                .any(|edge| too_small(edge.parent)),
-            PARENT,
-        );
+        faults.add_if(node.parent != 0 && node.parent <= node.number, PARENT);
+        let own_parent = |edge: &SecondaryEdge| edge.parent == node.number;
+        faults.add_if(node.secondary_edges.iter().any(own_parent), PARENT);
         let node = faults.judge(node)?;
         self.phrase_given[(node.number - FIRST_PHRASE) as usize] = true;
         self.sentence.secondary_edges += node.secondary_edges.len();

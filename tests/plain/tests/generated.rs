@@ -95,6 +95,95 @@ fn accepted_files_go_to_the_limits() {
     }
 }
 
+/// Do the secondary edges of phrases lead from some phrase back to itself? Phrases
+/// without an edge that goes on are left out until none or only circles are left.
+fn has_circle(edges: &[Edge]) -> bool {
+    let mut left: Vec<&Edge> = edges.iter().filter(|edge| edge.child >= 500).collect();
+    loop {
+        let before = left.clone();
+        left.retain(|edge| before.iter().any(|next| next.child == edge.parent));
+        if left.len() == before.len() {
+            return !left.is_empty();
+        }
+    }
+}
+
+#[test]
+fn secondary_edges_point_up_and_down_and_in_circles() {
+    let (mut up, mut down, mut circles) = (0, 0, 0);
+    let mut lent = Lent::with_old_contents();
+    for seed in 0..3_000 {
+        let file = accepted(seed, size_of(seed));
+        lent.survey(&file);
+        for number in lent.numbers_seen() {
+            assert_eq!(lent.open(&file, number), 0);
+            let edges = &lent.edges[..lent.sentence_sheet[8] as usize];
+            let phrases = edges.iter().filter(|edge| edge.child >= 500);
+            for edge in phrases {
+                up += usize::from(edge.parent > edge.child);
+                down += usize::from(edge.parent < edge.child);
+            }
+            circles += usize::from(has_circle(edges));
+        }
+    }
+    let found = (up, down, circles);
+    assert!(up > 2_000 && down > 2_000 && circles > 500, "{found:?}");
+}
+
+/// The secondary parents in the line of a file that begins at a place.
+fn secondary_parents(file: &[u8], place: usize) -> Vec<String> {
+    let line = file[place..].split(|&byte| byte == b'\n').next();
+    let line = String::from_utf8_lossy(line.unwrap_or(b"")).into_owned();
+    let columns = line.split([' ', '\t']).filter(|column| !column.is_empty());
+    let columns = columns.take_while(|&column| column != "%%");
+    columns.skip(6).step_by(2).map(str::to_string).collect()
+}
+
+#[test]
+fn damaged_files_cite_themselves_and_absent_phrases() {
+    let (mut themselves, mut absent) = (0, 0);
+    for seed in 0..DAMAGED_SEEDS / 3 {
+        let file = damaged(seed, size_of(seed));
+        let answer = survey_of(&file);
+        if answer.refusal == 19 {
+            let place = answer.place as usize;
+            let own = String::from_utf8_lossy(&file[place + 1..place + 4]).into_owned();
+            themselves += usize::from(secondary_parents(&file, place).contains(&own));
+        }
+        if answer.refusal == 22 {
+            absent += usize::from(absent_only_by_secondary_edges(&file));
+        }
+    }
+    let found = (themselves, absent);
+    assert!(themselves >= 100 && absent >= 100, "{found:?}");
+}
+
+/// Without secondary edges the `#EOS` is passed.
+fn absent_only_by_secondary_edges(file: &[u8]) -> bool {
+    let answer = survey_of(file);
+    let mended = without_secondary_edges(file, answer.sound_end as usize);
+    survey_of(&mended).sentences > answer.sentences
+}
+
+/// The file with the secondary edges of the sentences behind a place left out.
+fn without_secondary_edges(file: &[u8], place: usize) -> Vec<u8> {
+    let mut mended = file[..place].to_vec();
+    for line in file[place..].split_inclusive(|&byte| byte == b'\n') {
+        let columns: Vec<&[u8]> = line
+            .split(|byte| b" \t\n".contains(byte))
+            .filter(|column| !column.is_empty())
+            .collect();
+        let number = |index: usize| columns[index].iter().all(u8::is_ascii_digit);
+        if columns.len() >= 7 && number(4) && number(6) {
+            mended.extend(columns[..5].join(&b' '));
+            mended.push(b'\n');
+        } else {
+            mended.extend(line);
+        }
+    }
+    mended
+}
+
 #[test]
 fn damaged_files_meet_every_refusal() {
     let mut met = [0; 26];

@@ -30,6 +30,7 @@ pub fn aim_at(dice: &mut Dice, refusal: usize, draft: &mut Draft) {
         16 => too_many_nodes(dice, draft),
         17 => repeat_phrase(dice, draft),
         18 => unknown_tag(dice, draft),
+        19 if dice.one_in(2) => own_secondary_parent(dice, draft),
         20 => other_end(dice, draft),
         21 => leave_a_gap(dice, draft),
         22 => absent_parent(dice, draft),
@@ -391,6 +392,15 @@ fn unknown_tag(dice: &mut Dice, draft: &mut Draft) {
     }
 }
 
+/// A phrase that is its own secondary parent.
+fn own_secondary_parent(dice: &mut Dice, draft: &mut Draft) {
+    if let Some(index) = any_line(dice, draft, |role| role == Role::Phrase) {
+        let line = &mut draft.lines[index].bytes;
+        let own = own_number(line);
+        put_secondary_parent(dice, line, &own);
+    }
+}
+
 fn other_end(dice: &mut Dice, draft: &mut Draft) {
     let Some(index) = any_line(dice, draft, |role| role == Role::SentenceEnd) else {
         return;
@@ -426,9 +436,13 @@ fn absent_parent(dice: &mut Dice, draft: &mut Draft) {
     let Some(index) = any_line(dice, draft, is_node) else {
         return;
     };
-    let column = if dice.one_in(3) { 6 } else { 4 };
     let parent = dice.between(510, 999).to_string();
-    replace_column(&mut draft.lines[index].bytes, column, parent.as_bytes());
+    let line = &mut draft.lines[index].bytes;
+    if dice.one_in(2) {
+        put_secondary_parent(dice, line, parent.as_bytes());
+    } else {
+        replace_column(line, 4, parent.as_bytes());
+    }
 }
 
 fn end_inside(dice: &mut Dice, draft: &mut Draft) {

@@ -33,6 +33,8 @@ struct Plan {
     phrases: usize,
     edges_left: usize,
     many_edges: bool,
+    /// Has each phrase a secondary edge to the next one, and the last to the first?
+    circle: bool,
 }
 
 pub fn draft_sentences(
@@ -122,6 +124,7 @@ fn plan_sentence(dice: &mut Dice, measure: &Measure) -> Plan {
         phrases: dice.between(0, measure.nodes),
         edges_left: MOST_SECONDARY_EDGES,
         many_edges: false,
+        circle: dice.one_in(8),
     };
     if measure.to_the_limits && dice.one_in(90) {
         match dice.below(3) {
@@ -166,6 +169,23 @@ fn any_parent(dice: &mut Dice, phrase: Option<u32>, phrases: usize) -> Option<u3
     let lowest = phrase.map_or(FIRST_PHRASE, |number| number + 1) as usize;
     let highest = FIRST_PHRASE as usize + phrases;
     (lowest < highest).then(|| dice.between(lowest, highest - 1) as u32)
+}
+
+/// A phrase the node may have as a secondary parent, if there is one: any but itself.
+fn any_secondary_parent(dice: &mut Dice, phrase: Option<u32>, phrases: usize) -> Option<u32> {
+    let others = phrases - usize::from(phrase.is_some());
+    if others == 0 {
+        return None;
+    }
+    let parent = FIRST_PHRASE + dice.below(others) as u32;
+    let behind_itself = phrase.is_some_and(|number| parent >= number);
+    Some(parent + u32::from(behind_itself))
+}
+
+/// The next phrase of the circle, if there is another one.
+fn next_in_circle(phrase: u32, phrases: usize) -> Option<u32> {
+    let next = FIRST_PHRASE + (phrase + 1 - FIRST_PHRASE) % phrases as u32;
+    (next != phrase).then_some(next)
 }
 
 fn node_line(
@@ -215,19 +235,23 @@ fn secondary_edges(
     plan: &mut Plan,
     known: &Known,
 ) -> Vec<Vec<u8>> {
-    let mut columns = Vec::new();
     let wanted = match dice.below(6) {
         _ if plan.many_edges => dice.between(0, 60),
         0 => dice.between(1, 3),
         _ => 0,
     };
-    for _ in 0..wanted.min(plan.edges_left) {
-        let Some(parent) = any_parent(dice, phrase, plan.phrases) else {
-            break;
-        };
+    let mut parents: Vec<u32> = (0..wanted)
+        .filter_map(|_| any_secondary_parent(dice, phrase, plan.phrases))
+        .collect();
+    if plan.circle {
+        parents.extend(phrase.and_then(|phrase| next_in_circle(phrase, plan.phrases)));
+    }
+    parents.truncate(plan.edges_left);
+    plan.edges_left -= parents.len();
+    let mut columns = Vec::new();
+    for parent in parents {
         columns.push(known_tag(dice, measure, SECEDGETAG, known));
         columns.push(number(parent));
-        plan.edges_left -= 1;
     }
     columns
 }

@@ -200,17 +200,16 @@ pub fn change_tag(dice: &mut Dice, line: &mut DraftLine) {
     }
 }
 
-/// Gives a node another parent, or the parent 0.
+/// Gives a node another parent, primary or secondary, or the parent 0.
 pub fn change_parent(dice: &mut Dice, line: &mut DraftLine) {
     if !matches!(line.role, Role::Word | Role::Phrase) {
         return;
     }
-    let own = column_at(&line.bytes, 0)
-        .strip_prefix(b"#")
-        .unwrap_or(b"500")
-        .to_vec();
+    if dice.one_in(3) {
+        return change_secondary_parent(dice, &mut line.bytes);
+    }
     let parent = match dice.below(4) {
-        0 => own,
+        0 => own_number(&line.bytes),
         1 => b"500".to_vec(),
         2 => dice.between(500, 999).to_string().into_bytes(),
         _ => {
@@ -218,8 +217,37 @@ pub fn change_parent(dice: &mut Dice, line: &mut DraftLine) {
             b"0".to_vec()
         }
     };
-    let index = if dice.one_in(4) { 6 } else { 4 };
-    replace_column(&mut line.bytes, index, &parent);
+    replace_column(&mut line.bytes, 4, &parent);
+}
+
+/// A phrase's number; 500 for a word.
+pub fn own_number(line: &[u8]) -> Vec<u8> {
+    let digits = column_at(line, 0).strip_prefix(b"#").unwrap_or(b"");
+    if digits.is_empty() {
+        return b"500".to_vec();
+    }
+    digits.to_vec()
+}
+
+/// A secondary edge to the node itself, or to a phrase that may be absent.
+fn change_secondary_parent(dice: &mut Dice, line: &mut Vec<u8>) {
+    let parent = match dice.below(4) {
+        0 | 1 => own_number(line),
+        2 => b"500".to_vec(),
+        _ => dice.between(500, 999).to_string().into_bytes(),
+    };
+    put_secondary_parent(dice, line, &parent);
+}
+
+/// Puts the parent into one of the node's secondary edges, or into one more.
+pub fn put_secondary_parent(dice: &mut Dice, line: &mut Vec<u8>, parent: &[u8]) {
+    let pairs = column_count(line).max(5) / 2 - 2;
+    if pairs > 0 && dice.one_in(2) {
+        let index = 6 + 2 * dice.below(pairs);
+        return replace_column(line, index, parent);
+    }
+    let label = dice.pick_column(&["--", "UNKNOWN"]);
+    insert_column(line, 5, &[label, b"\t", parent].concat());
 }
 
 /// Two damages of one line, so that the smallest number has to win.

@@ -4,7 +4,7 @@ use Prim.Native.Nat.{ℕ}
 use mathlib.Core.List.{List}
 use Rattle.rules.specs.Texts.{Text}
 use Rattle.rules.specs.Numbers.{value}
-use Rattle.rules.specs.Nodes.{itsParent, parentsWritten, tagsShort, tagsKnown, parentsRise}
+use Rattle.rules.specs.Nodes.{itsParent, parentsWritten, tagsShort, tagsKnown, parentsAllowed}
 use Rattle.table_sheet.specs.SheetRows.{tablesIn}
 use Rattle.steps.specs.Faults.{faultIn, orElse}
 use Rattle.steps.specs.declared.Fault.{Fault}
@@ -36,11 +36,11 @@ module _ (s : tie.Start) (format : ℕ) where
   abbrev known : Fault
   known = faultIn (tagsKnown format fields (tablesIn (s .args .file .now) (s .args .sheet .now)) (s .args .own .tags))
 
-  abbrev rise : Fault
-  rise = faultIn (parentsRise format fields (s .args .own .number))
+  abbrev allowed : Fault
+  allowed = faultIn (parentsAllowed format fields (s .args .own .number))
 
   abbrev first : Fault
-  first = orElse written (orElse short (orElse (limits s) (orElse known rise)))
+  first = orElse written (orElse short (orElse (limits s) (orElse known allowed)))
 
   abbrev parent : ℕ
   parent = value (itsParent format fields)
@@ -64,23 +64,23 @@ read k format =
     (sym (k .before .before .before .parents-written .ensures format) ∙ k .before .parents .given .1)
 
 from-short : (k : tie.After-known-told) (format : ℕ)
-    → let s = entry k in Decides (first s format) (short s format) (orElse (limits s) (orElse (known s format) (rise s format)))
+    → let s = entry k in Decides (first s format) (short s format) (orElse (limits s) (orElse (known s format) (allowed s format)))
 from-short k format = record { is = sym (others-decide (written (entry k) format) _ (read k format .none)) }
 
 from-limits : (c : tie.Else1) (format : ℕ)
-    → let s = entry (c .before .before .before) in Decides (first s format) (limits s) (orElse (known s format) (rise s format))
+    → let s = entry (c .before .before .before) in Decides (first s format) (limits s) (orElse (known s format) (allowed s format))
 from-limits c format = let t = c .before .before in record { is = pass-on (from-short (t .before) format) _ (t .tags-short .ensures format) (c .if1 .left) }
 
 abbrev place : tie.Else2 → tie.After-known-told
 place c = c .before .before .before .before .before
 
-from-known : (c : tie.Else2) (format : ℕ) → let s = entry (place c) in Decides (first s format) (known s format) (rise s format)
+from-known : (c : tie.Else2) (format : ℕ) → let s = entry (place c) in Decides (first s format) (known s format) (allowed s format)
 from-known c format = record { is = pass-on (from-limits (c .before .before) format) _ refl (c .if2 .left) }
 
-from-rise : (r : tie.After-parents-rise) (format : ℕ) → r .parents-rise .result ≡ first (entry (place (r .before .before .before .before))) format
-from-rise r format =
+from-allowed : (r : tie.After-parents-allowed) (format : ℕ) → r .parents-allowed .result ≡ first (entry (place (r .before .before .before .before))) format
+from-allowed r format =
     let t = r .before .before .before in
-    r .parents-rise .ensures format ∙ pass-on (from-known (t .before) format) _ (t .tags-known .ensures format) (r .before .if3 .left)
+    r .parents-allowed .ensures format ∙ pass-on (from-known (t .before) format) _ (t .tags-known .ensures format) (r .before .if3 .left)
 
 returns-2 : tie.Need-returns-2
 returns-2 c format = let t = c .before .before in faulty-here (from-short (t .before) format) _ (t .tags-short .ensures format) _ _ (c .if1 .taken)
@@ -91,15 +91,15 @@ returns-3 c format = faulty-here (from-limits (c .before .before) format) _ refl
 returns-4 : tie.Need-returns-4
 returns-4 c format = let t = c .before .before in faulty-here (from-known (t .before) format) _ (t .tags-known .ensures format) _ _ (c .if3 .taken)
 
-parents-rise-requires : tie.Need-parents-rise-requires
-parents-rise-requires c κs = let k = place (c .before .before .before) in (entry k .pre .0, entry k .pre .1, sym (read k 0 .itself))
+parents-allowed-requires : tie.Need-parents-allowed-requires
+parents-allowed-requires c κs = let k = place (c .before .before .before) in (entry k .pre .0, entry k .pre .1, sym (read k 0 .itself))
 
 returns-5 : tie.Need-returns-5
 returns-5 c format =
     let r = c .before .before in
     let s = entry (place (r .before .before .before .before)) in
-    faulty (r .parents-rise .result) (parent s format) (highest s format) (c .if4 .taken)
-    ∙ ap (λ (f : Fault). unlessFaulty f (parent s format) (highest s format)) (from-rise r format)
+    faulty (r .parents-allowed .result) (parent s format) (highest s format) (c .if4 .taken)
+    ∙ ap (λ (f : Fault). unlessFaulty f (parent s format) (highest s format)) (from-allowed r format)
 
 returns-6 : tie.Need-returns-6
 returns-6 c format =
@@ -108,8 +108,8 @@ returns-6 c format =
     let s = entry k in
     ap (λ (n : ℕ). Fine n (k .before .parents .given .0 .1 .0)) (sym (read k format .itself))
     ∙ ap (Fine (parent s format)) (sym (read k format .top))
-    ∙ fine (r .parents-rise .result) (parent s format) (highest s format) (c .if4 .left)
-    ∙ ap (λ (f : Fault). unlessFaulty f (parent s format) (highest s format)) (from-rise r format)
+    ∙ fine (r .parents-allowed .result) (parent s format) (highest s format) (c .if4 .left)
+    ∙ ap (λ (f : Fault). unlessFaulty f (parent s format) (highest s format)) (from-allowed r format)
 
 pub judge-spec : {M : Type 1} → statement M
-judge-spec = tie.close (tie.spec (λ c κs. let s = c .before .before .before in (s .pre .0, s .pre .1)) (λ c. search needs) (λ c. search needs) returns (λ c κs. entry c .pre .1) returns-2 returns-3 (λ c κs. let s = entry (place c) in (s .pre .1, s .pre .2, s .pre .3)) returns-4 parents-rise-requires returns-5 returns-6)
+judge-spec = tie.close (tie.spec (λ c κs. let s = c .before .before .before in (s .pre .0, s .pre .1)) (λ c. search needs) (λ c. search needs) returns (λ c κs. entry c .pre .1) returns-2 returns-3 (λ c κs. let s = entry (place c) in (s .pre .1, s .pre .2, s .pre .3)) returns-4 parents-allowed-requires returns-5 returns-6)
