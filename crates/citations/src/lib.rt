@@ -46,14 +46,14 @@ pub fn is_known(
     requires { ⌜ Tabled (now file) (now sheet) × (table < tableCount) ⌝ }
     ensures { λ r. ⌜ ((start : ℕ) → r ≡ known (tablesIn (now (file .entry)) (now (sheet .entry))) table (record { start = start; bytes = now (tag .entry) })) ⌝ }
 {
+    let count = sheet[table] as usize;
+    if count == 0 {
+        return true;
+    }
     if columns::is_twice(tag, b'-') {
         return true;
     }
     if is_unknown(tag) {
-        return true;
-    }
-    let count = sheet[table] as usize;
-    if count == 0 {
         return true;
     }
     let place = table_sheet::row_place(table, 0);

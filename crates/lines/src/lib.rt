@@ -75,12 +75,13 @@ fn read_twice(file: &[u8], from: usize, classes: &[u8; 256], places: &mut Places
     }
 }
 
-// The columns of a line that may be read are listed in `places`. Ordinary lines of words and phrases, nearly all of a file, are
-// listed in one pass; the reader walks all others.
-pub fn next_line(
+// The columns of a line that may be read are listed in `places`. Of the lines of a sentence the ordinary ones, or any, are listed
+// in one pass; the reader walks all others.
+fn find_line(
     file: &[u8],
     from: usize,
     of_node: bool,
+    any: bool,
     classes: &[u8; 256],
     places: &mut Places,
 ) -> NextLine
@@ -92,9 +93,36 @@ pub fn next_line(
     }
     let once = read_at_once(file, from, classes, places);
     if let AtOnce::Line(line) = once {
-        if line.columns == ORDINARY {
+        if any || line.columns == ORDINARY {
             return NextLine::Line(line);
         }
     }
     read_twice(file, from, classes, places)
+}
+
+// The line of a file that is read whole. Ordinary lines of words and phrases, nearly all of it, are listed in one pass.
+pub fn next_line(
+    file: &[u8],
+    from: usize,
+    of_node: bool,
+    classes: &[u8; 256],
+    places: &mut Places,
+) -> NextLine
+    requires { ⌜ (from ≤ length (now file)) × (now classes ≡ classTable) × (length (now file) ≤ fileLimit) ⌝ }
+    ensures { λ r. ⌜ (lineEndOf r ≡ lineEnd (now (file .entry)) from) × ListedBy (now (file .entry)) from r (now (places .exit)) ⌝ }
+{
+    find_line(file, from, of_node, false, classes, places)
+}
+
+// The line of a sentence that is read by itself. Any is listed in one pass, those with secondary edges or a comment too.
+pub fn next_of_sentence(
+    file: &[u8],
+    from: usize,
+    classes: &[u8; 256],
+    places: &mut Places,
+) -> NextLine
+    requires { ⌜ (from ≤ length (now file)) × (now classes ≡ classTable) × (length (now file) ≤ fileLimit) ⌝ }
+    ensures { λ r. ⌜ (lineEndOf r ≡ lineEnd (now (file .entry)) from) × ListedBy (now (file .entry)) from r (now (places .exit)) ⌝ }
+{
+    find_line(file, from, true, true, classes, places)
 }

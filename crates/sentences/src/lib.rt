@@ -42,7 +42,7 @@ fn take_nodes(
     let mut t = first;
     let mut at = from;
     while at < file.len() {
-        let found = lines::next_line(file, at, true, classes, places);
+        let found = lines::next_of_sentence(file, at, classes, places);
         let NextLine::Line(line) = found else {
             return false;
         };

@@ -16,12 +16,16 @@ use Rattle.citations.proofs.TablesThere.{table-absent, table-there, row
 use Rattle.citations.proofs.is_known.Statement.{statement}
 use Rattle.citations.proofs.is_known.Tie as tie
 
-abbrev entry : tie.After-is-twice → tie.Start
+abbrev entry : tie.After-shared-slice-known4 → tie.Start
 entry k = k .before .before .before .before
 
--- where the table is looked at
-abbrev asked : tie.After-shared-slice-known4 → tie.Start
-asked k = entry (k .before .before .before .before)
+-- the table is there
+abbrev there : tie.After-is-twice → tie.Else1
+there k = k .before
+
+-- neither -- nor UNKNOWN
+abbrev other : tie.Else3 → tie.After-is-twice
+other k = k .before .before .before
 
 abbrev file : tie.Start → List ℕ
 file s = s .args .file .now
@@ -35,61 +39,41 @@ tables s = tablesIn (file s) (sheet s)
 abbrev tag : tie.Start → ℕ → Text
 tag s start = record { start = start; bytes = s .args .tag .now }
 
-is-twice-requires : tie.Need-is-twice-requires
-is-twice-requires c κs = search needs
+cast-count : tie.Need-cast-count
+cast-count c = omega (arith, c .shared-slice-known4 .given (entry c .args .table))
 
 returns : tie.Need-returns
 returns c start =
     let s = entry (c .before) in
-    sym (known-dashes (tables s) (s .args .table) (tag s start) (sym (c .before .is-twice .ensures) ∙ c .if1 .taken))
-
-is-unknown-requires : tie.Need-is-unknown-requires
-is-unknown-requires c κs = search needs
+    sym (known-absent (tables s) (s .args .table) (tag s start) (table-absent (file s) (sheet s) (s .args .table) (s .pre .1) (c .if1 .taken)))
 
 returns-2 : tie.Need-returns-2
 returns-2 c start =
-    let s = entry (c .before .before .before) in
-    sym (known-unknown (tables s) (s .args .table) (tag s start) (sym (c .before .is-unknown .ensures) ∙ c .if2 .taken))
-
-mul-count : tie.Need-mul-count
-mul-count c = search needs
-
-shared-slice-read-count : tie.Need-shared-slice-read-count
-shared-slice-read-count c = search needs
-
-cast-count : tie.Need-cast-count
-cast-count c = omega (arith, c .shared-slice-known4 .given (asked c .args .table))
+    let s = entry (there (c .before) .before) in
+    sym (known-dashes (tables s) (s .args .table) (tag s start) (sym (c .before .is-twice .ensures) ∙ c .if2 .taken))
 
 returns-3 : tie.Need-returns-3
 returns-3 c start =
-    let s = asked (c .before) in
-    sym (known-absent (tables s) (s .args .table) (tag s start) (table-absent (file s) (sheet s) (s .args .table) (s .pre .1) (c .if3 .taken)))
-
-row-place-requires : tie.Need-row-place-requires
-row-place-requires c κs = search needs
-
-sub-find-tag : tie.Need-sub-find-tag
-sub-find-tag c = search needs
+    let s = entry (there (c .before .before .before) .before) in
+    sym (known-unknown (tables s) (s .args .table) (tag s start) (sym (c .before .is-unknown .ensures) ∙ c .if3 .taken))
 
 find-tag-requires : tie.Need-find-tag-requires
 find-tag-requires c κs =
-    let s = asked (c .before .before) in
+    let found = there (other (c .before)) in
+    let s = entry (found .before) in
     let n = s .args .table in
-    let room = rows-in-sheet (file s) (sheet s) n (s .pre .1) (s .pre .0 .counted) (c .before .if3 .left) in (
+    let room = rows-in-sheet (file s) (sheet s) n (s .pre .1) (s .pre .0 .counted) (found .if1 .left) in (
       s .pre .1,
       rw (c .row-place .ensures) room,
       subst (λ (p : ℕ). Inside (file s) (sheet s) p (getD (sheet s) n 0 - 1)) (sym (c .row-place .ensures)) (s .pre .0 .inside n (s .pre .1)),
     )
 
-is-row-requires : tie.Need-is-row-requires
-is-row-requires c κs = search needs
-
 returns-4 : tie.Need-returns-4
 returns-4 c start =
     let looked = c .before .before in
-    let known4 = looked .before .before in
-    let other = known4 .before in
-    let s = asked known4 in
+    let neither = looked .before in
+    let twice = other neither in
+    let s = entry (there twice .before) in
     let n = s .args .table in
     let rows = getD (sheet s) n 0 - 1 in
     let bytes = s .args .tag .now in
@@ -97,24 +81,24 @@ returns-4 c start =
     ∙ tag-found bytes (rowsFrom (file s) (sheet s) (looked .row-place .result) rows) (c .before .find-tag .result) (c .before .find-tag .ensures)
     ∙ ap (λ (p : ℕ). tagAmong bytes (rowsFrom (file s) (sheet s) p rows)) (looked .row-place .ensures)
     ∙ sym (known-there (tables s) n (tag s start) (rowsFrom (file s) (sheet s) (rowPlace n 0) rows)
-    (table-there (file s) (sheet s) n (s .pre .1) (looked .before .if3 .left))
-    (sym (other .before .before .before .is-twice .ensures) ∙ other .before .before .if1 .left)
-    (sym (other .before .is-unknown .ensures) ∙ other .if2 .left))
+    (table-there (file s) (sheet s) n (s .pre .1) (there twice .if1 .left))
+    (sym (twice .is-twice .ensures) ∙ neither .before .before .if2 .left)
+    (sym (neither .before .is-unknown .ensures) ∙ neither .if3 .left))
 
 pub is-known-spec : {M : Type 1} → statement M
 is-known-spec =
     tie.close
     (tie.spec
-    is-twice-requires
-    returns
-    is-unknown-requires
-    returns-2
-    mul-count
-    shared-slice-read-count
+    (λ c. search needs)
+    (λ c. search needs)
     cast-count
+    returns
+    (λ c κs. search needs)
+    returns-2
+    (λ c κs. search needs)
     returns-3
-    row-place-requires
-    sub-find-tag
+    (λ c κs. search needs)
+    (λ c. search needs)
     find-tag-requires
-    is-row-requires
+    (λ c κs. search needs)
     returns-4)

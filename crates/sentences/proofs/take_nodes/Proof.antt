@@ -87,11 +87,11 @@ line k = k .found .given .0 .0
 abbrev end : Line → ℕ
 end k = line k .end
 
-abbrev answer : (k : Line) → tie.After-next-line Inv-loop μ-loop
+abbrev answer : (k : Line) → tie.After-next-of-sentence Inv-loop μ-loop
 answer k = k .before .before
 
 ends : (k : Line) → lineEnd (file (here k)) (at (here k)) ≡ At (end k)
-ends k = told-end (file (here k)) (at (here k)) _ _ (answer k .next-line .ensures) (line k) (k .found .given .1)
+ends k = told-end (file (here k)) (at (here k)) _ _ (answer k .next-of-sentence .ensures) (line k) (k .found .given .1)
 
 below : (k : Line) → end k < length (file (here k))
 below k = at-below (file (here k)) (at (here k)) (end k) (ends k)
@@ -99,10 +99,10 @@ below k = at-below (file (here k)) (at (here k)) (end k) (ends k)
 behind : (k : Line) → at (here k) ≤ end k
 behind k = at-behind (file (here k)) (at (here k)) (end k) (ends k)
 
-line-here : (k : Line) → LineHere (file (here k)) (sought (here k)) (handed (here k)) (at (here k)) (held (here k)) (end k) (line k) (answer k .next-line .last .1 .1 .1 .1 .0)
+line-here : (k : Line) → LineHere (file (here k)) (sought (here k)) (handed (here k)) (at (here k)) (held (here k)) (end k) (line k) (answer k .next-of-sentence .last .1 .1 .1 .0)
 line-here k =
     let l = here k in
-    let told = answer k .next-line .ensures in
+    let told = answer k .next-of-sentence .ensures in
     record {
       going = going l;
       short = short l;
@@ -127,7 +127,7 @@ returns : tie.Need-returns Inv-loop μ-loop
 returns c =
     let e = c .before in
     let l = e .before .before .before in
-    (none-gathered _ _ (none-unread (file l) (sought l) (handed l) (at l) (held l) (going l) (e .next-line .result) (sym (e .next-line .ensures .0)) (c .match .keys2)), marks-stay l)
+    (none-gathered _ _ (none-unread (file l) (sought l) (handed l) (at l) (held l) (going l) (e .next-of-sentence .result) (sym (e .next-of-sentence .ensures .0)) (c .match .keys2)), marks-stay l)
 
 judge-requires : tie.Need-judge-requires Inv-loop μ-loop
 judge-requires c κs =
