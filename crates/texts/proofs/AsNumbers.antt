@@ -72,6 +72,19 @@ digits-joined bs i m lo hi below front back k h = ap (λ (x : ℕ). x / 2 ^ (8 *
 abbrev pub Bytes : List ℕ → Type 0
 Bytes bs = (i : ℕ) → getD bs i 0 < 256
 
+-- eight bytes, each with its weight
+pub eight-sum : (bs : List ℕ) (i : ℕ)
+    → getD bs i 0 + 256 * getD bs (i + 1) 0 + 65536 * getD bs (i + 2) 0 + 16777216 * getD bs (i + 3) 0 + 4294967296 * getD bs (i + 4) 0
+    + 1099511627776 * getD bs (i + 5) 0 + 281474976710656 * getD bs (i + 6) 0 + 72057594037927936 * getD bs (i + 7) 0
+    ≡ eightAt bs i
+unfolding eightAt fourAt twoAt
+eight-sum bs i =
+    let three : i + 2 + 1 ≡ i + 3 = omega arith in
+    let five : i + 4 + 1 ≡ i + 5 = omega arith in
+    let six : i + 4 + 2 ≡ i + 6 = omega arith in
+    let seven : i + 6 + 1 ≡ i + 7 = omega arith in
+    rw (three, five, six, seven) (omega arith)
+
 module _ (bs : List ℕ) (small : Bytes bs) where
   two-below : (i : ℕ) → twoAt bs i < 65536
   unfolding twoAt
