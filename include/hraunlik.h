@@ -24,7 +24,8 @@ enum { HRAUNLIK_GRANTED = 0, HRAUNLIK_WRONG_SIZE = 1, /* of a buffer */ HRAUNLIK
   HRAUNLIK_PHRASE_TWICE = 17, HRAUNLIK_UNKNOWN_TAG = 18,
   HRAUNLIK_WRONG_PARENT = 19, /* too low; a secondary one: the phrase itself */
   HRAUNLIK_OTHER_NUMBER = 20, /* on #EOS */ HRAUNLIK_PHRASE_GAP = 21, HRAUNLIK_PARENT_ABSENT = 22,
-  HRAUNLIK_ENDS_INSIDE = 23, HRAUNLIK_NOT_HANDED_OUT = 24, HRAUNLIK_NO_ROOM = 25 /* tidy text */ };
+  HRAUNLIK_ENDS_INSIDE = 23, HRAUNLIK_NOT_HANDED_OUT = 24, HRAUNLIK_NO_ROOM = 25, /* tidy text */
+  HRAUNLIK_UNEXPLAINED = 26 /* tag */ };
 
 /* A text is two numbers, its start in the file and its length; 0, 0 if absent. Unused room is zero.
  * Seen set: number n is bit n % 8 of byte n / 8. Table sheet: 7 counts (0 absent, else rows + 1) of
@@ -66,6 +67,14 @@ uint32_t hraunlik_open_at(const uint8_t *file, size_t, uint32_t place, uint32_t 
 uint32_t hraunlik_write(const uint8_t *file, size_t, uint8_t *output, size_t, uint32_t *tables,
     size_t, uint8_t *seen, size_t, uint32_t *sheet, size_t, uint32_t *edges, size_t,
     uint32_t *place, uint32_t *length);
+/* Explains a tag of a table, named by its place in the order above: 3 for WORDTAG to 7. Its
+ * description is a part of file if that has the table, else of list, an export file too and maybe
+ * the same: *of says which, and it has *length bytes from *start on. 0; else 1, 2 for either, the
+ * file's refusal, the list's, or 26, with *start and *length 0. tables and seen end as zeros. */
+enum { HRAUNLIK_OF_NEITHER = 0, HRAUNLIK_OF_FILE = 1, HRAUNLIK_OF_LIST = 2 };
+uint32_t hraunlik_explain(const uint8_t *file, size_t, const uint8_t *list, size_t, uint32_t table,
+    const uint8_t *tag, size_t, uint32_t *tables, size_t, uint8_t *seen, size_t, uint32_t *of,
+    uint32_t *start, uint32_t *length);
 #ifdef __cplusplus
 }
 #endif

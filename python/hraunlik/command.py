@@ -15,7 +15,7 @@ from .corpus import Corpus
 from .files import STANDARD_INPUT, Progress, Unusable, aligned, corpus_of, found, keep_apart, prepare, steady_streams, write_out
 from .gallery import entry_of
 from .library import LibraryMissing
-from .refusals import RULES, NoSuchSentence, Refused, shown
+from .refusals import RULES, NoSuchSentence, Refused, Unexplained, shown
 from .told import answer_of, counted, example_dictionary, example_lines, node_row, rescued, sentence_dictionary, survey_line
 
 ACCEPTED, REFUSED, UNUSABLE = 0, 1, 2
@@ -83,16 +83,21 @@ def warn(corpus: Corpus, name: str) -> int:
     return REFUSED
 
 
+def tell_refused(options: argparse.Namespace, asked: str, refused: Refused) -> int:
+    """The status of a question that has no answer."""
+    say(f"{asked}: {refused}")
+    if options.json:
+        put_json({"refusal": refused.refusal.number})
+    return REFUSED
+
+
 def run_open(options: argparse.Namespace) -> int:
     corpus = corpus_of(options.file)
     status = warn(corpus, options.file)
     try:
         told = sentence_dictionary(corpus.open(options.number))
     except NoSuchSentence as refused:
-        say(f"{shown(options.file)}: sentence {options.number}: {refused}")
-        if options.json:
-            put_json({"refusal": refused.refusal.number})
-        return REFUSED
+        return tell_refused(options, f"{shown(options.file)}: sentence {options.number}", refused)
     if options.json:
         put_json(told)
         return status
@@ -189,6 +194,29 @@ def run_explain(options: argparse.Namespace) -> int:
     return ACCEPTED
 
 
+def run_explain_tag(options: argparse.Namespace) -> int:
+    if options.file == options.list == STANDARD_INPUT:
+        raise Unusable("standard input can be read once only")
+    corpus = corpus_of(options.file)
+    tags = corpus_of(options.list) if options.list else corpus
+    try:
+        description = corpus.explain(options.table, options.tag, tags)
+    except Refused as refused:
+        return tell_refused(options, at_fault(options, corpus, refused), refused)
+    if options.json:
+        put_json({"table": options.table, "tag": options.tag, "description": description})
+    else:
+        print(shown(description))
+    return ACCEPTED
+
+
+def at_fault(options: argparse.Namespace, corpus: Corpus, refused: Refused) -> str:
+    """What a refused explaining speaks of: the file, the list, or the tag."""
+    if isinstance(refused, Unexplained):
+        return shown(f"{options.file}: {options.table} {options.tag}")
+    return shown(options.file if refused.refusal is corpus.survey().refusal else options.list)
+
+
 def parser() -> argparse.ArgumentParser:
     whole = argparse.ArgumentParser(prog="hraunlik", description=__doc__)
     commands = whole.add_subparsers(required=True, metavar="COMMAND")
@@ -217,6 +245,11 @@ def parser() -> argparse.ArgumentParser:
     comparing = command("compare", run_compare, "which sentences are the same, changed, missing, new")
     comparing.add_argument("old", metavar="OLD")
     comparing.add_argument("new", metavar="NEW")
+    tag = command("explain-tag", run_explain_tag, "the description of a tag, from the file's table or from a list")
+    tag.add_argument("file", metavar="FILE")
+    tag.add_argument("table", metavar="TABLE", help="WORDTAG, MORPHTAG, NODETAG, EDGETAG or SECEDGETAG")
+    tag.add_argument("tag", nargs="?", default="--", metavar="TAG", help="-- if it is left out")
+    tag.add_argument("--list", metavar="FILE", help="an export file that is asked if the file hasn't the table")
     command("explain", run_explain, "a refusal in words, example, cure").add_argument("number", type=int, metavar="NUMBER")
     return whole
 

@@ -11,10 +11,12 @@ from dataclasses import dataclass
 from typing import BinaryIO, Dict, Iterator, List, NamedTuple, Optional, Union
 
 from . import layout, library
-from .refusals import NoSuchSentence, Refusal, Refused
+from .refusals import NoSuchSentence, Refusal, Refused, Unexplained
 from .sentence import Sentence
 
 CHUNK = 1 << 20
+
+Source = Union[str, "os.PathLike[str]", bytes]
 
 
 @dataclass(frozen=True)
@@ -68,7 +70,7 @@ class Corpus:
     that others save into, give the bytes. A corpus is for one thread at a time; make one for each.
     """
 
-    def __init__(self, source: Union[str, "os.PathLike[str]", bytes]) -> None:
+    def __init__(self, source: Source) -> None:
         if isinstance(source, bytes):
             self._take(source)
         else:
@@ -180,6 +182,26 @@ class Corpus:
         )
         return Row(row[layout.ROW_ID] - 1, name, description, row[layout.ROW_FLAG] == 1)
 
+    def explain(self, table: str, tag: str, tags: Union["Corpus", Source, None] = None) -> str:
+        """The description of a tag: from this file if it has the table, else from `tags`, an export file too.
+
+        >>> Corpus("examples/ja.export").explain("WORDTAG", "ADJD", tags="examples/schade.export")
+        'Attributives Adjektiv'
+
+        `--` and `UNKNOWN` without a row have an empty one. `Unexplained` is raised if nothing explains the tag,
+        `Refused` if one of the two files is refused.
+        """
+        other = self if tags is None else tags if isinstance(tags, Corpus) else Corpus(tags)
+        told = library.explain(self._lent, other._lent, layout.table_place(table), _bytes_of(tag))
+        if told.refusal == 0:
+            holder = self if told.of == layout.OF_FILE else other
+            return holder._bytes_at(told.start, told.length).decode("latin-1")
+        for corpus in (self, other):
+            refusal = corpus.survey().refusal
+            if refusal is not None and refusal.number == told.refusal:
+                raise Refused(refusal)
+        raise Unexplained(Refusal(told.refusal, 0))
+
     def tidy(self) -> bytes:
         """The tidy text; `Refused` is raised if the file is refused or the text has no room."""
         self.accepted()
@@ -229,6 +251,14 @@ class Corpus:
 
     def _bytes_at(self, start: int, length: int) -> bytes:
         return self._data[start : start + length]
+
+
+def _bytes_of(tag: str) -> bytes:
+    """A tag's bytes; none, which no row has for its tag, if it has letters that no file has."""
+    try:
+        return tag.encode("latin-1")
+    except UnicodeEncodeError:
+        return b""
 
 
 def _contents(file: BinaryIO) -> Union[bytes, mmap.mmap]:

@@ -69,6 +69,10 @@ EDGE_CHILD = _NUMBERS["EDGE_CHILD"]
 EDGE_LABEL = _NUMBERS["EDGE_LABEL"]
 EDGE_PARENT = _NUMBERS["EDGE_PARENT"]
 
+# An explained tag: of which the description is a part.
+OF_FILE = _NUMBERS["OF_FILE"]
+OF_LIST = _NUMBERS["OF_LIST"]
+
 
 def rows(tables: Sequence[int], table: int) -> Optional[List[Record]]:
     """The rows of a table by its place among the names, None if the file hasn't it."""
@@ -76,6 +80,11 @@ def rows(tables: Sequence[int], table: int) -> Optional[List[Record]]:
         return None
     first = TABLE_COUNT + table * ROWS_OF_A_TABLE * ROW_SIZE
     return _records(tables, first, tables[table] - 1, ROW_SIZE)
+
+
+def table_place(name: str) -> int:
+    """A table's place among the names, from 1; 0 for a name that no table has."""
+    return TABLE_NAMES.index(name) + 1 if name in TABLE_NAMES else 0
 
 
 def heading(sheet: Sequence[int]) -> Record:

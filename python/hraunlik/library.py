@@ -67,6 +67,7 @@ def load() -> ctypes.CDLL:
     _declare(library, "hraunlik_index", Slice * 4 + [Told] * 3)
     _declare(library, "hraunlik_open_at", Slice + [Number] + Slice * 2)
     _declare(library, "hraunlik_write", Slice * 6 + [Told] * 2)
+    _declare(library, "hraunlik_explain", Slice * 2 + [Number] + Slice * 3 + [Told] * 3)
     return library
 
 
@@ -131,3 +132,24 @@ def write(file: Lent) -> Written:
         *file, *_lend(output), *_lend(tables), *_lend(seen), *_lend(sheet), *_lend(edges), place, length
     )
     return Written(refusal, place.value, ctypes.string_at(output, length.value))
+
+
+class Explained(NamedTuple):
+    """What an explaining tells: refusal, of which the description is a part (layout.OF_FILE, OF_LIST), and where it stands."""
+
+    refusal: int
+    of: int
+    start: int
+    length: int
+
+
+def explain(file: Lent, tags: Lent, table: int, tag: bytes) -> Explained:
+    """Where the description of a tag stands; the table is named by its place, from 1."""
+    tables = (Number * layout.TABLE_SHEET)()
+    seen = (ctypes.c_uint8 * layout.SEEN_SET)()
+    text = ctypes.create_string_buffer(tag)
+    of, start, length = Number(), Number(), Number()
+    refusal = load().hraunlik_explain(
+        *file, *tags, table, ctypes.addressof(text), len(tag), *_lend(tables), *_lend(seen), of, start, length
+    )
+    return Explained(refusal, of.value, start.value, length.value)

@@ -41,6 +41,7 @@ RULES: dict[int, Rule] = {
     23: Rule("the file ends inside a table or a sentence", WHOLE_COPY + " Don't add the #EOS by hand: nobody knows which phrases are lost."),
     24: Rule("no such sentence was handed out", "Survey the file: if it is refused, mend that first; else see which numbers there are (numbers)."),
     25: Rule("the tidy text has no room", "Lend 512 bytes more than the file has; if the file limit is passed, split the file."),
+    26: Rule("nothing explains the tag", "Name a tag table, WORDTAG to SECEDGETAG, that the file or the list has. A file that has it is asked alone: add the row there."),
 }
 
 
@@ -111,3 +112,7 @@ class Refused(Exception):
 
 class NoSuchSentence(Refused, KeyError):
     """Raised for a sentence number that the file doesn't hand out."""
+
+
+class Unexplained(Refused, KeyError):
+    """Raised for a tag that neither the file nor the list explains."""

@@ -1,7 +1,7 @@
 //! The library's functions as they are, over slices of any length. Each answers with a
 //! refusal, 0 if granted; a buffer that hasn't its size is refused with 1, and nothing changes.
 
-use crate::{Survey, Written};
+use crate::{Explained, Survey, Written};
 
 extern "C" {
     fn hraunlik_survey(
@@ -64,6 +64,22 @@ extern "C" {
         edges: *mut u32,
         edges_length: usize,
         place: *mut u32,
+        length: *mut u32,
+    ) -> u32;
+    fn hraunlik_explain(
+        file: *const u8,
+        file_length: usize,
+        list: *const u8,
+        list_length: usize,
+        table: u32,
+        tag: *const u8,
+        tag_length: usize,
+        tables: *mut u32,
+        tables_length: usize,
+        seen: *mut u8,
+        seen_length: usize,
+        of: *mut u32,
+        start: *mut u32,
         length: *mut u32,
     ) -> u32;
 }
@@ -195,6 +211,43 @@ pub fn write(
     Written {
         refusal,
         place,
+        length,
+    }
+}
+
+/// The description of a tag of a table, named by its place from 1 on: of the file if it has the
+/// table, else of the list. The table sheet and the seen set end as zeros.
+pub fn explain(
+    file: &[u8],
+    list: &[u8],
+    table: u32,
+    tag: &[u8],
+    tables: &mut [u32],
+    seen: &mut [u8],
+) -> Explained {
+    let [mut of, mut start, mut length] = [u32::MAX; 3];
+    let refusal = unsafe {
+        hraunlik_explain(
+            file.as_ptr(),
+            file.len(),
+            list.as_ptr(),
+            list.len(),
+            table,
+            tag.as_ptr(),
+            tag.len(),
+            tables.as_mut_ptr(),
+            tables.len(),
+            seen.as_mut_ptr(),
+            seen.len(),
+            &mut of,
+            &mut start,
+            &mut length,
+        )
+    };
+    Explained {
+        refusal,
+        of,
+        start,
         length,
     }
 }

@@ -23,6 +23,10 @@ pub const EDGES: usize = header::EDGES;
 pub const FILE_LIMIT: usize = header::FILE_LIMIT;
 /// A tidy text is at most so many bytes longer than its file.
 pub const TIDY_ROOM: usize = header::TIDY_ROOM;
+/// Of which an explained tag's description is a part: the file.
+pub const OF_FILE: u32 = header::OF_FILE as u32;
+/// The list.
+pub const OF_LIST: u32 = header::OF_LIST as u32;
 /// The number of a sentence's first phrase.
 pub const FIRST_PHRASE: u32 = header::FIRST_PHRASE as u32;
 

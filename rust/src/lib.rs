@@ -19,12 +19,14 @@
 #[allow(unsafe_code)]
 pub mod calls;
 mod corpus;
+mod explain;
 pub mod layout;
 mod sentence;
 mod tables;
 mod tidy;
 
 pub use corpus::{Corpus, Sentences, Survey};
+pub use explain::Explained;
 pub use sentence::{Edge, Node, Sentence};
 pub use tables::{Row, Table};
 pub use tidy::Written;

@@ -186,6 +186,44 @@ static void tidy_again(struct file schade) {
     free(again.bytes);
 }
 
+static struct { uint32_t of, start, length; } told;
+
+static uint32_t explain(struct file file, struct file list, uint32_t table, const char *tag) {
+    fill_with_noise();
+    memset(&told, 0xa5, sizeof told);
+    return hraunlik_explain(file.bytes, file.length, list.bytes, list.length, table, (const uint8_t *)tag, strlen(tag), tables,
+                            HRAUNLIK_TABLES, seen, HRAUNLIK_SEEN, &told.of, &told.start, &told.length);
+}
+
+static int explained_by(uint32_t of, struct file whole, const char *expected) {
+    const uint32_t text[2] = {told.start, told.length};
+    return told.of == of && is_text(whole, text, expected);
+}
+
+static int empty_part(uint32_t of) { return told.of == of && told.start == 0 && told.length == 0; }
+
+static int cleared(void) {
+    uint32_t sum = 0;
+    for (size_t i = 0; i < HRAUNLIK_TABLES; i++) sum |= tables[i];
+    for (size_t i = 0; i < HRAUNLIK_SEEN; i++) sum |= seen[i];
+    return sum == 0;
+}
+
+/* The small example has no tag table, the printed one has all. */
+static void tags_explained(struct file ja, struct file schade) {
+    static const char adjective[] = "Attributives Adjektiv";
+    CHECK(explain(schade, ja, 3, "ADJD") == HRAUNLIK_GRANTED && explained_by(HRAUNLIK_OF_FILE, schade, adjective) && cleared());
+    CHECK(explain(ja, schade, 3, "ADJD") == HRAUNLIK_GRANTED && explained_by(HRAUNLIK_OF_LIST, schade, adjective) && cleared());
+    CHECK(explain(schade, schade, 3, "ADJD") == HRAUNLIK_GRANTED && explained_by(HRAUNLIK_OF_FILE, schade, adjective));
+    CHECK(explain(ja, schade, 7, "--") == HRAUNLIK_GRANTED && empty_part(HRAUNLIK_OF_LIST) && cleared());
+    CHECK(explain(ja, ja, 3, "ADJD") == HRAUNLIK_UNEXPLAINED && empty_part(HRAUNLIK_OF_NEITHER) && cleared());
+    CHECK(explain(ja, ja, 3, "--") == HRAUNLIK_UNEXPLAINED && explain(schade, ja, 3, "") == HRAUNLIK_UNEXPLAINED);
+    CHECK(explain(schade, ja, 2, "--") == HRAUNLIK_UNEXPLAINED && explain(schade, ja, 8, "--") == HRAUNLIK_UNEXPLAINED);
+    ja.length = 119;
+    CHECK(explain(ja, schade, 3, "ADJD") == HRAUNLIK_ENDS_INSIDE && empty_part(HRAUNLIK_OF_NEITHER) && cleared());
+    CHECK(explain(schade, ja, 3, "ADJD") == HRAUNLIK_ENDS_INSIDE && empty_part(HRAUNLIK_OF_NEITHER) && cleared());
+}
+
 /* A buffer of another size is refused, and nothing changes. */
 static void wrong_sizes(struct file ja) {
     const uint8_t *f = ja.bytes;
@@ -200,10 +238,12 @@ static void wrong_sizes(struct file ja) {
     CHECK(hraunlik_open_at(f, n, 74, sheet, h - 1, edges, e) == HRAUNLIK_WRONG_SIZE);
     CHECK(hraunlik_write(f, n, output, 640, tables, t, seen, s + 1, sheet, h, edges, e, &place, &length) == HRAUNLIK_WRONG_SIZE);
     CHECK(place == 0 && length == 0 && output[0] == 0xa5);
+    CHECK(hraunlik_explain(f, n, f, n, 3, f, 2, tables, t - 1, seen, s, &told.of, &told.start, &told.length) == HRAUNLIK_WRONG_SIZE);
+    CHECK(empty_part(HRAUNLIK_OF_NEITHER));
     CHECK(tables[0] == 0xa5a5a5a5 && seen[0] == 0xa5 && places[7] == 0xa5a5a5a5 && sheet[0] == 0xa5a5a5a5 && edges[0] == 0xa5a5a5a5);
 }
 
-static void file_limit(void) {
+static void file_limit(struct file ja) {
     struct file file = {calloc(HRAUNLIK_FILE_LIMIT + 1, 1), HRAUNLIK_FILE_LIMIT + 1};
     uint8_t output[2];
     uint32_t length;
@@ -211,6 +251,8 @@ static void file_limit(void) {
     CHECK(survey(file) == HRAUNLIK_FILE_TOO_LONG && answers(0, 0, 0) && tables[0] == 0xa5a5a5a5);
     CHECK(open_at(file, 0) == HRAUNLIK_FILE_TOO_LONG && sheet[0] == 0xa5a5a5a5);
     CHECK(write_tidy(file, output, 1, &length) == HRAUNLIK_FILE_TOO_LONG && length == 0 && output[0] == 0xa5);
+    CHECK(explain(file, ja, 3, "NN") == HRAUNLIK_FILE_TOO_LONG && explain(ja, file, 3, "NN") == HRAUNLIK_FILE_TOO_LONG);
+    CHECK(empty_part(HRAUNLIK_OF_NEITHER) && tables[0] == 0xa5a5a5a5 && seen[0] == 0xa5);
     file.length = HRAUNLIK_FILE_LIMIT;
     CHECK(survey(file) == HRAUNLIK_UNENDED && answers(0, 0, 0));
     free(file.bytes);
@@ -225,8 +267,9 @@ int main(int count, char **words) {
     written_here();
     tidy_text(ja);
     tidy_again(schade);
+    tags_explained(ja, schade);
     wrong_sizes(ja);
-    file_limit();
+    file_limit(ja);
     free(ja.bytes);
     free(schade.bytes);
     printf("%d checks, %d failed\n", checked, wrong);

@@ -22,6 +22,7 @@ FUNCTIONS = {
     "survey": (("tables", "seen"), 3),
     "open": (("tables", "seen", "sheet", "edges"), 0),
     "write": (("output", "tables", "seen", "sheet", "edges"), 2),
+    "explain": (("tables", "seen"), 3),
 }
 
 
@@ -29,7 +30,7 @@ def called(path, call):
     """The answer to a call of the gallery (its README.md), and the names of the buffers that changed."""
     function, *words = call.split()
     sizes = dict(word.split("=") for word in words if "=" in word)
-    asked = [NUMBER(int(word)) for word in words if "=" not in word]
+    plain = [word for word in words if "=" not in word]
     names, told = FUNCTIONS[function]
     assert set(sizes) <= set(names), call
     lent = {name: noise(name, sizes.get(name)) for name in names}
@@ -38,9 +39,13 @@ def called(path, call):
     with path.open("rb") as file:
         data = mmap.mmap(file.fileno(), 0, access=mmap.ACCESS_COPY)
     first = ctypes.c_char.from_buffer(data)
-    answer = getattr(library.load(), f"hraunlik_{function}")(
-        ctypes.byref(first), ctypes.c_size_t(len(data)), *asked, *slices, *map(ctypes.byref, numbers)
-    )
+    whole = (ctypes.byref(first), ctypes.c_size_t(len(data)))
+    if function == "explain":
+        table, tag = plain
+        asked = [*whole, NUMBER(int(table)), tag.encode(), ctypes.c_size_t(len(tag))]
+    else:
+        asked = [NUMBER(int(word)) for word in plain]
+    answer = getattr(library.load(), f"hraunlik_{function}")(*whole, *asked, *slices, *map(ctypes.byref, numbers))
     changed = {name for name, buffer in lent.items() if any(byte != NOISE for byte in bytes(buffer))}
     return (answer, *(number.value for number in numbers)), changed
 

@@ -15,7 +15,7 @@ from hraunlik.command import main
 COMMAND = str(ROOT / "hraunlik")
 
 #: The commands that take one file, and what they take behind it.
-OF_ONE_FILE = {"open": ["1"], "numbers": [], "tidy": [], "rescue": []}
+OF_ONE_FILE = {"open": ["1"], "numbers": [], "tidy": [], "rescue": [], "explain-tag": ["WORDTAG", "NN"]}
 
 
 def run(*arguments, given=b""):

@@ -4,7 +4,7 @@ import json
 import os
 from unittest import mock
 
-from cases import GALLERY, HALF, JA, UNTIDY, gallery
+from cases import GALLERY, HALF, JA, SCHADE, UNTIDY, gallery
 from commanding import OF_ONE_FILE, InARoom, run, started
 from hraunlik import Corpus, Refusal, Refused
 
@@ -23,7 +23,7 @@ class Surveys(InARoom):
         for files, wanted in (([good], 0), ([good, bad], 1), ([bad, self.room / "none", good], 2), ([self.room], 2)):
             self.assertEqual(run("survey", *files)[0], wanted)
             self.assertEqual(run("survey", "--json", *files)[0], wanted)
-        for arguments in ([], ["survey"], ["no-such"], ["survey", "-j", "0", good], ["open", good, "x"], ["explain", "26"]):
+        for arguments in ([], ["survey"], ["no-such"], ["survey", "-j", "0", good], ["open", good, "x"], ["explain", "27"]):
             self.assertEqual(run(*arguments)[0], 2, arguments)
 
     def test_empty_file_is_refused(self):
@@ -109,10 +109,40 @@ class Openings(InARoom):
         self.assertEqual(json.loads(run("numbers", UNTIDY, "--json")[1])["numbers"], [2, 1])
 
     def test_explain(self):
-        for number in range(1, 26):
+        for number in range(1, 27):
             status, out, _ = run("explain", number)
             self.assertEqual((status, f"Refusal {number}: ".encode() in out, b"For example " in out), (0, True, True))
             self.assertEqual(json.loads(run("explain", number, "--json")[1])["refusal"], number)
+
+
+class Tags(InARoom):
+    def test_file_then_list(self):
+        ja, schade = self.file("ja", JA), self.file("schade", SCHADE)
+        self.assertEqual(run("explain-tag", schade, "WORDTAG", "ADJD")[:2], (0, b"Attributives Adjektiv\n"))
+        status, out, error = run("explain-tag", ja, "WORDTAG", "ADJD")
+        self.assertEqual((status, out, f"{ja}: WORDTAG ADJD: refusal 26" in error), (1, b"", True))
+        self.assertEqual(json.loads(run("explain-tag", "--json", ja, "WORDTAG", "ADJD")[1]), {"refusal": 26})
+        self.assertEqual(run("explain-tag", ja, "WORDTAG", "ADJD", "--list", schade)[:2], (0, b"Attributives Adjektiv\n"))
+        told = json.loads(run("explain-tag", "--json", ja, "WORDTAG", "ADJD", "--list", schade)[1])
+        self.assertEqual(told, {"table": "WORDTAG", "tag": "ADJD", "description": "Attributives Adjektiv"})
+
+    def test_two_dashes_are_a_tag(self):
+        schade = self.file("schade", SCHADE)
+        for words in ([], ["--"], ["--", "--"]):
+            self.assertEqual(run("explain-tag", schade, "WORDTAG", *words)[:2], (0, b"nicht zugeordnet\n"), words)
+        self.assertEqual(run("explain-tag", schade, "SECEDGETAG", "UNKNOWN")[:2], (0, b"\n"))
+
+    def test_refused_files_are_named(self):
+        ja = self.file("ja", JA)
+        for words in ((HALF, "WORDTAG", "NN"), (ja, "WORDTAG", "NN", "--list", HALF)):
+            status, _, error = run("explain-tag", *words)
+            self.assertEqual((status, f"{HALF}: refusal 3" in error), (1, True))
+
+    def test_standard_input_once(self):
+        words = ("-", "WORDTAG", "ADJD", "--list")
+        self.assertEqual(run("explain-tag", *words, self.file("schade", SCHADE), given=JA)[0], 0)
+        for unreadable in ("-", self.room, self.room / "none"):
+            self.assertEqual(run("explain-tag", *words, unreadable, given=JA)[:2], (2, b""))
 
 
 class Rescues(InARoom):

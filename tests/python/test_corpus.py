@@ -36,7 +36,7 @@ class Answers(unittest.TestCase):
             self.assertEqual(numbers(Corpus(file).survey()), answer)
 
     def test_every_refusal_has_words(self):
-        self.assertEqual(list(hraunlik.RULES), list(range(1, 26)))
+        self.assertEqual(list(hraunlik.RULES), list(range(1, 27)))
 
     def test_line_and_text_of_the_fault(self):
         survey = Corpus(HALF).survey()
@@ -109,6 +109,37 @@ class Sentences(unittest.TestCase):
         head = JA[: JA.index(b"#BOS")]
         body = b"".join(b"#BOS %d 2 0 1\nJa ITJ -- -- 0\n#EOS %d\n" % (n, n) for n in range(65535, 0, -1))
         self.assertEqual([s.number for s in Corpus(head + body)], list(range(65535, 0, -1)))
+
+
+class Tags(unittest.TestCase):
+    """The file if it has the table, else the list; the table decides, not the tag."""
+
+    HEAD = JA[: JA.index(b"#BOS")]
+    OURS = Corpus(HEAD + b"#BOT WORDTAG\n1 NN Y noun\n#EOT WORDTAG\n")
+    TAGS = Corpus(HEAD + b"#BOT WORDTAG\n0 -- N none\n1 NN Y other\n2 VB Y verb\n#EOT WORDTAG\n#BOT NODETAG\n1 S clause\n#EOT NODETAG\n")
+
+    def test_which_of_the_two(self):
+        self.assertEqual(self.OURS.explain("WORDTAG", "NN", tags=self.TAGS), "noun")
+        self.assertEqual(self.OURS.explain("WORDTAG", "--", tags=self.TAGS), "")
+        self.assertEqual(self.OURS.explain("NODETAG", "S", tags=self.TAGS), "clause")
+        self.assertEqual(self.OURS.explain("NODETAG", "UNKNOWN", tags=self.TAGS), "")
+        self.assertEqual(self.TAGS.explain("WORDTAG", "--"), "none")
+        for tags in (ROOT / "examples" / "schade.export", SCHADE, Corpus(SCHADE)):
+            self.assertEqual(Corpus(JA).explain("WORDTAG", "ADJD", tags), "Attributives Adjektiv")
+
+    def test_unexplained(self):
+        in_no_table = [("WORDTAG", tag) for tag in ("VB", "NN ", "", "\0", "\u0142")]
+        for table, tag in in_no_table + [("MORPHTAG", "--"), ("EDITOR", "--"), ("TAGS", "--")]:
+            with self.assertRaises(hraunlik.Unexplained) as raised:
+                self.OURS.explain(table, tag, tags=self.TAGS)
+            self.assertEqual(raised.exception.refusal.number, 26)
+
+    def test_refused_file_and_list(self):
+        half, empty = Corpus(HALF), Corpus(b"")
+        for file, tags, at_fault in ((half, self.TAGS, half), (self.OURS, half, half), (empty, half, empty)):
+            with self.assertRaises(hraunlik.Refused) as raised:
+                file.explain("WORDTAG", "NN", tags=tags)
+            self.assertEqual(raised.exception.refusal, at_fault.survey().refusal)
 
 
 class Lines(unittest.TestCase):

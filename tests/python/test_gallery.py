@@ -7,7 +7,7 @@ import unittest
 from calling import called
 from cases import GALLERY, ROOT, gallery, numbers
 from commanding import InARoom, run
-from hraunlik import Corpus, NoSuchSentence
+from hraunlik import Corpus, NoSuchSentence, Refused, layout
 from hraunlik.gallery import calls, surveys
 
 
@@ -21,11 +21,11 @@ def shorter(path):
 class Lists(unittest.TestCase):
     def test_each_number_and_each_file(self):
         entries = [*surveys(), *calls()]
-        self.assertEqual({entry.answer[0] for entry in entries}, set(range(26)))
+        self.assertEqual({entry.answer[0] for entry in entries}, set(range(27)))
         stored = {entry.file for entry in entries if (GALLERY / entry.file).is_file()}
         self.assertEqual(stored, {path.name for path in GALLERY.glob("*.export")})
-        numbered = {number for number in range(1, 26) if f"{number:02}.export" in stored}
-        self.assertEqual(numbered, set(range(1, 26)) - {2})
+        numbered = {number for number in range(1, 27) if f"{number:02}.export" in stored}
+        self.assertEqual(numbered, set(range(1, 27)) - {2})
         for entry in entries:
             self.assertRegex(entry.why, r"^[A-Z#%].*\.$")
 
@@ -105,3 +105,12 @@ class Calls(InARoom):
                 corpus.open(int(number))
             self.assertEqual((raised.exception.refusal.number, told), (refusal, {"refusal": refusal}))
             self.assertEqual(run("open", path, number)[0], 1)
+
+    def test_explainings(self):
+        for path, (table, tag), answer in self.each("explain"):
+            name = layout.TABLE_NAMES[int(table) - 1]
+            with self.assertRaises(Refused) as raised:
+                Corpus(path).explain(name, tag)
+            status, out, _ = run("explain-tag", "--json", path, name, tag)
+            told = raised.exception.refusal.number, status, json.loads(out)
+            self.assertEqual(told, (answer[0], 1, {"refusal": answer[0]}))

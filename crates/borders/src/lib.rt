@@ -4,6 +4,8 @@ ghost use mathlib.Core.Path.{_≡_};
 ghost use Rattle.survey.specs.Promise.{outcome, indexed};
 ghost use Rattle.opening.specs.Promise as flat;
 ghost use Rattle.writing.specs.Promise as tidy;
+ghost use Rattle.explaining.specs.Promise.{placeOutcome};
+use explaining::Explained;
 use survey::Surveyed;
 use writing::Written;
 
@@ -164,4 +166,47 @@ pub fn write_across(
         length,
     };
     Writings { first, second }
+}
+
+// The answers of two explainings.
+pub struct Explanations {
+    pub first: Explained,
+    pub second: Explained,
+}
+
+pub fn explain_across(
+    file: &[u8],
+    list: &[u8],
+    table: u32,
+    tag: &[u8],
+    tables: &mut [u32],
+    seen: &mut [u8],
+    tables2: &mut [u32],
+    seen2: &mut [u8],
+) -> Explanations
+    ensures { λ r. ⌜ (now (tables .entry) ≡ now (tables2 .entry) → now (seen .entry) ≡ now (seen2 .entry)
+        → placeOutcome (r .first) (now (tables .exit)) (now (seen .exit)) ≡ placeOutcome (r .second) (now (tables2 .exit)) (now (seen2 .exit))) ⌝ }
+{
+    let first = explaining::explain_place(file, list, table, tag, tables, seen);
+    let mut of = 0u32;
+    let mut start = 0u32;
+    let mut len = 0u32;
+    let refusal = hraunlik::hraunlik_explain(
+        file,
+        list,
+        table,
+        tag,
+        tables2,
+        seen2,
+        &mut of,
+        &mut start,
+        &mut len,
+    );
+    let second = Explained {
+        refusal,
+        of,
+        start,
+        len,
+    };
+    Explanations { first, second }
 }

@@ -25,7 +25,7 @@ pub fn tag_limit(table: usize) -> usize
     }
 }
 
-fn is_unknown(tag: &[u8]) -> bool
+pub fn is_unknown(tag: &[u8]) -> bool
     ensures { λ r. ⌜ r ≡ same (now (tag .entry)) unknown ⌝ }
 {
     if tag.len() != 7 {

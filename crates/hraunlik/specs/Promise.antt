@@ -5,6 +5,7 @@ use mathlib.Core.List.{List}
 use Rattle.rules.specs.Index.{Indexed}
 use Rattle.rules.specs.Survey.{SurveyOutcome}
 use Rattle.writing.specs.Promise.{WrittenFlat}
+use Rattle.explaining.specs.Promise.{Placed}
 
 abbrev pub outcome : ℕ → ℕ → ℕ → ℕ → List ℕ → List ℕ → SurveyOutcome
 outcome refusal place sentences soundEnd tables seen =
@@ -30,3 +31,8 @@ writtenTold refusal place length tables seen sheet edges output =
       edges = edges;
       output = output;
     }
+
+-- after an explaining: the refusal, the three numbers lent, the two buffers
+abbrev pub explainedTold : ℕ → ℕ → ℕ → ℕ → List ℕ → List ℕ → Placed
+explainedTold refusal of start length tables seen =
+    record { answer = record { refusal = refusal; of = of; start = start; len = length }; tables = tables; seen = seen }

@@ -3,8 +3,10 @@ ghost use mathlib.Core.Path.{_≡_};
 ghost use Rattle.rules.specs.Survey.{afterSurvey};
 ghost use Rattle.rules.specs.Index.{afterIndexing};
 ghost use Rattle.opening.specs.Promise as flat;
+ghost use Rattle.rules.specs.Explaining.{afterExplaining};
 ghost use Rattle.writing.specs.Promise.{afterWritingFlat};
-ghost use Rattle.hraunlik.specs.Promise.{outcome, indexed, writtenTold};
+ghost use Rattle.explaining.specs.Promise.{placed};
+ghost use Rattle.hraunlik.specs.Promise.{outcome, indexed, writtenTold, explainedTold};
 
 // Answers with the refusal, 0 if the file is accepted; the other three numbers go where the caller wants them.
 #[no_mangle]
@@ -89,5 +91,28 @@ pub extern "C" fn hraunlik_write(
     let told = writing::write_flat(file, output, tables, seen, sheet, edges);
     *place = told.place;
     *length = told.length;
+    told.refusal
+}
+
+// The description of a tag: which of the two it is a part of (0 neither, 1 the file, 2 the list), where it starts and how long it
+// is go where the caller wants them.
+#[no_mangle]
+pub extern "C" fn hraunlik_explain(
+    file: &[u8],
+    list: &[u8],
+    table: u32,
+    tag: &[u8],
+    tables: &mut [u32],
+    seen: &mut [u8],
+    of: &mut u32,
+    start: &mut u32,
+    length: &mut u32,
+) -> u32
+    ensures { λ r. ⌜ explainedTold r (now (of .exit)) (now (start .exit)) (now (length .exit)) (now (tables .exit)) (now (seen .exit)) ≡ placed (afterExplaining (now (file .entry)) (now (list .entry)) table (now (tag .entry)) (now (tables .entry)) (now (seen .entry))) ⌝ }
+{
+    let told = explaining::explain_place(file, list, table, tag, tables, seen);
+    *of = told.of;
+    *start = told.start;
+    *length = told.len;
     told.refusal
 }

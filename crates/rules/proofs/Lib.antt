@@ -113,6 +113,7 @@ pub mod ByLines
 pub mod TextPlaces
 pub mod LinePlaces
 pub mod LiesThere
+pub mod LiesInside
 pub mod Sizes
 pub mod OpenedExactly
 pub mod WrittenExactly
@@ -146,5 +147,9 @@ pub mod OpenedThere
 pub mod FirstEights
 pub mod BadNodeNumbers
 pub mod BadRowNumbers
+pub mod TagsDiffer
+pub mod ExplainedThere
+pub mod ExplainedExactly
+pub mod ExplainedByHand
 mod WrongReadings
 mod WrongCalls

@@ -44,3 +44,5 @@ pub mod Refusals
 pub mod AsWritten
 pub mod BeginsThere
 pub mod BrokenNumbers
+pub mod Explaining
+pub mod ExplainingRules

@@ -23,13 +23,14 @@ use Rattle.rules.proofs.SentencesKept.{edges-append}
 use Rattle.rules.proofs.ParentsOnSheet.{at-joined, record-wide}
 use Rattle.rules.proofs.Rooms.{behind-at, each-at}
 use Rattle.rules.proofs.SentenceNumbers.{sentence-laid}
+use Rattle.rules.proofs.LiesInside.{lies-inside}
 use Rattle.sentence_sheet.specs.FlatEdges.{edgeWidth, edgesAmong, flatEdges}
 use Rattle.printing.specs.Fields.{FieldInside}
 use Rattle.sentence_text.specs.EdgesRead.{edgeRecordAt, edgesFrom, ownEdges}
 use Rattle.sentence_text.specs.SheetRead.{headingOnSheet, wordsCounted, phrasesCounted, edgesCounted, edgesOnSheet, nodeIn, sentenceIn}
 use Rattle.sentence_text.specs.Readable.{NodeInside, EdgeInside, SheetReadable}
 use Rattle.sentence_text.specs.Printable.{Apart, Printable, Sheeted}
-use Rattle.sentence_text.proofs.TextsInside.{lies-inside, text-back}
+use Rattle.sentence_text.proofs.TextsInside.{text-back}
 use Rattle.sentence_text.proofs.OwnEdges.{recordsOf, recordsAmong, each-own}
 use Rattle.sentence_text.proofs.EdgesReadBack.{edges-read-back, count-records, edge-at, length-flat}
 use Rattle.sentence_text.proofs.NodesReadBack.{node-back, nodes-back}

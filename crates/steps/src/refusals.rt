@@ -48,3 +48,5 @@ pub const ENDS_INSIDE: u32 = 23;
 pub const NOT_HANDED_OUT: u32 = 24;
 
 pub const NO_ROOM: u32 = 25;
+
+pub const UNEXPLAINED: u32 = 26;

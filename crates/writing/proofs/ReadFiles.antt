@@ -28,7 +28,8 @@ use Rattle.writing.specs.TextParts.{formatText, sentencesText, partsText
 use Rattle.writing.specs.Ready.{Entry}
 use Rattle.writing.proofs.SentencesByNumber.{tidy-by-parts}
 use Rattle.writing.proofs.HandedReady.{entries-ready}
-use Rattle.writing.proofs.TablesKnown.{tables-told, tables-back}
+use Rattle.citations.proofs.SurveyedTables.{tables-back}
+use Rattle.writing.proofs.TablesKnown.{tables-told}
 
 -- ---- the parts one behind the other
 

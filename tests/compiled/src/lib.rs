@@ -2,6 +2,7 @@
 //! independent reader.
 
 pub mod beside;
+pub mod explainings;
 pub mod lent;
 pub mod openings;
 pub mod writings;

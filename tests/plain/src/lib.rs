@@ -5,6 +5,7 @@
 //! the tidy text (`tidy`) are made from the model.
 
 mod columns;
+mod descriptions;
 pub mod documents;
 pub mod generate;
 mod lines;
@@ -17,9 +18,10 @@ mod sheets;
 mod tables;
 mod tidy;
 
+use descriptions::description;
 use places::sentence_at;
 use reading::{read, Reading};
-use refusals::{BUFFER_SIZE, FILE_TOO_LONG, NOT_HANDED_OUT, TIDY_TOO_LONG};
+use refusals::{BUFFER_SIZE, FILE_TOO_LONG, NOT_EXPLAINED, NOT_HANDED_OUT, TIDY_TOO_LONG};
 use sentences::Sentence;
 use sheets::{clear_sentence, fill_places, fill_sentence, fill_tables_and_seen};
 
@@ -37,6 +39,13 @@ pub const PLACES: usize = 65_536;
 pub const FILE_LIMIT: usize = 268_435_456;
 /// A tidy text is at most so many bytes longer than its file.
 const TIDY_ROOM: usize = 512;
+
+/// A refused explanation is a part of neither.
+pub const OF_NEITHER: u32 = 0;
+/// A part of the file.
+pub const OF_FILE: u32 = 1;
+/// A part of the list.
+pub const OF_LIST: u32 = 2;
 
 /// A secondary edge in the edge list.
 #[repr(C)]
@@ -62,6 +71,15 @@ pub struct Survey {
 pub struct Written {
     pub refusal: u32,
     pub place: u32,
+    pub length: u32,
+}
+
+/// The answer of an explanation: a part of the file or of the list. An empty part is 0, 0.
+#[derive(Clone, Copy, PartialEq, Eq, Debug)]
+pub struct Explained {
+    pub refusal: u32,
+    pub of: u32,
+    pub start: u32,
     pub length: u32,
 }
 
@@ -207,6 +225,50 @@ pub fn write(
         refusal: 0,
         place,
         length: tidy.len() as u32,
+    }
+}
+
+/// The description of a tag of the table with this place in the order of tables, from 1 to
+/// 7: from the file if it has that table, else from the list. Both are checked whole.
+pub fn explain(
+    file: &[u8],
+    list: &[u8],
+    table: u32,
+    tag: &[u8],
+    table_sheet: &mut [u32],
+    seen: &mut [u8],
+) -> Explained {
+    let sizes_right = table_sheet.len() == TABLE_SHEET && seen.len() == SEEN_SET;
+    for lent in [file, list] {
+        if let Some(refusal) = refusal_before_reading(lent, sizes_right) {
+            return unexplained(refusal);
+        }
+    }
+    table_sheet.fill(0);
+    seen.fill(0);
+    let (file, list) = (read(file), read(list));
+    for reading in [&file, &list] {
+        if reading.refusal != 0 {
+            return unexplained(reading.refusal);
+        }
+    }
+    match description(&file, &list, table, tag) {
+        None => unexplained(NOT_EXPLAINED),
+        Some((of, text)) => Explained {
+            refusal: 0,
+            of,
+            start: text.start,
+            length: text.length,
+        },
+    }
+}
+
+fn unexplained(refusal: u32) -> Explained {
+    Explained {
+        refusal,
+        of: OF_NEITHER,
+        start: 0,
+        length: 0,
     }
 }
 

@@ -25,6 +25,7 @@ pub const PARENT_ABSENT: u32 = 22;
 pub const ENDS_INSIDE: u32 = 23;
 pub const NOT_HANDED_OUT: u32 = 24;
 pub const TIDY_TOO_LONG: u32 = 25;
+pub const NOT_EXPLAINED: u32 = 26;
 
 /// All faults of one line. They may be added in any order: the smallest decides.
 #[derive(Default)]

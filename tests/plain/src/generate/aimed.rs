@@ -137,7 +137,7 @@ fn other_table_name(dice: &mut Dice, draft: &mut Draft) {
 }
 
 /// The lines from the begin of a table to its end.
-fn table_lines(draft: &Draft, begin: usize) -> std::ops::RangeInclusive<usize> {
+pub fn table_lines(draft: &Draft, begin: usize) -> std::ops::RangeInclusive<usize> {
     let is_end = |line: &DraftLine| matches!(line.role, Role::TableEnd(_));
     let length = draft.lines[begin..].iter().position(is_end).unwrap_or(0);
     begin..=begin + length

@@ -1,5 +1,6 @@
 //! Files made by dice: accepted ones that use every freedom of the rules, damaged
-//! ones that meet every refusal, small ones to be cut at every byte, and a corpus.
+//! ones that meet every refusal, small ones to be cut at every byte, pairs of files
+//! with a tag to be explained, and a corpus.
 //!
 //! The same seed always gives the same file.
 
@@ -12,11 +13,13 @@ mod draft_sentences;
 mod draft_tables;
 mod line_damage;
 mod longest;
+mod questions;
 mod texts;
 
 pub use corpus::corpus;
 pub use dice::Dice;
 pub use longest::longest_tidy;
+pub use questions::Question;
 
 use draft::{Draft, Measure};
 
@@ -61,6 +64,12 @@ pub fn small(seed: u64) -> Vec<u8> {
     } else {
         small_damaged(seed)
     }
+}
+
+/// A question about a tag: a file, a list, a table's number and the tag. Mostly both are
+/// accepted, with tag tables or without.
+pub fn explained(seed: u64) -> Question {
+    questions::question(&mut Dice::new(seed ^ 0x0e81_a14e_d000_0000))
 }
 
 fn small_draft(dice: &mut Dice) -> Draft {

@@ -1,0 +1,55 @@
+-- What an explaining leaves where sizes are right and both files are no longer than the limit: nothing of what was lent. From
+-- there: each call has one outcome.
+use Prim.Native.Nat.{ℕ}
+use mathlib.Core.Path.{_≡_, sym, ap, ap₂, _∙_}
+use mathlib.Core.Bool.{Bool, true}
+use mathlib.Core.List.{List}
+use Rattle.rules.specs.Lists.{same}
+use Rattle.rules.specs.Explaining.{ExplainingOutcome, afterExplaining}
+use Rattle.rules.specs.LentBuffers.{SheetsSized, WithinLimit}
+use Rattle.rules.proofs.Same.{eq-same}
+use Rattle.rules.proofs.ExplainedExactly.{explaining-call}
+use Rattle.explaining.specs.Promise.{Placed, placed, Parted, parted, partOutcome}
+
+module _ (file list : List ℕ) (place : ℕ) (tag tables seen tables2 seen2 : List ℕ) where
+  abbrev o : ExplainingOutcome
+  o = afterExplaining file list place tag tables seen
+
+  abbrev o2 : ExplainingOutcome
+  o2 = afterExplaining file list place tag tables2 seen2
+
+  same-lent : tables ≡ tables2 → seen ≡ seen2 → o ≡ o2
+  same-lent t s = ap₂ (afterExplaining file list place tag) t s
+
+  never-shows : WithinLimit file → WithinLimit list → SheetsSized tables seen → SheetsSized tables2 seen2 → o ≡ o2
+  never-shows w v k l =
+      explaining-call file list place tag tables seen .told k w v ∙ sym (explaining-call file list place tag tables2 seen2 .told l w v)
+
+  -- by place and length
+  module _ (left left2 : Placed) (p : left ≡ placed o) (q : left2 ≡ placed o2) where
+    pub placed-only : tables ≡ tables2 → seen ≡ seen2 → left ≡ left2
+    placed-only t s = p ∙ ap placed (same-lent t s) ∙ sym q
+
+    pub placed-fresh : WithinLimit file → WithinLimit list → SheetsSized tables seen → SheetsSized tables2 seen2 → left ≡ left2
+    placed-fresh w v k l = p ∙ ap placed (never-shows w v k l) ∙ sym q
+
+  -- as parts: whether they have the same bytes, and what else is left
+  module _ (refusal : ℕ) (bytes tables′ seen′ : List ℕ) (refusal2 : ℕ) (bytes2 tables2′ seen2′ : List ℕ) (r : Bool) (compared : r ≡ same bytes bytes2)
+      (p : partOutcome refusal bytes tables′ seen′ ≡ parted o) (q : partOutcome refusal2 bytes2 tables2′ seen2′ ≡ parted o2) where
+    abbrev Alike : Type 0
+    Alike = (r ≡ true) × (refusal ≡ refusal2) × (tables′ ≡ tables2′) × (seen′ ≡ seen2′)
+
+    alike : o ≡ o2 → Alike
+    alike e =
+        let z : partOutcome refusal bytes tables′ seen′ ≡ partOutcome refusal2 bytes2 tables2′ seen2′ = p ∙ ap parted e ∙ sym q in (
+          compared ∙ eq-same bytes bytes2 (ap (λ (x : Parted). x .bytes) z),
+          ap (λ (x : Parted). x .refusal) z,
+          ap (λ (x : Parted). x .tables) z,
+          ap (λ (x : Parted). x .seen) z,
+        )
+
+    pub part-only : tables ≡ tables2 → seen ≡ seen2 → Alike
+    part-only t s = alike (same-lent t s)
+
+    pub part-fresh : WithinLimit file → WithinLimit list → SheetsSized tables seen → SheetsSized tables2 seen2 → Alike
+    part-fresh w v k l = alike (never-shows w v k l)
