@@ -6,7 +6,7 @@ use std::sync::OnceLock;
 pub type Tag = fn(row: usize, longest: usize) -> String;
 
 /// What the tags of a table of 256 rows have in common.
-pub const TAGS: [(&str, Tag); 8] = [
+pub const TAGS: [(&str, Tag); 10] = [
     ("numbered tags", numbered),
     ("tags of two bytes", shortest),
     ("tags alike to the hints", alike_to_the_hints),
@@ -15,6 +15,11 @@ pub const TAGS: [(&str, Tag); 8] = [
     ("tags unlike in the last two bytes", unlike_at_the_end),
     ("tags that are anagrams", anagrams),
     ("anagrams with the same ends", anagrams_inside),
+    (
+        "tags of one outline, unlike at the end",
+        outlined_at_the_end,
+    ),
+    ("tags of one outline, unlike inside", outlined_inside),
 ];
 
 pub fn numbered(row: usize, _: usize) -> String {
@@ -79,6 +84,41 @@ fn anagrams(row: usize, longest: usize) -> String {
 /// Anagrams whose first two and last two bytes are the same too.
 fn anagrams_inside(row: usize, longest: usize) -> String {
     centred(&permuted("ABCDEF", row * 2), longest)
+}
+
+/// Tags that begin alike and have the first of the 1,024 outlines of `table_sheet::outlines`, so
+/// that a new row's tag is compared with those of all rows before it.
+fn outlined_at_the_end(row: usize, longest: usize) -> String {
+    static FOUND: [OnceLock<Vec<String>>; 2] = [OnceLock::new(), OnceLock::new()];
+    let found = &FOUND[usize::from(longest > 10)];
+    found.get_or_init(|| found_outlined(longest, longest - 3))[row - 1].clone()
+}
+
+/// The same, but that they end alike too.
+fn outlined_inside(row: usize, longest: usize) -> String {
+    static FOUND: [OnceLock<Vec<String>>; 2] = [OnceLock::new(), OnceLock::new()];
+    let found = &FOUND[usize::from(longest > 10)];
+    found.get_or_init(|| found_outlined(longest, longest / 2 - 1))[row - 1].clone()
+}
+
+/// Found by trying: one of some 1,024 has that outline.
+fn found_outlined(longest: usize, place: usize) -> Vec<String> {
+    let tags = (0..).map(|rank| in_three(rank, longest, place));
+    let alike = tags.filter(|tag| outline(tag.as_bytes()) == 0);
+    alike.take(256).collect()
+}
+
+fn outline(tag: &[u8]) -> usize {
+    let more = |outline, &byte: &u8| (37 * outline + usize::from(byte)) % 1_024;
+    tag.iter().fold(0, more)
+}
+
+/// A rank in three bytes at a place, each one of eighty; all others are alike.
+fn in_three(rank: usize, length: usize, place: usize) -> String {
+    let byte = |digit: usize| char::from(b'(' + (digit % 80) as u8);
+    let three: String = [rank / 6_400, rank / 80, rank].map(byte).iter().collect();
+    let (before, behind) = ("T".repeat(place), "T".repeat(length - place - 3));
+    format!("{before}{three}{behind}")
 }
 
 /// As many bytes as a tag may have, all alike but two at a place, which tell the row.

@@ -61,12 +61,15 @@ pub fn is_known(
     table_sheet::is_row(found)
 }
 
-// Told by the first byte as a rule: whether a tag has two bytes is harder to guess.
+// Told by the last of two bytes as a rule: whether a tag has just two is harder to guess.
 fn is_dashes(file: &[u8], start: usize, len: usize) -> bool
     requires { ⌜ (start < length (now file)) × (start + len ≤ length (now file)) ⌝ }
     ensures { λ r. ⌜ (r ≡ true → same (take len (drop start (now (file .entry)))) dashes ≡ true) ⌝ }
 {
-    if file[start] != b'-' {
+    if len < 2 {
+        return false;
+    }
+    if file[start + 1] != b'-' {
         return false;
     }
     columns::is_twice(&file[start..start + len], b'-')

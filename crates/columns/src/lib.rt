@@ -44,10 +44,10 @@ pub fn is_twice(text: &[u8], b: u8) -> bool
     if text.len() != 2 {
         return false;
     }
-    if text[0] != b {
+    if text[1] != b {
         return false;
     }
-    text[1] == b
+    text[0] == b
 }
 
 pub struct Cursor {

@@ -127,18 +127,18 @@ module _ (number : List ℕ → ℕ → ℕ) (a b : List ℕ) where
   numbers-differ i d = sym (ne-same a b (λ e. d (ap (λ (l : List ℕ). number l i) e)))
 
   module _ (m : ℕ) (alike : (i j : ℕ) → number a i ≡ number b j → Alike a b i j m) where
-    pub numbers-tell : m ≤ length a → length a ≤ m + m → length a ≡ length b → number a 0 ≡ number b 0
-        → eqb (number a (length a - m)) (number b (length a - m)) ≡ same a b
-    numbers-tell long short same-long front = by (eqb (number a (length a - m)) (number b (length a - m))) refl
+    pub numbers-tell : m ≤ length a → length a ≤ m + m → length a ≡ length b → number a (length a - m) ≡ number b (length a - m)
+        → eqb (number a 0) (number b 0) ≡ same a b
+    numbers-tell long short same-long back = by (eqb (number a 0) (number b 0)) refl
       where
-        whole : number a (length a - m) ≡ number b (length a - m) → Alike a b 0 0 (length a)
-        whole back =
+        whole : number a 0 ≡ number b 0 → Alike a b 0 0 (length a)
+        whole front =
             let behind : 0 + (length a - m) ≡ length a - m = omega arith in
             alike-joined a b 0 0 m (length a) long short (alike 0 0 front)
             (rw behind (alike (length a - m) (length a - m) back))
 
-        by : (t : Bool) → eqb (number a (length a - m)) (number b (length a - m)) ≡ t → t ≡ same a b
+        by : (t : Bool) → eqb (number a 0) (number b 0) ≡ t → t ≡ same a b
         by true e =
             sym (eq-same a b
             (ext-getD 0 a b same-long (λ i h. rw zero-add at (whole (eqb-true _ _ e) i h))))
-        by false e = numbers-differ (length a - m) (eqb-false _ _ e)
+        by false e = numbers-differ 0 (eqb-false _ _ e)

@@ -11,7 +11,7 @@ ghost use Rattle.rules.specs.Numbers.{fileLimit};
 ghost use Rattle.columns.specs.Listing.{spanOf};
 use columns::listing::Span;
 
-// Byte by byte.
+// Byte by byte, from the first.
 fn same_bytes(a: &[u8], b: &[u8]) -> bool
     requires { ⌜ length (now a) ≡ length (now b) ⌝ }
     ensures { λ r. ⌜ r ≡ same (now (a .entry)) (now (b .entry)) ⌝ }
@@ -26,7 +26,23 @@ fn same_bytes(a: &[u8], b: &[u8]) -> bool
     true
 }
 
-// Tags are compared most often, and have 4 to 16 bytes or fewer.
+// Fewer than four bytes: the last one first.
+fn same_few(a: &[u8], b: &[u8]) -> bool
+    requires { ⌜ length (now a) ≡ length (now b) ⌝ }
+    ensures { λ r. ⌜ r ≡ same (now (a .entry)) (now (b .entry)) ⌝ }
+{
+    let n = a.len();
+    if n == 0 {
+        return true;
+    }
+    if a[n - 1] != b[n - 1] {
+        return false;
+    }
+    same_bytes(a, b)
+}
+
+// The lengths are compared first, then what holds the last byte, then the rest. Tags are compared most often, and have 4 to 16
+// bytes or fewer.
 pub fn same_text(a: &[u8], b: &[u8]) -> bool
     ensures { λ r. ⌜ r ≡ same (now (a .entry)) (now (b .entry)) ⌝ }
 {
@@ -35,7 +51,7 @@ pub fn same_text(a: &[u8], b: &[u8]) -> bool
         return false;
     }
     if n < 4 {
-        return same_bytes(a, b);
+        return same_few(a, b);
     }
     if n <= 8 {
         return words::same_fours(a, b);

@@ -1,4 +1,4 @@
-// Four or eight bytes as one number each: two texts are compared at their front and at their back.
+// Four or eight bytes as one number each: two texts are compared at their back, which holds their last byte, and at their front.
 ghost use mathlib.Core.Path.{_≡_};
 ghost use mathlib.Core.Bool.{true, false};
 ghost use Prim.Native.Nat.{_+_, _≤_, _<_};
@@ -56,11 +56,11 @@ pub fn same_fours(a: &[u8], b: &[u8]) -> bool
     requires { ⌜ (4 ≤ length (now a)) × (length (now a) ≤ 8) × (length (now a) ≡ length (now b)) ⌝ }
     ensures { λ r. ⌜ r ≡ same (now (a .entry)) (now (b .entry)) ⌝ }
 {
-    if four_at(a, 0) != four_at(b, 0) {
+    let back = a.len() - 4;
+    if four_at(a, back) != four_at(b, back) {
         return false;
     }
-    let back = a.len() - 4;
-    four_at(a, back) == four_at(b, back)
+    four_at(a, 0) == four_at(b, 0)
 }
 
 // Texts of 8 to 16 bytes.
@@ -68,11 +68,11 @@ pub fn same_eights(a: &[u8], b: &[u8]) -> bool
     requires { ⌜ (8 ≤ length (now a)) × (length (now a) ≤ 16) × (length (now a) ≡ length (now b)) ⌝ }
     ensures { λ r. ⌜ r ≡ same (now (a .entry)) (now (b .entry)) ⌝ }
 {
-    if eight_at(a, 0) != eight_at(b, 0) {
+    let back = a.len() - 8;
+    if eight_at(a, back) != eight_at(b, back) {
         return false;
     }
-    let back = a.len() - 8;
-    eight_at(a, back) == eight_at(b, back)
+    eight_at(a, 0) == eight_at(b, 0)
 }
 
 // Eight bytes that aren't the same.
@@ -114,8 +114,8 @@ pub fn same_places(text: &[u8], a: usize, b: usize, len: usize) -> bool
     requires { ⌜ (8 ≤ len) × (len ≤ 16) × (a + len ≤ length (now text)) × (b + len ≤ length (now text)) ⌝ }
     ensures { λ r. ⌜ (r ≡ true → take len (drop a (now (text .entry))) ≡ take len (drop b (now (text .entry)))) ⌝ }
 {
-    if eight_at(text, a) != eight_at(text, b) {
+    if eight_at(text, a + len - 8) != eight_at(text, b + len - 8) {
         return false;
     }
-    eight_at(text, a + len - 8) == eight_at(text, b + len - 8)
+    eight_at(text, a) == eight_at(text, b)
 }

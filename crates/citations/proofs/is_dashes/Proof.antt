@@ -14,8 +14,11 @@ returns : tie.Need-returns
 returns c e = absurd (false≢true e)
 
 returns-2 : tie.Need-returns-2
-returns-2 c e =
-    let a = c .before .before .before .before .before .args in
+returns-2 c e = absurd (false≢true e)
+
+returns-3 : tie.Need-returns-3
+returns-3 c e =
+    let a = c .before .before .before .before .before .before .args in
     ap (λ (n : ℕ). same (take n (drop (a .start) (a .file .now))) dashes) (sym (add-sub-cancel-left (a .start) (a .len)))
     ∙ sym (c .is-twice .ensures)
     ∙ e
@@ -24,11 +27,13 @@ pub is-dashes-spec : {M : Type 1} → statement M
 is-dashes-spec =
     tie.close
     (tie.spec
-    (λ c. search needs)
     returns
+    (λ c. search needs)
+    (λ c. search needs)
+    returns-2
     (λ c. search needs)
     (λ c. search needs)
     (λ c. search needs)
     (λ c. search needs)
     (λ c κs. search needs)
-    returns-2)
+    returns-3)
