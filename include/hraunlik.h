@@ -47,7 +47,8 @@ enum { HRAUNLIK_NUMBER = 0, HRAUNLIK_EDITOR = 1, HRAUNLIK_DATE = 2, HRAUNLIK_ORI
  * size. What it held doesn't matter; it overlaps nothing else lent. Handed out are the sentences
  * that end in front of a fault: seen has their numbers, *sentences how many, *sound_end where the
  * last ends, or 0. tables has the tables that end there; *place is where the line at fault begins,
- * or the file's length. A survey checks a file: 0 if it is accepted, else 1 to 23. */
+ * for 8, 10, 15, 18 and 19 its column at fault, or the file's length. A survey checks a file: 0 if
+ * it is accepted, else 1 to 23. */
 uint32_t hraunlik_survey(const uint8_t *file, size_t, uint32_t *tables, size_t, uint8_t *seen,
     size_t, uint32_t *place, uint32_t *sentences, uint32_t *sound_end);
 /* A survey; places[n] is 1 + the place where sentence n begins if it is handed out, else 0. */

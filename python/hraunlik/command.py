@@ -15,14 +15,20 @@ from .corpus import Corpus
 from .files import STANDARD_INPUT, Progress, Unusable, aligned, corpus_of, found, keep_apart, prepare, steady_streams, write_out
 from .gallery import entry_of
 from .library import LibraryMissing
-from .refusals import RULES, NoSuchSentence, Refused, Unexplained, shown
-from .told import answer_of, counted, example_dictionary, example_lines, node_row, rescued, sentence_dictionary, survey_line
+from .refusals import RULES, NoSuchSentence, Refusal, Refused, Unexplained
+from .showing import shown
+from .told import answer_of, counted, example_dictionary, example_lines, mark_lines, node_row, rescued
+from .told import sentence_dictionary, survey_line
 
 ACCEPTED, REFUSED, UNUSABLE = 0, 1, 2
 
 
 def say(text: str) -> None:
     print(f"hraunlik: {text}", file=sys.stderr)
+
+
+def say_why(what: str, refusal: Refusal) -> None:
+    say(f"{shown(what)}: {refusal.told(sys.stderr.encoding)}")
 
 
 def put_json(value: Any) -> None:
@@ -56,7 +62,7 @@ def run_survey(options: argparse.Namespace) -> int:
         answers.append(answer)
         progress.end()
         if not options.json:
-            print(survey_line(answer))
+            print(survey_line(answer), *mark_lines(answer), sep="\n")
         progress(f"{len(answers):,} of {len(names):,} files")
     progress.end()
     summary = {
@@ -79,13 +85,13 @@ def warn(corpus: Corpus, name: str) -> int:
     refusal = corpus.survey().refusal
     if refusal is None:
         return ACCEPTED
-    say(f"{shown(name)}: {refusal}")
+    say_why(name, refusal)
     return REFUSED
 
 
 def tell_refused(options: argparse.Namespace, asked: str, refused: Refused) -> int:
     """The status of a question that has no answer."""
-    say(f"{asked}: {refused}")
+    say_why(asked, refused.refusal)
     if options.json:
         put_json({"refusal": refused.refusal.number})
     return REFUSED
@@ -97,7 +103,7 @@ def run_open(options: argparse.Namespace) -> int:
     try:
         told = sentence_dictionary(corpus.open(options.number))
     except NoSuchSentence as refused:
-        return tell_refused(options, f"{shown(options.file)}: sentence {options.number}", refused)
+        return tell_refused(options, f"{options.file}: sentence {options.number}", refused)
     if options.json:
         put_json(told)
         return status
@@ -126,7 +132,7 @@ def run_tidy(options: argparse.Namespace) -> int:
     try:
         text: Optional[bytes] = corpus.tidy()
     except Refused as refused:
-        say(f"{shown(options.file)}: {refused}")
+        say_why(options.file, refused.refusal)
         text = None
     if options.json:
         put_json({**answer_of(corpus), "length": len(text or b"")})
@@ -145,10 +151,9 @@ def run_rescue(options: argparse.Namespace) -> int:
         put_json(report)
     if report["kept_bytes"] and (options.output or not options.json):
         write_out(corpus.chunks(0, report["kept_bytes"]), options.output)
-    if report["refusal"] == 0:
+    if warn(corpus, options.file) == ACCEPTED:
         say(f"{shown(options.file)} is whole: {counted(report['sentences'], 'sentence')}, nothing lost")
         return ACCEPTED
-    say(f"{shown(options.file)}: {corpus.survey().refusal}")
     if report["kept_bytes"] == 0:
         say("kept: nothing, no sentence is whole; nothing was written")
     else:
@@ -213,8 +218,8 @@ def run_explain_tag(options: argparse.Namespace) -> int:
 def at_fault(options: argparse.Namespace, corpus: Corpus, refused: Refused) -> str:
     """What a refused explaining speaks of: the file, the list, or the tag."""
     if isinstance(refused, Unexplained):
-        return shown(f"{options.file}: {options.table} {options.tag}")
-    return shown(options.file if refused.refusal is corpus.survey().refusal else options.list)
+        return f"{options.file}: {options.table} {options.tag}"
+    return options.file if refused.refusal is corpus.survey().refusal else options.list
 
 
 def parser() -> argparse.ArgumentParser:
@@ -227,7 +232,7 @@ def parser() -> argparse.ArgumentParser:
         made.set_defaults(run=run)
         return made
 
-    survey = command("survey", run_survey, "is each file accepted? one line a file, and a summary")
+    survey = command("survey", run_survey, "is each file accepted? a line for each, a mark under a column at fault, and a summary")
     survey.add_argument("files", nargs="+", metavar="FILE", help="- for standard input")
     survey.add_argument("-r", "--recursive", action="store_true", help="all files in directories")
     survey.add_argument("-j", "--processes", type=positive, default=1, metavar="N", help="so many files at once")

@@ -11,6 +11,7 @@ from dataclasses import dataclass
 from typing import BinaryIO, Dict, Iterator, List, NamedTuple, Optional, Union
 
 from . import layout, library
+from .pointing import column_at_fault, line_around
 from .refusals import NoSuchSentence, Refusal, Refused, Unexplained
 from .sentence import Sentence
 
@@ -24,7 +25,7 @@ class Survey:
     """The answer to a file."""
 
     refusal: Optional[Refusal]  #: None if the file is accepted
-    place: int  #: first byte of the faulty line; the file's length if it is accepted
+    place: int  #: first byte of the faulty line, or of its column at fault; the file's length if it is accepted
     line: Optional[int]  #: number of the faulty line, from 1
     sentences: int  #: how many were handed out
     sound_end: int  #: the end of the last of them, or 0
@@ -37,6 +38,11 @@ class Survey:
     def number(self) -> int:
         """The refusal's number, 0 if the file is accepted."""
         return self.refusal.number if self.refusal else 0
+
+    @property
+    def column(self) -> Optional[int]:
+        """The column at fault, from 1; None if the file is accepted, or the refusal points at none."""
+        return self.refusal.column if self.refusal else None
 
 
 class Row(NamedTuple):
@@ -65,6 +71,12 @@ class Corpus:
     Traceback (most recent call last):
     hraunlik.refusals.Refused: refusal 23, at the end, behind line 10: the file ends inside a table or a sentence
       Get a whole copy, or keep the part up to the sound end (rescue). Don't add the #EOS by hand: nobody knows which phrases are lost.
+
+    Where a column is at fault, the refusal points at it:
+
+    >>> refusal = Corpus("examples/gallery/19.export").survey().refusal
+    >>> refusal.line, refusal.text, refusal.column, refusal.column_text
+    (8, 'Ja ITJ -- SB 0', 5, '0')
 
     A mapped file must not be changed while the corpus is in use (one cut shorter ends the program): of a file
     that others save into, give the bytes. A corpus is for one thread at a time; make one for each.
@@ -246,8 +258,9 @@ class Corpus:
             return Refusal(number, place)
         if place == self._length:
             return Refusal(number, place, self.line_at(place))
-        longest = self._data[place : min(place + 4096, self._length)]
-        return Refusal(number, place, self.line_at(place), longest.split(b"\n", 1)[0].decode("latin-1"))
+        line = line_around(self._data, place, self._length)
+        column = column_at_fault(number, self._data, line, place)
+        return Refusal(number, place, self.line_at(place), line.text, *(column or ()))
 
     def _bytes_at(self, start: int, length: int) -> bytes:
         return self._data[start : start + length]

@@ -2,8 +2,10 @@
 
 from __future__ import annotations
 
-from dataclasses import dataclass
-from typing import NamedTuple, Optional
+from dataclasses import dataclass, field
+from typing import List, NamedTuple, Optional
+
+from .showing import marked, quoted, shown
 
 
 class Rule(NamedTuple):
@@ -45,15 +47,6 @@ RULES: dict[int, Rule] = {
 }
 
 
-def shown(text: str) -> str:
-    """A text as it can be printed: control bytes are written out.
-
-    >>> shown("Ja\\r")
-    'Ja\\\\x0d'
-    """
-    return "".join(f"\\x{ord(c):02x}" if ord(c) < 32 or 127 <= ord(c) < 160 else c for c in text)
-
-
 @dataclass(frozen=True)
 class Refusal:
     """Why a file was refused, and where.
@@ -62,12 +55,23 @@ class Refusal:
     refusal 22, line 9: a node of the sentence names a parent that isn't there
       "#EOS 1"
       Look above this line for a parent beyond the highest phrase; bring that phrase back, or correct the parent.
+
+    8, 10, 15, 18 and 19 point at a column:
+
+    >>> print(Refusal(18, 106, 10, "Ja ITJ -- -- 0", 2, "ITJ", 3))
+    refusal 18, line 10, column 2 "ITJ": a tag isn't in its table
+      "Ja ITJ -- -- 0"
+          ^^^
+      Correct the tag, or add a row to the table.
     """
 
     number: int
-    place: int  #: the first byte of the faulty line, or the file's length
+    place: int  #: the first byte of the faulty line, or of the column at fault; or the file's length
     line: Optional[int] = None  #: counted from 1; None where the number speaks of no line
     text: Optional[str] = None  #: the faulty line; None if only the file's end shows the fault
+    column: Optional[int] = None  #: the column at fault, counted from 1; None where the number points at none
+    column_text: Optional[str] = None  #: its text; of a text that runs to the line's end, the whole
+    column_start: Optional[int] = field(default=None, repr=False)  #: where it begins in `text`, counted from 0
 
     @property
     def meaning(self) -> str:
@@ -81,9 +85,11 @@ class Refusal:
     def where(self) -> str:
         if self.line is None:
             return ""
-        if self.text is not None:
+        if self.text is None:
+            return f"at the end, behind line {self.line - 1}" if self.line > 1 else "an empty file"
+        if self.column_text is None:
             return f"line {self.line}"
-        return f"at the end, behind line {self.line - 1}" if self.line > 1 else "an empty file"
+        return f"line {self.line}, column {self.column} {quoted(self.column_text)}"
 
     @property
     def brief(self) -> str:
@@ -91,12 +97,26 @@ class Refusal:
         where = f", {self.where}" if self.where else ""
         return f"refusal {self.number}{where}: {self.meaning}"
 
+    def shown_line(self, encoding: str = "utf-8") -> List[str]:
+        """The faulty line as it is shown, and a mark under the column if there is one; nothing if there is no line.
+
+        In an encoding that lacks letters they are written out, and the mark stands under its column all the same.
+
+        >>> Refusal(18, 106, 10, "Ja ITJ -- -- 0", 2, "ITJ", 3).shown_line()
+        ['"Ja ITJ -- -- 0"', '    ^^^']
+        """
+        if self.text is None:
+            return []
+        if self.column_text is None or self.column_start is None:
+            return [f'"{shown(self.text)}"']
+        return marked(self.text, self.column_start, len(self.column_text), encoding)
+
+    def told(self, encoding: str = "utf-8") -> str:
+        """All that is said of it, for a stream with this encoding."""
+        return "\n  ".join([self.brief, *self.shown_line(encoding), self.cure])
+
     def __str__(self) -> str:
-        lines = [self.brief]
-        if self.text is not None:
-            lines.append(f'  "{shown(self.text)}"')
-        lines.append(f"  {self.cure}")
-        return "\n".join(lines)
+        return self.told()
 
 
 class Refused(Exception):

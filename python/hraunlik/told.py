@@ -4,11 +4,13 @@ from __future__ import annotations
 
 import os
 import sys
-from typing import Any, Dict, List
+from typing import Any, Dict, List, Optional
 
 from .corpus import Corpus
 from .gallery import Entry
-from .refusals import shown
+from .pointing import POINTING, column_at_fault, line_around
+from .refusals import Refusal
+from .showing import mark_under, marked, shown, written_out
 from .sentence import Node, Sentence, Word
 
 RED, GREEN = "31", "32"
@@ -28,25 +30,36 @@ def answer_of(corpus: Corpus) -> Dict[str, Any]:
     survey = corpus.survey()
     refusal = survey.refusal
     answer: Dict[str, Any] = {
-        "refusal": survey.number, "place": survey.place, "line": survey.line,
+        "refusal": survey.number, "place": survey.place, "line": survey.line, "column": survey.column,
         "sentences": survey.sentences, "sound_end": survey.sound_end, "bytes": corpus.size,
     }  # fmt: skip
     if refusal:
-        answer.update(meaning=refusal.meaning, text=refusal.text, cure=refusal.cure, brief=refusal.brief)
+        names = ("meaning", "text", "column_text", "column_start", "cure", "brief")
+        answer.update({name: getattr(refusal, name) for name in names})
     return answer
 
 
 def survey_line(answer: Dict[str, Any]) -> str:
+    """What is printed of a file, where no column is at fault all of it."""
     name = shown(answer["file"])
     if "error" in answer:
         return f"{name}: {coloured(shown(answer['error']), RED)}"
     kept = counted(answer["sentences"], "sentence")
     if answer["refusal"] == 0:
         return f"{name}: {coloured('accepted', GREEN)}, {kept}"
-    text = "" if answer["text"] is None else f' "{shown(answer["text"][:60])}"'
+    told_below = answer["text"] is None or answer["column"] is not None
+    text = "" if told_below else f' "{shown(answer["text"][:60])}"'
     number = f"refusal {answer['refusal']}"
     brief = coloured(number, RED) + answer["brief"][len(number) :]
     return f"{name}: {brief}{text}; {kept} whole, sound up to byte {answer['sound_end']}"
+
+
+def mark_lines(answer: Dict[str, Any]) -> List[str]:
+    """What is printed below: the faulty line and a mark under the column at fault, if there is one."""
+    if answer.get("column") is None:
+        return []
+    lines = marked(answer["text"], answer["column_start"], len(answer["column_text"]), sys.stdout.encoding)
+    return [f"  {line}" for line in lines]
 
 
 def node_dictionary(node: Node) -> Dict[str, Any]:
@@ -85,7 +98,9 @@ def rescued(corpus: Corpus) -> Dict[str, Any]:
 
 
 def example_dictionary(entry: Entry) -> Dict[str, Any]:
-    return {"example": entry.file if entry.text is None else entry.text, "call": entry.call, "why": entry.why}
+    told = {"example": entry.file if entry.text is None else entry.text, "call": entry.call, "why": entry.why}
+    fault = example_fault(entry)
+    return told if fault is None else {**told, "line": fault.line, "column": fault.column, "column_text": fault.column_text}
 
 
 def example_lines(entry: Entry) -> List[str]:
@@ -94,6 +109,8 @@ def example_lines(entry: Entry) -> List[str]:
     >>> from hraunlik.gallery import entry_of
     >>> example_lines(entry_of(7))
     ['For example examples/gallery/07.export:', '', '    #FORMAT']
+    >>> example_lines(entry_of(8))
+    ['For example examples/gallery/08.export, line 1, column 2 "three":', '', '    #FORMAT three', '            ^^^^^']
     >>> example_lines(entry_of(24))[:4]
     ['For example examples/gallery/24.export, open 1:', '', '    #FORMAT 3', '    #BOT ORIGIN']
     >>> example_lines(entry_of(2))
@@ -106,6 +123,21 @@ def example_lines(entry: Entry) -> List[str]:
         lines.pop()
     if len(lines) > 14:
         lines[9:] = [f".. ({len(lines)} lines)"]
+    printed = ["".join(written_out(line[:72])) for line in lines or ["(an empty file)"]]
     call, why = ("", []) if entry.call == "survey" else (f", {entry.call}", ["", entry.why])
-    heading = f"For example examples/gallery/{entry.file}{call}:"
-    return [heading, "", *(f"    {shown(line[:72])}" for line in lines or ["(an empty file)"]), *why]
+    fault = example_fault(entry)
+    if fault is not None:
+        call = f", {fault.where}"
+        printed.append(mark_under(written_out(lines[-1]), fault.column_start, len(fault.column_text)))
+    return [f"For example examples/gallery/{entry.file}{call}:", "", *(f"    {line}" for line in printed), *why]
+
+
+def example_fault(entry: Entry) -> Optional[Refusal]:
+    """Why the file of an entry is refused, if a column is at fault; its line is then the file's last."""
+    if entry.text is None or entry.answer[0] not in POINTING:
+        return None
+    number, place = entry.answer[:2]
+    data = entry.text.encode("latin-1")
+    line = line_around(data, place, len(data))
+    column = column_at_fault(number, data, line, place)
+    return Refusal(number, place, 1 + data.count(b"\n", 0, place), line.text, *column)

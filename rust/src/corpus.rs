@@ -8,7 +8,8 @@ use crate::{calls, tables, Row, Sentence, Table};
 pub struct Survey {
     /// 0 if the file is accepted, else a number that `docs/REFUSALS.md` explains.
     pub refusal: u32,
-    /// Where the line at fault begins; the file's length if it is accepted, or if its end is at fault.
+    /// Where the line at fault begins, or for 8, 10, 15, 18 and 19 its column at fault; the file's
+    /// length if it is accepted, or if its end is at fault.
     pub place: u32,
     /// How many sentences are handed out: all that end in front of the fault.
     pub sentences: u32,
@@ -37,6 +38,8 @@ impl<'f> Corpus<'f> {
     /// ```
     /// let corpus = hraunlik::Corpus::new(b"#FORMAT 4\n");
     /// assert_eq!((corpus.survey().refusal, corpus.survey().place), (9, 0));
+    /// let corpus = hraunlik::Corpus::new(b"#FORMAT three\n");
+    /// assert_eq!((corpus.survey().refusal, corpus.survey().place), (8, 8));
     /// ```
     pub fn new(file: &'f [u8]) -> Corpus<'f> {
         let (mut tables, mut seen) = (vec![0; TABLES], vec![0; SEEN]);

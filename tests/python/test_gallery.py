@@ -9,6 +9,7 @@ from cases import GALLERY, ROOT, gallery, numbers
 from commanding import InARoom, run
 from hraunlik import Corpus, NoSuchSentence, Refused, layout
 from hraunlik.gallery import calls, surveys
+from hraunlik.pointing import POINTING
 
 
 def shorter(path):
@@ -49,7 +50,7 @@ class Lists(unittest.TestCase):
                 self.assertFalse(any(Corpus(less).survey().accepted for less in shorter(path)))
 
     def test_page(self):
-        """docs/REFUSALS.md tells the answer of each number's entry, and every call for it."""
+        """docs/REFUSALS.md tells the answer of each number's entry, every call for it, and how a column is shown."""
         page = (ROOT / "docs" / "REFUSALS.md").read_text()
         parts = dict(re.findall(r"^\*\*(\d+)\. (.*?)(?=^\*\*\d|^## |\Z)", page, re.MULTILINE | re.DOTALL))
         for entry in [*surveys(), *calls()]:
@@ -58,6 +59,10 @@ class Lists(unittest.TestCase):
                 self.assertIn(f"`{' '.join(map(str, entry.answer))}`", part)
                 if entry.call != "survey":
                     self.assertIn(f"`{entry.call}`", part)
+                elif entry.answer[0] in POINTING:
+                    refusal = Corpus(GALLERY / entry.file).survey().refusal
+                    self.assertIn(f": {refusal.where}.\n", part)
+                    self.assertIn("\n  ".join(["```", *refusal.shown_line()]) + "\n```\n", part)
 
 
 class Calls(InARoom):

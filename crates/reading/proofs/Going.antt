@@ -153,10 +153,13 @@ module _ (file : List ℕ) (from size at : ℕ) (k : Kept) (g : Going file from 
       state-is : stateAfter x ≡ stateAfter r
       state-is = rw (p, h)
 
-  pub stop-by : (l rest : List ℕ) (b : Rule) → read begin file ≡ read (ended (lineRead r l) (refuse b)) rest → Stops (reachedAt (k .state) (b .number) at)
-  stop-by l rest b e =
-      stopped _ (b .number) at (e ∙ read-fault (ended (lineRead r l) (refuse b)) _ rest refl) refl refl
-      (ap (λ (n : ℕ). record { number = b .number; place = n }) (sym (g .line-start)))
+  pub stop-by : (l rest : List ℕ) (b : Rule) → read begin file ≡ read (ended (lineRead r l) (refuse b)) rest → Stops (reachedAt (k .state) (b .number) (b .about .start))
+  stop-by l rest b e = stopped _ (b .number) (b .about .start) (e ∙ read-fault (ended (lineRead r l) (refuse b)) _ rest refl) refl refl refl
+
+  -- the whole line is at fault
+  stop-line : (l rest : List ℕ) (n : ℕ) → read begin file ≡ read (ended (lineRead r l) (refuse (rule n (lineHere file at r (g .sound) (g .unbegun)) false))) rest → Stops (reachedAt (k .state) n at)
+  stop-line l rest n e =
+      subst (λ (place : ℕ). Stops (reachedAt (k .state) n place)) (g .line-start) (stop-by l rest (rule n (lineHere file at r (g .sound) (g .unbegun)) false) e)
 
   -- bytes behind the last newline
   part-left : (x : Reading) (l : List ℕ) → 0 < length l → x .fault ≡ none → x .part ≡ l → x .lineStart ≡ at → record { number = 3; place = at } ≡ faultSaid (verdict x)
@@ -175,10 +178,10 @@ module _ (file : List ℕ) (from size at : ℕ) (k : Kept) (g : Going file from 
       stopped _ 3 at (sym (g .rest) ∙ read-part r l (g .sound) (unended-none file at q)) refl refl
       (part-left _ (reverse l ++ r .part) some refl refl (g .line-start))
   stop-unread h Illegal q n =
-      stop-by (firstLine (drop at file)) (drop (at + length (firstLine (drop at file)) + 1) file) (rule 4 (lineHere file at r (g .sound) (g .unbegun)) false)
+      stop-line (firstLine (drop at file)) (drop (at + length (firstLine (drop at file)) + 1) file) 4
       (sym (g .rest) ∙ illegal-step file at r (g .sound) (g .unbegun) q)
   stop-unread h TooLong q n =
-      stop-by (firstLine (drop at file)) (drop (at + length (firstLine (drop at file)) + 1) file) (rule 5 (lineHere file at r (g .sound) (g .unbegun)) false)
+      stop-line (firstLine (drop at file)) (drop (at + length (firstLine (drop at file)) + 1) file) 5
       (sym (g .rest) ∙ long-step file at r (g .sound) (g .unbegun) q)
 
   pub stop-end : length file ≤ at → Stops (reachedAt (k .state) (closingNumber (k .state .phase) (k .sheet)) at)

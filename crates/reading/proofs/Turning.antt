@@ -22,6 +22,7 @@ use Rattle.lines.specs.declared.LineEnd.the-variants.{At}
 use Rattle.lines.proofs.Lines.{at-behind, at-below, at-place, at-take}
 use Rattle.columns.specs.Listing.{textBetween, lineOf, columnsOf, Listed}
 use Rattle.columns.specs.declared.listing.Line.{Line}
+use Rattle.steps.specs.Faults.{brokenBy}
 use Rattle.steps.specs.Steps.{stepFor, stepOf}
 use Rattle.steps.specs.declared.Fault.{Fault}
 use Rattle.steps.specs.declared.Step.{Step}
@@ -181,7 +182,7 @@ module _ {file : List ℕ} {from size at : ℕ} {k : Kept} {l : Line} {places : 
       }
 
   abbrev Turned : Verdict Taking → Type 0
-  Turned (refused b) = Walked file from size (reachedAt (k .state) (b .number) at) (k .sheet) (k .seen) (k .begins)
+  Turned (refused b) = Walked file from size (reachedAt (k .state) (b .number) (b .about .start)) (k .sheet) (k .seen) (k .begins)
   Turned (granted t) = Applicable (stepFor t) (length file) k × Going file from size (e + 1) (effect from (stepFor t) at (e + 1) k)
 
   moves : MovesBy file from size (r .handed) at (e + 1) (k .marks) ph (taken ph ns line)
@@ -234,13 +235,13 @@ module _ {file : List ℕ} {from size at : ℕ} {k : Kept} {l : Line} {places : 
     goes-on-noted o s′ sheet′ seen′ marks′ begins′ b p =
         subst (λ (bs : List ℕ). Going file from size (e + 1) (kept s′ sheet′ seen′ marks′ bs)) (sym b) (goes-on o .1 _ (p ∙ ap (λ (n : ℕ). effect from y n (e + 1) k) (here .starts)))
 
-    pub stops : (f : Fault) → y ≡ steps.Refused f → Walked file from size (reachedAt (k .state) (f .number) at) (k .sheet) (k .seen) (k .begins)
+    pub stops : (f : Fault) → y ≡ steps.Refused f → Walked file from size (reachedAt (k .state) (f .number) (f .place)) (k .sheet) (k .seen) (k .begins)
     stops f h = by judged turned (sym h ∙ is)
       where
-        by : (v : Verdict Taking) → Turned v → steps.Refused f ≡ stepOf v → Walked file from size (reachedAt (k .state) (f .number) at) (k .sheet) (k .seen) (k .begins)
+        by : (v : Verdict Taking) → Turned v → steps.Refused f ≡ stepOf v → Walked file from size (reachedAt (k .state) (f .number) (f .place)) (k .sheet) (k .seen) (k .begins)
         by (refused b) t s =
-            let n : f .number ≡ b .number = cc in
-            subst (λ (m : ℕ). Walked file from size (reachedAt (k .state) m at) (k .sheet) (k .seen) (k .begins)) (sym n) t
+            let its : f ≡ brokenBy b = cc in
+            subst (λ (x : Fault). Walked file from size (reachedAt (k .state) (x .number) (x .place)) (k .sheet) (k .seen) (k .begins)) (sym its) t
         by (granted t) u s = absurd (never-refused t f s)
 
   -- ---- as the quick way has it: p is what it took the line for

@@ -97,7 +97,7 @@ fn take_lines(
             classes,
         );
         if let Step::Refused(fault) = step {
-            return stop_at(s, fault.number, at as u32);
+            return stop_at(s, fault.number, fault.place);
         }
         note_end(step, s, from, begins);
         note_tag(step, s, file, &mut outlines);

@@ -9,7 +9,7 @@ use mathlib.Core.List.{List, [], _∷_, _++_}
 use lib.ListN.{length}
 use lib.Dec.{leb}
 use borrow.Author.Tests.{leb-false, lt-leb}
-use Rattle.rules.specs.Lists.{pick, every}
+use Rattle.rules.specs.Lists.{pick, every, member}
 use Rattle.rules.specs.Bytes.{legal, ignored}
 use Rattle.rules.specs.Texts.{Text}
 use Rattle.rules.specs.Numbers.{lineLimit}
@@ -18,12 +18,13 @@ use Rattle.rules.specs.Keywords.{firstColumn}
 use Rattle.rules.specs.Phases.{Phase, Answer, refuse, go, hand, next, step}
 use Rattle.rules.specs.Reading.{begin, read, numbers}
 use Rattle.rules.specs.GrammarLines.{Legal}
-use Rattle.rules.specs.Refusals.{Clean, OneLine, Exactly, HasIllegal, TooLongLine}
+use Rattle.rules.specs.Refusals.{Clean, OneLine, Exactly, ExactlyInside, HasIllegal, TooLongLine}
+use Rattle.rules.specs.ColumnsAtFault.{pointing}
 use Rattle.rules.proofs.Takings.{answerAt, answerTo, lineRules, step-answers}
 use Rattle.rules.proofs.SaidOfLists.{true-or-not, never-both}
 use Rattle.rules.proofs.BytesAsSaid.{legal-said, every-said}
 use Rattle.rules.proofs.FromSix.{FromSix, line-six}
-use Rattle.rules.proofs.CleanFronts.{refusalOf, stepped, refused-step}
+use Rattle.rules.proofs.CleanFronts.{refusalOf, stepped, refused-step, refused-inside}
 
 -- ---- the number of a line
 
@@ -124,13 +125,18 @@ module _ (front : List ℕ) (c : Clean front) (l : List ℕ) (o : OneLine l) whe
       by (inl p) (inr q) e = (every-said legal Legal legal-said l .0 p, leb-false (length l) 4096 q)
       by (inr p) q e = absurd (omega (arith, step-four phase used line p))
 
-  pub then-exactly : (n : ℕ) (So : Type 0) → 1 ≤ n → (its ≡ n) ↔ So → Exactly n front l So
-  then-exactly n So one k x fits =
-      let r = refused-step front c l o x fits n one in
+  then-exactly : (n : ℕ) (So : Type 0) → 1 ≤ n → member n pointing ≡ false → (its ≡ n) ↔ So → Exactly n front l So
+  then-exactly n So one p k x fits =
+      let r = refused-step front c l o x fits n one p in
+      (λ h. k .0 (r .0 h), λ h. r .1 (k .1 h))
+
+  pub then-inside : (n : ℕ) (So : Type 0) → member n pointing ≡ true → (its ≡ n) ↔ So → ExactlyInside n front l So
+  then-inside n So p k x fits =
+      let r = refused-inside front c l o x fits n p in
       (λ h. k .0 (r .0 h), λ h. r .1 (k .1 h))
 
 pub bad-bytes : (front l : List ℕ) → Clean front → OneLine l → Exactly 4 front l (HasIllegal l)
-bad-bytes front l c o = then-exactly front c l o 4 (HasIllegal l) (omega arith) (four front c l o)
+bad-bytes front l c o = then-exactly front c l o 4 (HasIllegal l) (omega arith) refl (four front c l o)
 
 pub long-lines : (front l : List ℕ) → Clean front → OneLine l → Exactly 5 front l (TooLongLine l)
-long-lines front l c o = then-exactly front c l o 5 (TooLongLine l) (omega arith) (five front c l o)
+long-lines front l c o = then-exactly front c l o 5 (TooLongLine l) (omega arith) refl (five front c l o)

@@ -21,7 +21,7 @@ use Rattle.rules.specs.Keywords.{digits, firstColumn, startsWord, starts
 use Rattle.rules.specs.Phases.{Preamble, inSentence, Answer, next}
 use Rattle.rules.specs.GrammarNumbers.{phraseRange}
 use Rattle.rules.specs.GrammarNodes.{EdgeSaid, NodeLine, nodeColumns}
-use Rattle.rules.specs.Refusals.{Clean, InsideSentence, Exactly}
+use Rattle.rules.specs.Refusals.{Clean, InsideSentence, ExactlyInside}
 use Rattle.rules.specs.BrokenNumbers.{WellWritten, LineRead, NodeWritten, ParentsWritten, Digits, BadNodeNumbers}
 use Rattle.rules.proofs.Conjunctions.{false-if-never, every-append}
 use Rattle.rules.proofs.EachElement.{each-of, each-map, each-mapped}
@@ -183,10 +183,10 @@ module _ (front : List ℕ) (c : Clean front) (inside : InsideSentence front) (n
   unfolding answerAt
   among-nodes = answered-at front c (n .line) (w .its-line .fits) (inSentence (inside .0) (inside .1)) (inside .2) (heeded-line (n .line) (w .its-line))
 
-  exactly-so : (So : Type 0) (a : Answer) → answerNodes its (firstColumn its) (inside .0) (inside .1) ≡ a → (refusalOf a ≡ 8) ↔ So → Exactly 8 front (n .line) So
+  exactly-so : (So : Type 0) (a : Answer) → answerNodes its (firstColumn its) (inside .0) (inside .1) ≡ a → (refusalOf a ≡ 8) ↔ So → ExactlyInside 8 front (n .line) So
   exactly-so So a e k = number-exactly front c (n .line) (w .its-line .fits) So (subst (λ (b : Answer). (refusalOf b ≡ 8) ↔ So) (sym (among-nodes ∙ e)) k)
 
-  word-line : inside .1 .phrases ≡ [] → WordStart (n .first) → Exactly 8 front (n .line) (ParentsWritten n → ⊥)
+  word-line : inside .1 .phrases ≡ [] → WordStart (n .first) → ExactlyInside 8 front (n .line) (ParentsWritten n → ⊥)
   word-line none-yet start =
       let p = inside .0 in
       let s = inside .1 in
@@ -197,7 +197,7 @@ module _ (front : List ℕ) (c : Clean front) (inside : InsideSentence front) (n
       (node-word its first p s (false-if-never (reads (bytes "#EOS") first) (word-no-end first started)) (false-if-never (startsPhrase first) (word-no-phrase first started)) (word-starts first given started))
       (word-eight its (p .format) (p .tables) (soFar s) (goWord p s) (λ m. refl) n its-shape (ap empty none-yet))
 
-  phrase-line : (ds : List ℕ) → n .first ≡ bytes "#" ++ ds → Digits ds → Exactly 8 front (n .line) (WellWritten phraseRange ds × ParentsWritten n → ⊥)
+  phrase-line : (ds : List ℕ) → n .first ≡ bytes "#" ++ ds → Digits ds → ExactlyInside 8 front (n .line) (WellWritten phraseRange ds × ParentsWritten n → ⊥)
   phrase-line ds e d =
       let p = inside .0 in
       let s = inside .1 in

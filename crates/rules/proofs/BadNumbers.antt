@@ -20,7 +20,7 @@ use Rattle.rules.specs.Reading.{begin, read, numbers}
 use Rattle.rules.specs.Survey.{surveyOf}
 use Rattle.rules.specs.LentBuffers.{WithinLimit}
 use Rattle.rules.specs.GrammarLines.{Legal, LineFits}
-use Rattle.rules.specs.Refusals.{Clean, RefusedBy, OneLine, lineIn, Exactly, NumberWritten, IdWritten, OneNumber, FourNumbers, InsideSentence, BadNumbers}
+use Rattle.rules.specs.Refusals.{Clean, RefusedBy, OneLine, lineIn, ExactlyInside, NumberWritten, IdWritten, OneNumber, FourNumbers, InsideSentence, BadNumbers}
 use Rattle.rules.proofs.Takings.{goBegun, answerTo, answerAt, answerStart, answerBehind, answerTop, answerNodes}
 use Rattle.rules.proofs.BytesAsSaid.{legal-said, every-said}
 use Rattle.rules.proofs.TestsAsFacts.{reads-are}
@@ -28,7 +28,7 @@ use Rattle.rules.proofs.BareColumns.{columnAt}
 use Rattle.rules.proofs.ColumnsSaid.{begins-at}
 use Rattle.rules.proofs.KeywordsAsSaid.{starts-first, keyword-first}
 use Rattle.rules.proofs.CleanFronts.{refusalOf, stepped, refused-step, ends-by}
-use Rattle.rules.proofs.BadLines.{step-fits, then-exactly}
+use Rattle.rules.proofs.BadLines.{step-fits, then-inside}
 use Rattle.rules.proofs.NumberRules.{format-eight, end-eight, heading-eight, heading-thirteen}
 
 -- a legal byte is no newline
@@ -62,8 +62,8 @@ module _ (front : List ℕ) (c : Clean front) (l : List ℕ) (fits : LineFits l)
   pub reads-first : (keyword : List ℕ) → goesOn l ≡ true → columnAt 0 l ≡ keyword → firstColumn line .bytes ≡ keyword
   reads-first keyword g e = starts-first line g ∙ e
 
-  pub number-exactly : (So : Type 0) → (refusalOf (stepped front c l one-line) ≡ 8) ↔ So → Exactly 8 front l So
-  number-exactly So k = then-exactly front c l one-line 8 So (omega arith) k
+  pub number-exactly : (So : Type 0) → (refusalOf (stepped front c l one-line) ≡ 8) ↔ So → ExactlyInside 8 front l So
+  number-exactly So k = then-inside front c l one-line 8 So refl k
 
 -- ---- which phase the front ends in
 
@@ -95,7 +95,7 @@ between (behindSentence p) e = inr (p, refl)
 -- ---- the three lines
 
 module _ (front : List ℕ) (c : Clean front) where
-  format-line : surveyOf front .refusal ≡ 9 → (n l : List ℕ) → OneNumber (bytes "#FORMAT") n l → Exactly 8 front l (NumberWritten 0 65535 n → ⊥)
+  format-line : surveyOf front .refusal ≡ 9 → (n l : List ℕ) → OneNumber (bytes "#FORMAT") n l → ExactlyInside 8 front l (NumberWritten 0 65535 n → ⊥)
   unfolding ignored answerAt answerStart
   format-line e n l k =
       let t = line front c l (k .fits) in
@@ -107,7 +107,7 @@ module _ (front : List ℕ) (c : Clean front) where
       number-exactly front c l (k .fits) (NumberWritten 0 65535 n → ⊥)
       (subst (λ (a : Answer). (refusalOf a ≡ 8) ↔ (NumberWritten 0 65535 n → ⊥)) (sym is) (format-eight t (λ m. go (top (record { format = m; tables = noTables }))) (λ m. refl) n (k .columns)))
 
-  end-line : InsideSentence front → (n l : List ℕ) → OneNumber (bytes "#EOS") n l → Exactly 8 front l (NumberWritten 1 65535 n → ⊥)
+  end-line : InsideSentence front → (n l : List ℕ) → OneNumber (bytes "#EOS") n l → ExactlyInside 8 front l (NumberWritten 1 65535 n → ⊥)
   unfolding ignored answerAt answerNodes
   end-line inside n l k =
       let t = line front c l (k .fits) in
@@ -147,7 +147,7 @@ module _ (front : List ℕ) (c : Clean front) where
     begun-at p (inl e) = answered-at front c l (k .fits) (top p) e (ap ignored (k .starts)) ∙ rw first-other
     begun-at p (inr e) = answered-at front c l (k .fits) (behindSentence p) e (ap ignored (k .starts))
 
-    begin-line : (surveyOf front .refusal ≡ 0) ⊎ (surveyOf front .refusal ≡ 13) → Exactly 8 front l So
+    begin-line : (surveyOf front .refusal ≡ 0) ⊎ (surveyOf front .refusal ≡ 13) → ExactlyInside 8 front l So
     begin-line e = number-exactly front c l (k .fits) So (by (between (read begin front .phase) (at-end e)))
       where
         at-end : (surveyOf front .refusal ≡ 0) ⊎ (surveyOf front .refusal ≡ 13) → (atEnd (read begin front .phase) ≡ 0) ⊎ (atEnd (read begin front .phase) ≡ 13)
@@ -171,7 +171,7 @@ module _ (front : List ℕ) (c : Clean front) where
     pub at-head : surveyOf front .refusal ≡ 13 → NumberWritten 1 65535 n → IdWritten editor → NumberWritten 0 4294967295 when → NumberWritten 1 65535 origin
         → (x : List ℕ) → WithinLimit (lineIn front l x) → RefusedBy 13 (length front) (lineIn front l x)
     at-head e wn we wd wo x fits =
-        refused-step front c l (one-line front c l (k .fits)) x fits 13 (omega arith) .1 (by (read begin front .phase) refl (sym (ends-by front c) ∙ e))
+        refused-step front c l (one-line front c l (k .fits)) x fits 13 (omega arith) refl .1 (by (read begin front .phase) refl (sym (ends-by front c) ∙ e))
       where
         lacks : (t : Bool) → _≡_ {A = ℕ} (pick t 0 13) 13 → t ≡ false
         lacks true z = absurd (omega arith)

@@ -19,7 +19,7 @@ use Rattle.rules.specs.Rows.{originRow, editorRow, tagRow, rowOf}
 use Rattle.rules.specs.Keywords.{firstColumn, startsRow}
 use Rattle.rules.specs.Phases.{inTable, Answer, next}
 use Rattle.rules.specs.GrammarColumns.{Stripped, NameAndNote}
-use Rattle.rules.specs.Refusals.{Clean, Exactly}
+use Rattle.rules.specs.Refusals.{Clean, ExactlyInside}
 use Rattle.rules.specs.BrokenNumbers.{InsideTable, columnsBetween, RowWritten, RowIdWritten, BadRowNumbers}
 use Rattle.rules.proofs.Conjunctions.{false-if-never, or-false}
 use Rattle.rules.proofs.SaidOfLists.{and-both-ways}
@@ -134,7 +134,7 @@ module _ (front : List ℕ) (c : Clean front) (which : ℕ) (inside : InsideTabl
       let end = false-if-never (reads (bytes "#EOT") (firstColumn its)) (row-no-keyword (firstColumn its) (bytes "#EOT") is-row refl) in
       answered-at front c l (w .its-line .fits) (inTable (inside .0) which (inside .1)) (inside .2) (heeded-line l (w .its-line)) ∙ rw (end, is-row)
 
-  row-line : Exactly 8 front l (RowIdWritten which id → ⊥)
+  row-line : ExactlyInside 8 front l (RowIdWritten which id → ⊥)
   row-line =
       number-exactly front c l (w .its-line .fits) (RowIdWritten which id → ⊥)
       (subst (λ (a : Answer). (refusalOf a ≡ 8) ↔ (RowIdWritten which id → ⊥)) (sym among-rows) (row-eight its (inside .1) (goRow (inside .0) which (inside .1)) (λ r. refl) which id w))

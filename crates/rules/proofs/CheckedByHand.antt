@@ -51,9 +51,9 @@ starredCases =
     ∷ case (take 40 fileA) 13 40 0 0
     ∷ case (take 0 fileA) 9 0 0 0
     ∷ case (changed 8 9 "4") 9 0 0 0
-    ∷ case (changed 85 86 "2") 15 74 0 0
+    ∷ case (changed 85 86 "2") 15 85 0 0
     ∷ case (changed 100 103 "501") 22 119 0 0
-    ∷ case (changed 117 118 "500") 19 104 0 0
+    ∷ case (changed 117 118 "500") 19 117 0 0
     ∷ case (changed 104 108 "#501") 21 119 0 0
     ∷ case (changed 124 125 "8") 20 119 0 0
     ∷ []

@@ -51,12 +51,12 @@ abbrev pub sharingCases : List Case
 sharingCases =
     case fileC 0 293 2 293
     ∷ case (changedC 202 205 "502") 0 293 2 293
-    ∷ case (changedC 202 205 "501") 19 182 0 0
+    ∷ case (changedC 202 205 "501") 19 202 0 0
     ∷ case (changedC 202 205 "503") 22 222 0 0
-    ∷ case (changedC 202 205 "499") 8 182 0 0
-    ∷ case (changedC 195 198 "500") 19 182 0 0
+    ∷ case (changedC 202 205 "499") 8 202 0 0
+    ∷ case (changedC 195 198 "500") 19 195 0 0
     ∷ case (changedC 103 103 " SB 500") 0 300 2 300
-    ∷ case (changedC 260 263 "500") 19 242 1 229
+    ∷ case (changedC 260 263 "500") 19 260 1 229
     ∷ []
 
 pub sharing : T (every holds sharingCases)

@@ -24,16 +24,16 @@ use Rattle.rules.proofs.LiesThere.{next-line}
 
 -- ---- whole lines
 
-abbrev AtLine : List ℕ → List ℕ → Phase → Type 0
+abbrev pub AtLine : List ℕ → List ℕ → Phase → Type 0
 AtLine file done phase = StartsLine file (length done)
 
 module _ (file : List ℕ) where
-  line-starts : (done l rest : List ℕ) → file ≡ done ++ (l ++ (newline ∷ rest)) → (a : Answer) → LineAnswered (AtLine file) (λ (h : Handed). Unit {0}) done l a
+  pub line-starts : (done l rest : List ℕ) → file ≡ done ++ (l ++ (newline ∷ rest)) → (a : Answer) → LineAnswered (AtLine file) (λ (h : Handed). Unit {0}) done l a
   line-starts done l rest e (refuse q) = tt
   line-starts done l rest e (go phase) = next-line file done l rest e
   line-starts done l rest e (hand p s) = (next-line file done l rest e, tt)
 
-  ends-at-line : ReadByLines file (AtLine file) (λ (h : Handed). Unit {0}) (λ done l rest phase used e o k. line-starts done l rest e (step phase used (record { start = length done; bytes = l })))
+  pub ends-at-line : ReadByLines file (AtLine file) (λ (h : Handed). Unit {0}) (λ done l rest phase used e o k. line-starts done l rest e (step phase used (record { start = length done; bytes = l })))
   ends-at-line = by-lines file (AtLine file) (λ (h : Handed). Unit {0}) (λ done l rest phase used e o k. line-starts done l rest e (step phase used (record { start = length done; bytes = l }))) (inl refl)
 
 pub front-lines : (front : List ℕ) → Clean front → StartsLine front (length front)

@@ -9,6 +9,16 @@ pub mod Same
 pub mod Decimal
 pub mod ColumnLaws
 pub mod RuleLaws
+pub mod LeftmostRules
+pub mod ColumnsRise
+pub mod PointedRules
+pub mod FaultsAsFacts
+pub mod PointedLines
+pub mod PointedRows
+pub mod PairsRise
+pub mod NodeGroups
+pub mod PointedNodes
+pub mod PointedSteps
 pub mod ReadLines
 pub mod Cut
 pub mod NoLateTable
@@ -131,6 +141,8 @@ pub mod AsWritten
 pub mod RowsSaid
 pub mod TablesWritten
 pub mod LastLine
+pub mod FirstFaulty
+pub mod PointedAt
 pub mod MissingTables
 pub mod Beginnings
 pub mod LineStarts

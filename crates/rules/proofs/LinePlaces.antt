@@ -36,12 +36,12 @@ module _ (at : ℕ) (bs : List ℕ) where
   abbrev Ins : List Column → Type 0
   Ins cs = Each (ColumnIn at bs) cs
 
-  written-placed : (cs : List Column) (n : ℕ) → Ins cs → Placed at bs (column cs n .text)
+  pub written-placed : (cs : List Column) (n : ℕ) → Ins cs → Placed at bs (column cs n .text)
   written-placed [] n k = inl refl
   written-placed (c ∷ cs) zero k = inr (k .0 .text, k .0 .some)
   written-placed (c ∷ cs) (suc n) k = written-placed cs n (k .1)
 
-  after-loose : (cs : List Column) (n : ℕ) → Ins cs → Loose at bs (column cs n .after)
+  pub after-loose : (cs : List Column) (n : ℕ) → Ins cs → Loose at bs (column cs n .after)
   after-loose [] n k = inl refl
   after-loose (c ∷ cs) zero k = inr (k .0 .after)
   after-loose (c ∷ cs) (suc n) k = after-loose cs n (k .1)
@@ -86,12 +86,12 @@ module _ (at : ℕ) (bs : List ℕ) where
   labels-placed (l ∷ p ∷ fs) k = (k .0, labels-placed fs (k .1 .1))
 
   -- in front of the two percent signs behind a column, and behind them
-  front-placed : (t : Text) → Loose at bs t → Placed at bs (trim (inFront t))
+  pub front-placed : (t : Text) → Loose at bs t → Placed at bs (trim (inFront t))
   unfolding frontBytes
   front-placed t (inl e) = trim-placed at bs (inFront t) (inl (ap inFront e))
   front-placed t (inr p) = trim-placed at bs (inFront t) (inr (part-part at bs t (inFront t) p (front-part t)))
 
-  behind-placed : (t : Text) → Loose at bs t → Placed at bs (trim (behind t))
+  pub behind-placed : (t : Text) → Loose at bs t → Placed at bs (trim (behind t))
   unfolding behindFrom
   behind-placed t (inl e) = trim-placed at bs (behind t) (inl (ap behind e))
   behind-placed t (inr p) = trim-placed at bs (behind t) (by (behind-loose t))

@@ -11,6 +11,7 @@ use lib.Dec.{eqb}
 use borrow.Author.Tests.{eqb-true}
 use Rattle.rules.specs.Lists.{every, Each}
 use Rattle.rules.specs.Bytes.{newline, legal}
+use Rattle.rules.specs.Rules.{faultOf}
 use Rattle.rules.specs.Texts.{Text}
 use Rattle.rules.specs.Sentences.{Sentence}
 use Rattle.rules.specs.Phases.{Phase, start, behindSentence, Answer, refuse, go, hand, step, atEnd}
@@ -93,7 +94,7 @@ module _ (rest : List ℕ) (u : Unended rest) where
           → ((ph : Phase) (hs : List Handed) → Comes ls (suc (a + length l)) ph hs → ReadsAll (Ends rest) (placed (suc (a + length l)) ls) ph (sentencesOf hs))
           → Through (ReadsAll (Ends rest) (placed (suc (a + length l)) ls)) (sentencesOf hs) w
       by (refuse q) one c more =
-          let e = read-fault (ended (line-end l a ph hs) (refuse q)) (record { number = q .number; place = a }) (linesWritten ls ++ rest) refl in
+          let e = read-fault (ended (line-end l a ph hs) (refuse q)) (faultOf q) (linesWritten ls ++ rest) refl in
           absurd (omega (arith, sym (ap (λ (r : Reading). verdict r .number) e) ∙ c))
       by (go ph') one c more = more ph' hs c
       by (hand p s) one c more =

@@ -75,36 +75,36 @@ wrongColumns =
 -- a number is badly written or outside its range
 abbrev badNumbers : List Case
 badNumbers =
-    case (alone "#FORMAT 03\n") 8 0 0 0
+    case (alone "#FORMAT 03\n") 8 8 0 0
     ∷ case (behindFormat "#BOT ORIGIN\n0 lab\n") 8 22 0 0
     ∷ case (behindFormat "#BOT EDITOR\n-2 kim Kim\n") 8 22 0 0
     ∷ case (behindFormat "#BOT NODETAG\n65536 S x\n") 8 23 0 0
-    ∷ case (behindTables "#BOS 0 2 0 1\n") 8 74 0 0
-    ∷ case (behindTables "#BOS 7 x 0 1\n") 8 74 0 0
-    ∷ case (behindTables "#BOS 7 2 4294967296 1\n") 8 74 0 0
-    ∷ case (behindTables "#BOS 7 2 0 0\n") 8 74 0 0
-    ∷ case (inside "Ja ITJ -- -- 499\n") 8 87 0 0
-    ∷ case (inside "Ja ITJ -- -- 0 SB 0\n") 8 87 0 0
+    ∷ case (behindTables "#BOS 0 2 0 1\n") 8 79 0 0
+    ∷ case (behindTables "#BOS 7 x 0 1\n") 8 81 0 0
+    ∷ case (behindTables "#BOS 7 2 4294967296 1\n") 8 83 0 0
+    ∷ case (behindTables "#BOS 7 2 0 0\n") 8 85 0 0
+    ∷ case (inside "Ja ITJ -- -- 499\n") 8 100 0 0
+    ∷ case (inside "Ja ITJ -- -- 0 SB 0\n") 8 105 0 0
     ∷ case (inside "#499 S -- -- 0\n") 8 87 0 0
-    ∷ case (inside "#EOS 65536\n") 8 87 0 0
+    ∷ case (inside "#EOS 65536\n") 8 92 0 0
     ∷ []
 
 -- a text is too long, a tag is %%, a flag isn't Y or N
 abbrev badTexts : List Case
 badTexts =
-    case (behindFormat "#BOT ORIGIN\n1 " ++ run 129 "n" "\n") 10 22 0 0
-    ∷ case (behindFormat "#BOT ORIGIN\n1 n %% " ++ run 161 "c" "\n") 10 22 0 0
-    ∷ case (behindFormat "#BOT EDITOR\n1 " ++ run 17 "l" " n\n") 10 22 0 0
-    ∷ case (behindFormat "#BOT EDITOR\n1 l " ++ run 41 "n" "\n") 10 22 0 0
-    ∷ case (behindFormat "#BOT NODETAG\n1 TTTTTTTTTTT d\n") 10 23 0 0
-    ∷ case (behindFormat "#BOT NODETAG\n1 %% d\n") 10 23 0 0
-    ∷ case (behindFormat "#BOT WORDTAG\n1 NN X d\n") 10 23 0 0
-    ∷ case (behindFormat "#BOT NODETAG\n1 S " ++ run 81 "d" "\n") 10 23 0 0
-    ∷ case (inside "Ja TTTTTTTTTTT -- -- 0\n") 10 87 0 0
-    ∷ case (inside "Ja T " ++ run 33 "m" " -- 0\n") 10 87 0 0
-    ∷ case (inside "Ja T -- eeeeeeeeeee 500\n") 10 87 0 0
-    ∷ case (inside "Ja T -- -- 0 sssssssssss 500\n") 10 87 0 0
-    ∷ case (inside "#500 TTTTTTTTTTT -- -- 0\n") 10 87 0 0
+    case (behindFormat "#BOT ORIGIN\n1 " ++ run 129 "n" "\n") 10 24 0 0
+    ∷ case (behindFormat "#BOT ORIGIN\n1 n %% " ++ run 161 "c" "\n") 10 29 0 0
+    ∷ case (behindFormat "#BOT EDITOR\n1 " ++ run 17 "l" " n\n") 10 24 0 0
+    ∷ case (behindFormat "#BOT EDITOR\n1 l " ++ run 41 "n" "\n") 10 26 0 0
+    ∷ case (behindFormat "#BOT NODETAG\n1 TTTTTTTTTTT d\n") 10 25 0 0
+    ∷ case (behindFormat "#BOT NODETAG\n1 %% d\n") 10 25 0 0
+    ∷ case (behindFormat "#BOT WORDTAG\n1 NN X d\n") 10 28 0 0
+    ∷ case (behindFormat "#BOT NODETAG\n1 S " ++ run 81 "d" "\n") 10 27 0 0
+    ∷ case (inside "Ja TTTTTTTTTTT -- -- 0\n") 10 90 0 0
+    ∷ case (inside "Ja T " ++ run 33 "m" " -- 0\n") 10 92 0 0
+    ∷ case (inside "Ja T -- eeeeeeeeeee 500\n") 10 95 0 0
+    ∷ case (inside "Ja T -- -- 0 sssssssssss 500\n") 10 100 0 0
+    ∷ case (inside "#500 TTTTTTTTTTT -- -- 0\n") 10 92 0 0
     ∷ []
 
 -- a row's id is repeated or out of order, a tag repeated, reserved or not its row's
@@ -123,8 +123,8 @@ abbrev badHeadings : List Case
 badHeadings =
     case (behindFormat "#BOT ORIGIN\n1 lab\n#EOT ORIGIN\n#BOS 7 2 0 1\n") 13 40 0 0
     ∷ case (inside "#EOS 7\n#BOS 7 2 0 1\n") 14 94 1 94
-    ∷ case (behindTables "#BOS 7 3 0 1\n") 15 74 0 0
-    ∷ case (behindTables "#BOS 7 2 0 2\n") 15 74 0 0
+    ∷ case (behindTables "#BOS 7 3 0 1\n") 15 81 0 0
+    ∷ case (behindTables "#BOS 7 2 0 2\n") 15 85 0 0
     ∷ []
 
 -- a phrase number is given twice
@@ -136,19 +136,28 @@ phraseTwice =
 -- a tag is not in its table
 abbrev unknownTags : List Case
 unknownTags =
-    case (behindTables "#BOT WORDTAG\n#EOT WORDTAG\n#BOS 7 2 0 1\nJa ITJ -- -- 0\n") 18 113 0 0
-    ∷ case (behindTables "#BOT MORPHTAG\n#EOT MORPHTAG\n#BOS 7 2 0 1\nJa T m -- 0\n") 18 115 0 0
-    ∷ case (behindTables "#BOT NODETAG\n#EOT NODETAG\n#BOS 7 2 0 1\n#500 S -- -- 0\n") 18 113 0 0
-    ∷ case (behindTables "#BOT EDGETAG\n#EOT EDGETAG\n#BOS 7 2 0 1\nJa T -- e 500\n") 18 113 0 0
-    ∷ case (behindTables "#BOT SECEDGETAG\n#EOT SECEDGETAG\n#BOS 7 2 0 1\nJa T -- -- 0 s 500\n") 18 119 0 0
+    case (behindTables "#BOT WORDTAG\n#EOT WORDTAG\n#BOS 7 2 0 1\nJa ITJ -- -- 0\n") 18 116 0 0
+    ∷ case (behindTables "#BOT MORPHTAG\n#EOT MORPHTAG\n#BOS 7 2 0 1\nJa T m -- 0\n") 18 120 0 0
+    ∷ case (behindTables "#BOT NODETAG\n#EOT NODETAG\n#BOS 7 2 0 1\n#500 S -- -- 0\n") 18 118 0 0
+    ∷ case (behindTables "#BOT EDGETAG\n#EOT EDGETAG\n#BOS 7 2 0 1\nJa T -- e 500\n") 18 121 0 0
+    ∷ case (behindTables "#BOT SECEDGETAG\n#EOT SECEDGETAG\n#BOS 7 2 0 1\nJa T -- -- 0 s 500\n") 18 132 0 0
     ∷ []
 
 -- a parent is not larger, a secondary parent is the node itself, or parent 0 without --
 abbrev wrongParents : List Case
 wrongParents =
-    case (inside "Ja T -- SB 0\n") 19 87 0 0
-    ∷ case (inside "#501 S -- -- 500\n") 19 87 0 0
-    ∷ case (inside "#501 S -- -- 0 s 501\n") 19 87 0 0
+    case (inside "Ja T -- SB 0\n") 19 98 0 0
+    ∷ case (inside "#501 S -- -- 500\n") 19 100 0 0
+    ∷ case (inside "#501 S -- -- 0 s 501\n") 19 104 0 0
+    ∷ []
+
+-- several columns at fault: the smallest number, and of its columns the leftmost
+abbrev severalColumns : List Case
+severalColumns =
+    case (behindTables "#BOS 7 3 0 2\n") 15 81 0 0
+    ∷ case (inside "Ja TTTTTTTTTTT -- -- 499 s 0\n") 8 108 0 0
+    ∷ case (inside "#501 S -- -- 500 s 501\n") 19 100 0 0
+    ∷ case (inside "#501 S -- -- 502 s 502 s 501 s 501\n") 19 112 0 0
     ∷ []
 
 -- at #EOS: another number, a gap in the phrases, a parent absent
@@ -160,6 +169,6 @@ badEnds =
     ∷ case (inside "Ja T -- -- 0 s 500\n#EOS 7\n") 22 106 0 0
     ∷ []
 
-pub each-number : T (every holds (cannotStand ++ wrongColumns ++ badNumbers ++ badTexts ++ rowsOutOfPlace ++ badHeadings ++ phraseTwice ++ unknownTags ++ wrongParents ++ badEnds))
+pub each-number : T (every holds (cannotStand ++ wrongColumns ++ badNumbers ++ badTexts ++ rowsOutOfPlace ++ badHeadings ++ phraseTwice ++ unknownTags ++ wrongParents ++ severalColumns ++ badEnds))
 unfolding ignored rightTrim trimFrom frontBytes behindFrom columnsFrom fields comment valueFrom decimal broken checked hasId hasTag known originRow editorRow tagRow headingOf endRules endOf pairs paired parentsWritten tagsShort tagsKnown parentsAllowed wordOf phraseOf formatOf tableOpened tableEnded firstColumn atStart behindOne atTop amongRows amongNodes lineAt taken judged after step surveyOf
 each-number = tt

@@ -15,7 +15,7 @@ use Rattle.rules.specs.GrammarNumbers.{Range, NumberIn, originRange, phr
 use Rattle.rules.specs.GrammarLines.{LineFits, Ignored, Starts}
 use Rattle.rules.specs.GrammarColumns.{Begins, Front, NameAndNote, Stripped}
 use Rattle.rules.specs.GrammarNodes.{EdgeSaid, NodeLine, nodeColumns}
-use Rattle.rules.specs.Refusals.{InsideSentence, Exactly}
+use Rattle.rules.specs.Refusals.{InsideSentence, ExactlyInside}
 
 -- these bytes are a number of this range
 abbrev pub WellWritten : Range → List ℕ → Type 0
@@ -47,10 +47,10 @@ pub record Digits (ds : List ℕ) : Type 0 where
 pub record BadNodeNumbers (front : List ℕ) : Type 0 where
   -- a word, behind no phrase
   pub word : (inside : InsideSentence front) → inside .1 .phrases ≡ [] → (n : NodeLine) → NodeWritten (inside .0 .format) n
-      → (n .first ≡ bytes "#") ⊎ ((rest : List ℕ) → n .first ≡ bytes "#" ++ rest → ⊥) → Exactly 8 front (n .line) (ParentsWritten n → ⊥)
+      → (n .first ≡ bytes "#") ⊎ ((rest : List ℕ) → n .first ≡ bytes "#" ++ rest → ⊥) → ExactlyInside 8 front (n .line) (ParentsWritten n → ⊥)
   -- a phrase begins with # and digits; its own number is 500 to 999
   pub phrase : (inside : InsideSentence front) → (n : NodeLine) (ds : List ℕ) → NodeWritten (inside .0 .format) n → n .first ≡ bytes "#" ++ ds → Digits ds
-      → Exactly 8 front (n .line) (WellWritten phraseRange ds × ParentsWritten n → ⊥)
+      → ExactlyInside 8 front (n .line) (WellWritten phraseRange ds × ParentsWritten n → ⊥)
 
 -- ---- rows
 
@@ -87,4 +87,4 @@ RowIdWritten zero id = WellWritten originRange id
 RowIdWritten (suc which) id = (i : ℕ) × IdIn id i
 
 abbrev pub BadRowNumbers : List ℕ → Type 0
-BadRowNumbers front = (which : ℕ) → InsideTable which front → (id l : List ℕ) → RowWritten which id l → Exactly 8 front l (RowIdWritten which id → ⊥)
+BadRowNumbers front = (which : ℕ) → InsideTable which front → (id l : List ℕ) → RowWritten which id l → ExactlyInside 8 front l (RowIdWritten which id → ⊥)

@@ -44,5 +44,7 @@ pub mod Refusals
 pub mod AsWritten
 pub mod BeginsThere
 pub mod BrokenNumbers
+pub mod ColumnsAtFault
+pub mod PointedAt
 pub mod Explaining
 pub mod ExplainingRules

@@ -44,7 +44,7 @@ ended r (refuse q) =
       part = r .part;
       phase = r .phase;
       handed = r .handed;
-      fault = some (faultOf (line r) q);
+      fault = some (faultOf q);
     }
 ended r (go p) =
     record { at = suc (r .at); lineStart = suc (r .at); part = []; phase = p; handed = r .handed; fault = none }

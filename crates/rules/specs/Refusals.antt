@@ -1,6 +1,6 @@
 -- Demand 1, of the file alone: which bytes are refused by which number, and at which place. A front is what stands before the
 -- line in question: bytes whose own survey finds no fault in any line, so that it is refused by nothing but its end.
-use Prim.Native.Nat.{ℕ, _≤_, _<_}
+use Prim.Native.Nat.{ℕ, _+_, _≤_, _<_}
 use mathlib.Core.Path.{_≡_}
 use mathlib.Core.Logic.{_⊎_, _↔_}
 use mathlib.Core.Option.{none}
@@ -36,9 +36,19 @@ OneLine l = Each (λ (b : ℕ). b ≡ 10 → ⊥) l
 abbrev pub lineIn : List ℕ → List ℕ → List ℕ → List ℕ
 lineIn front l x = front ++ (l ++ (10 ∷ x))
 
--- the line behind the front is refused by this number exactly if the line is so
+-- the line behind the front is refused by this number, at its first byte, exactly if the line is so
 abbrev pub Exactly : ℕ → List ℕ → List ℕ → Type 0 → Type 0
 Exactly number front l So = (x : List ℕ) → WithinLimit (lineIn front l x) → RefusedBy number (length front) (lineIn front l x) ↔ So
+
+-- refused at a place inside the line behind the front
+pub record RefusedInside (number : ℕ) (front l file : List ℕ) : Type 0 where
+  pub refusal : surveyOf file .refusal ≡ number
+  pub from : length front ≤ surveyOf file .place
+  pub upTo : surveyOf file .place < length front + length l
+
+-- the line behind the front is refused by this number, which points at a column, exactly if the line is so
+abbrev pub ExactlyInside : ℕ → List ℕ → List ℕ → Type 0 → Type 0
+ExactlyInside number front l So = (x : List ℕ) → WithinLimit (lineIn front l x) → RefusedInside number front l (lineIn front l x) ↔ So
 
 -- ---- 3: bytes follow the last newline
 
@@ -94,11 +104,11 @@ InsideSentence front = (p : Preamble) × (s : Sentence) × (read begin front .ph
 
 pub record BadNumbers (front : List ℕ) : Type 0 where
   -- no format line yet
-  pub format : surveyOf front .refusal ≡ 9 → (n l : List ℕ) → OneNumber (bytes "#FORMAT") n l → Exactly 8 front l (NumberWritten 0 65535 n → ⊥)
-  pub end : InsideSentence front → (n l : List ℕ) → OneNumber (bytes "#EOS") n l → Exactly 8 front l (NumberWritten 1 65535 n → ⊥)
+  pub format : surveyOf front .refusal ≡ 9 → (n l : List ℕ) → OneNumber (bytes "#FORMAT") n l → ExactlyInside 8 front l (NumberWritten 0 65535 n → ⊥)
+  pub end : InsideSentence front → (n l : List ℕ) → OneNumber (bytes "#EOS") n l → ExactlyInside 8 front l (NumberWritten 1 65535 n → ⊥)
   -- behind the format line, in no table and no sentence
   pub begin : (surveyOf front .refusal ≡ 0) ⊎ (surveyOf front .refusal ≡ 13) → (n editor date origin l : List ℕ) → FourNumbers n editor date origin l
-      → Exactly 8 front l ((NumberWritten 1 65535 n → ⊥) ⊎ (IdWritten editor → ⊥) ⊎ (NumberWritten 0 4294967295 date → ⊥) ⊎ (NumberWritten 1 65535 origin → ⊥))
+      → ExactlyInside 8 front l ((NumberWritten 1 65535 n → ⊥) ⊎ (IdWritten editor → ⊥) ⊎ (NumberWritten 0 4294967295 date → ⊥) ⊎ (NumberWritten 1 65535 origin → ⊥))
 
 -- ---- 9, 13, 23: the file's end
 

@@ -1,4 +1,5 @@
--- Document 01, "The numbers of refusal": the first faulty line decides, and within it the smallest number.
+-- Document 01, "The numbers of refusal", and document 02, request 4: the first faulty line decides, within it the smallest
+-- number, and of the columns with this number the leftmost.
 use Prim.Native.Nat.{ℕ}
 use mathlib.Core.Bool.{Bool}
 use mathlib.Core.Option.{Option, none, some}
@@ -20,9 +21,9 @@ pub record Fault : Type 0 where
   pub number : ℕ
   pub place : ℕ
 
--- the place is the line's first byte
-abbrev pub faultOf : Text → Rule → Fault
-faultOf line r = record { number = r .number; place = line .start }
+-- the place is the first byte of what the rule is about: for 8, 10, 15, 18 and 19 a column or a text, else the line
+abbrev pub faultOf : Rule → Fault
+faultOf r = record { number = r .number; place = r .about .start }
 
 -- what a line is read as, or the rule that refuses it
 pub data Verdict (A : Type 0) : Type 0 where

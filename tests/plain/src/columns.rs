@@ -108,7 +108,7 @@ impl<'f> Columns<'f> {
             return 0;
         }
         let number = number_within(self.bytes(index), lowest, highest);
-        faults.add_if(number.is_none(), NUMBER);
+        faults.add_at_if(number.is_none(), self.text(index).start, NUMBER);
         number.unwrap_or(0)
     }
 }
@@ -116,5 +116,5 @@ impl<'f> Columns<'f> {
 /// A text that must be there and has a limit.
 pub fn check_text(text: Text, limit: u32, faults: &mut Faults) {
     faults.add_if(text.is_absent(), COLUMNS);
-    faults.add_if(text.length > limit, TEXT);
+    faults.add_at_if(text.length > limit, text.start, TEXT);
 }

@@ -1,4 +1,5 @@
-//! The files that documents 000 and 01 print, and document 01's answers to them.
+//! The files that documents 000 and 01 print, and document 01's answers to them, with the
+//! places that document 02 gives.
 
 use crate::Survey;
 
@@ -35,7 +36,7 @@ pub fn replaced(file: &[u8], from: &str, to: &str) -> Vec<u8> {
     .concat()
 }
 
-/// The cases that document 01 marks with a star.
+/// The cases that document 01 marks with a star. 15 and 19 point at a column.
 pub fn starred_cases() -> Vec<(Vec<u8>, Survey)> {
     vec![
         (A.to_vec(), answer(0, 126, 1, 126)),
@@ -47,10 +48,10 @@ pub fn starred_cases() -> Vec<(Vec<u8>, Survey)> {
         (changed("#FORMAT 3", "#FORMAT 4"), answer(9, 0, 0, 0)),
         (
             changed("#BOS 7 2 0 1", "#BOS 7 2 0 2"),
-            answer(15, 74, 0, 0),
+            answer(15, 85, 0, 0),
         ),
         (changed("-- 500", "-- 501"), answer(22, 119, 0, 0)),
-        (changed("S -- -- 0", "S -- -- 500"), answer(19, 104, 0, 0)),
+        (changed("S -- -- 0", "S -- -- 500"), answer(19, 117, 0, 0)),
         (changed("#500", "#501"), answer(21, 119, 0, 0)),
         (changed("#EOS 7", "#EOS 8"), answer(20, 119, 0, 0)),
     ]
@@ -64,7 +65,7 @@ pub fn cases_run_only() -> Vec<(Vec<u8>, Survey)> {
             answer(0, 127, 1, 127),
         ),
         (a_with_number("65535"), answer(0, 134, 1, 134)),
-        (a_with_number("65536"), answer(8, 74, 0, 0)),
+        (a_with_number("65536"), answer(8, 79, 0, 0)),
         (a_before_comment_line(4_096), answer(0, 4_223, 1, 126)),
         (a_before_comment_line(4_097), answer(5, 126, 1, 126)),
     ]

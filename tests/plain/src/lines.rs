@@ -1,6 +1,6 @@
 //! Lines: where they end, which bytes they may hold, which of them are ignored.
 
-use crate::refusals::{Faults, ILLEGAL_BYTE, LINE_TOO_LONG};
+use crate::refusals::{Fault, Faults, ILLEGAL_BYTE, LINE_TOO_LONG};
 
 pub const LONGEST_LINE: usize = 4_096;
 
@@ -48,7 +48,7 @@ impl<'f> Line<'f> {
     }
 
     /// The faults every line can have, the ignored ones too.
-    pub fn check_bytes(&self) -> Result<(), u32> {
+    pub fn check_bytes(&self) -> Result<(), Fault> {
         let bytes = self.bytes();
         let mut faults = Faults::default();
         faults.add_if(bytes.iter().any(|&byte| !is_legal(byte)), ILLEGAL_BYTE);

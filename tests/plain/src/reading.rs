@@ -42,14 +42,18 @@ pub fn read(file: &[u8]) -> Reading<'_> {
 }
 
 impl Reading<'_> {
-    /// Takes line after line; `place` stays at the first byte of the line judged.
+    /// Takes line after line; `place` stays at the first byte of the line judged, or
+    /// goes on to the column at fault.
     fn take_lines(&mut self) -> u32 {
         loop {
             match next_line(self.file, self.place) {
                 Next::FileEnd => return self.refusal_at_file_end(),
                 Next::UnendedRest => return UNENDED_REST,
                 Next::Line(line) => match self.take_line(line) {
-                    Err(refusal) => return refusal,
+                    Err(fault) => {
+                        self.place = fault.column.map_or(self.place, |column| column as usize);
+                        return fault.refusal;
+                    }
                     Ok(()) => self.place = line.end + 1,
                 },
             }
@@ -68,13 +72,13 @@ impl Reading<'_> {
         }
     }
 
-    fn take_line(&mut self, line: Line) -> Result<(), u32> {
+    fn take_line(&mut self, line: Line) -> Result<(), Fault> {
         line.check_bytes()?;
         if line.is_ignored() {
             return Ok(());
         }
         if line.begins_white() {
-            return Err(WRONG_KIND);
+            return Err(Fault::of_line(WRONG_KIND));
         }
         let columns = Columns::of(line);
         if !self.format_seen {
@@ -88,9 +92,9 @@ impl Reading<'_> {
         }
     }
 
-    fn take_format_line(&mut self, columns: &Columns) -> Result<(), u32> {
+    fn take_format_line(&mut self, columns: &Columns) -> Result<(), Fault> {
         if columns.bytes(0) != b"#FORMAT" {
-            return Err(WRONG_KIND);
+            return Err(Fault::of_line(WRONG_KIND));
         }
         let mut faults = Faults::default();
         let format = columns.number(1, FORMAT_NUMBERS.0, FORMAT_NUMBERS.1, &mut faults);
@@ -102,7 +106,7 @@ impl Reading<'_> {
     }
 
     /// Outside tables and sentences a table or a sentence may begin, nothing else.
-    fn take_line_outside(&mut self, columns: &Columns) -> Result<(), u32> {
+    fn take_line_outside(&mut self, columns: &Columns) -> Result<(), Fault> {
         match columns.bytes(0) {
             b"#BOT" if self.sentences.is_empty() => self.begin_table(columns),
             b"#BOS" => {
@@ -110,11 +114,11 @@ impl Reading<'_> {
                 self.open_sentence = Some(sentence);
                 Ok(())
             }
-            _ => Err(WRONG_KIND),
+            _ => Err(Fault::of_line(WRONG_KIND)),
         }
     }
 
-    fn begin_table(&mut self, columns: &Columns) -> Result<(), u32> {
+    fn begin_table(&mut self, columns: &Columns) -> Result<(), Fault> {
         let mut faults = Faults::default();
         faults.add_if(columns.count() != 2, COLUMNS);
         let name = table_named(columns.bytes(1)).filter(|&name| self.tables[name].is_none());
@@ -127,12 +131,12 @@ impl Reading<'_> {
         Ok(())
     }
 
-    fn take_line_in_table(&mut self, columns: &Columns) -> Result<(), u32> {
+    fn take_line_in_table(&mut self, columns: &Columns) -> Result<(), Fault> {
         if columns.bytes(0) == b"#EOT" {
             return self.end_table(columns);
         }
         if columns.bytes(0).starts_with(b"#") {
-            return Err(WRONG_KIND);
+            return Err(Fault::of_line(WRONG_KIND));
         }
         match &mut self.open_table {
             Some(table) => table.take_row(columns),
@@ -140,7 +144,7 @@ impl Reading<'_> {
         }
     }
 
-    fn end_table(&mut self, columns: &Columns) -> Result<(), u32> {
+    fn end_table(&mut self, columns: &Columns) -> Result<(), Fault> {
         let open = self.open_table.as_ref().map(|table| table.name);
         let mut faults = Faults::default();
         faults.add_if(columns.count() != 2, COLUMNS);
@@ -154,7 +158,7 @@ impl Reading<'_> {
         Ok(())
     }
 
-    fn take_line_in_sentence(&mut self, line: Line, columns: &Columns) -> Result<(), u32> {
+    fn take_line_in_sentence(&mut self, line: Line, columns: &Columns) -> Result<(), Fault> {
         let Some(open) = &mut self.open_sentence else {
             return Ok(());
         };

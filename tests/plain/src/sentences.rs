@@ -1,7 +1,9 @@
 //! The sentences: `#BOS`, words, phrases, `#EOS`.
 
 use crate::columns::{Columns, Text};
-use crate::numbers::{DATES, EDITOR_IDS, ORIGIN_IDS, PHRASE_NUMBERS, SENTENCE_NUMBERS};
+use crate::numbers::{
+    number_within, DATES, EDITOR_IDS, ORIGIN_IDS, PHRASE_NUMBERS, SENTENCE_NUMBERS,
+};
 use crate::refusals::*;
 use crate::tables::{
     longest_tag, tag_is_known, Tables, EDGETAG, EDITOR, MORPHTAG, NODETAG, NOT_BOUND, ORIGIN,
@@ -63,7 +65,7 @@ pub fn begin_sentence(
     columns: &Columns,
     tables: &Tables,
     number_used: &[bool],
-) -> Result<OpenSentence, u32> {
+) -> Result<OpenSentence, Fault> {
     let mut faults = Faults::default();
     let sentence = read_heading(columns, &mut faults);
     faults.add_if(
@@ -73,16 +75,15 @@ pub fn begin_sentence(
     faults.add_if(number_used[sentence.number as usize], SENTENCE_TWICE);
     let editor = sentence.editor;
     let editor_known = editor == -1 || editor == 0 || id_stands_in(tables, EDITOR, editor);
-    faults.add_if(
-        !editor_known || !id_stands_in(tables, ORIGIN, i64::from(sentence.origin)),
-        EDITOR_OR_ORIGIN,
-    );
+    faults.add_at_if(!editor_known, columns.text(2).start, EDITOR_OR_ORIGIN);
+    let origin_known = id_stands_in(tables, ORIGIN, i64::from(sentence.origin));
+    faults.add_at_if(!origin_known, columns.text(4).start, EDITOR_OR_ORIGIN);
     faults.judge(OpenSentence::empty(sentence))
 }
 
 /// Judges a `#BOS` line by what stands in it, whatever the tables and the other
 /// sentences are.
-pub fn begin_sentence_alone(columns: &Columns) -> Result<OpenSentence, u32> {
+pub fn begin_sentence_alone(columns: &Columns) -> Result<OpenSentence, Fault> {
     let mut faults = Faults::default();
     let sentence = read_heading(columns, &mut faults);
     faults.judge(OpenSentence::empty(sentence))
@@ -124,20 +125,20 @@ impl OpenSentence {
         }
     }
 
-    /// Adds the word or phrase that the line holds, or tells the line's refusal.
-    pub fn take_node(&mut self, columns: &Columns, tables: &Tables) -> Result<(), u32> {
+    /// Adds the word or phrase that the line holds, or tells the line's fault.
+    pub fn take_node(&mut self, columns: &Columns, tables: &Tables) -> Result<(), Fault> {
         let first = columns.bytes(0);
         if has_phrase_form(first) {
             return self.take_phrase(columns, tables);
         }
         let is_word = first == b"#" || first[0] != b'#';
         if !is_word || !self.sentence.phrases.is_empty() {
-            return Err(WRONG_KIND);
+            return Err(Fault::of_line(WRONG_KIND));
         }
         self.take_word(columns, tables)
     }
 
-    fn take_word(&mut self, columns: &Columns, tables: &Tables) -> Result<(), u32> {
+    fn take_word(&mut self, columns: &Columns, tables: &Tables) -> Result<(), Fault> {
         let mut faults = Faults::default();
         let mut node = self.read_node(columns, &mut faults);
         node.number = self.sentence.words.len() as u32;
@@ -150,15 +151,18 @@ impl OpenSentence {
         Ok(())
     }
 
-    fn take_phrase(&mut self, columns: &Columns, tables: &Tables) -> Result<(), u32> {
+    fn take_phrase(&mut self, columns: &Columns, tables: &Tables) -> Result<(), Fault> {
         let mut faults = Faults::default();
         let mut node = self.read_node(columns, &mut faults);
-        node.number = phrase_number(&columns.bytes(0)[1..], &mut faults);
+        node.number = phrase_number(columns, &mut faults);
         check_tags(&node, NODETAG, columns.file, tables, &mut faults);
         faults.add_if(self.has_phrase(node.number), PHRASE_TWICE);
-        faults.add_if(node.parent != 0 && node.parent <= node.number, PARENT);
-        let own_parent = |edge: &SecondaryEdge| edge.parent == node.number;
-        faults.add_if(node.secondary_edges.iter().any(own_parent), PARENT);
+        let too_small = node.parent != 0 && node.parent <= node.number;
+        faults.add_at_if(too_small, columns.text(4).start, PARENT);
+        for (index, edge) in (6..).step_by(2).zip(&node.secondary_edges) {
+            let itself = edge.parent == node.number;
+            faults.add_at_if(itself, columns.text(index).start, PARENT);
+        }
         let node = faults.judge(node)?;
         self.phrase_given[(node.number - FIRST_PHRASE) as usize] = true;
         self.sentence.secondary_edges += node.secondary_edges.len();
@@ -173,7 +177,8 @@ impl OpenSentence {
         faults.add_if(count < 5 || count % 2 != 1, COLUMNS);
         let parent = parent_number(columns, 4, faults);
         let edge = columns.text(3);
-        faults.add_if(parent == 0 && edge.of(columns.file) != NOT_BOUND, PARENT);
+        let bound = edge.of(columns.file) != NOT_BOUND;
+        faults.add_at_if(parent == 0 && bound, columns.text(4).start, PARENT);
         let secondary_edges = read_secondary_edges(columns, count, faults);
         let edges_so_far = self.sentence.secondary_edges + secondary_edges.len();
         faults.add_if(edges_so_far > MOST_SECONDARY_EDGES, TOO_MANY_NODES);
@@ -196,7 +201,7 @@ impl OpenSentence {
     }
 
     /// Judges an `#EOS` line in this sentence.
-    pub fn check_end(&self, columns: &Columns) -> Result<(), u32> {
+    pub fn check_end(&self, columns: &Columns) -> Result<(), Fault> {
         let mut faults = Faults::default();
         let number = columns.number(1, SENTENCE_NUMBERS.0, SENTENCE_NUMBERS.1, &mut faults);
         faults.add_if(columns.count() > 2, COLUMNS);
@@ -221,16 +226,19 @@ impl OpenSentence {
     }
 }
 
-fn phrase_number(digits: &[u8], faults: &mut Faults) -> u32 {
-    let number = crate::numbers::number_within(digits, PHRASE_NUMBERS.0, PHRASE_NUMBERS.1);
-    faults.add_if(number.is_none(), NUMBER);
+/// The number behind the `#` that begins the first column.
+fn phrase_number(columns: &Columns, faults: &mut Faults) -> u32 {
+    let digits = &columns.bytes(0)[1..];
+    let number = number_within(digits, PHRASE_NUMBERS.0, PHRASE_NUMBERS.1);
+    faults.add_at_if(number.is_none(), columns.text(0).start, NUMBER);
     number.unwrap_or(0) as u32
 }
 
 /// A parent is 0 or a phrase number.
 fn parent_number(columns: &Columns, index: usize, faults: &mut Faults) -> u32 {
     let number = columns.number(index, 0, PHRASE_NUMBERS.1, faults);
-    faults.add_if((1..PHRASE_NUMBERS.0).contains(&number), NUMBER);
+    let below = (1..PHRASE_NUMBERS.0).contains(&number);
+    faults.add_at_if(below, columns.text(index).start, NUMBER);
     number as u32
 }
 
@@ -255,11 +263,9 @@ fn read_secondary_edges(
 /// Length and table of each of the node's tags.
 fn check_tags(node: &Node, tag_table: usize, file: &[u8], tables: &Tables, faults: &mut Faults) {
     let mut check = |text: Text, table: usize| {
-        faults.add_if(text.length > longest_tag(table), TEXT);
-        faults.add_if(
-            !tag_is_known(tables, table, file, text.of(file)),
-            TAG_UNKNOWN,
-        );
+        faults.add_at_if(text.length > longest_tag(table), text.start, TEXT);
+        let known = tag_is_known(tables, table, file, text.of(file));
+        faults.add_at_if(!known, text.start, TAG_UNKNOWN);
     };
     check(node.tag, tag_table);
     check(node.morphology, MORPHTAG);

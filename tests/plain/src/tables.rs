@@ -2,7 +2,7 @@
 
 use crate::columns::{check_text, trimmed, Columns, Text};
 use crate::numbers::{EDITOR_IDS, ORIGIN_IDS, TAG_ROW_IDS};
-use crate::refusals::{Faults, ROW, TEXT, TOO_MANY_ROWS};
+use crate::refusals::{Fault, Faults, ROW, TEXT, TOO_MANY_ROWS};
 
 /// The tables' names in the order of the table sheet and of the tidy text.
 pub const NAMES: [&str; 7] = [
@@ -70,8 +70,8 @@ impl Table {
         self.rows.iter().any(|row| row.first.of(file) == text)
     }
 
-    /// Adds the row that the line holds, or tells the line's refusal.
-    pub fn take_row(&mut self, columns: &Columns) -> Result<(), u32> {
+    /// Adds the row that the line holds, or tells the line's fault.
+    pub fn take_row(&mut self, columns: &Columns) -> Result<(), Fault> {
         let mut faults = Faults::default();
         faults.add_if(self.rows.len() >= MOST_ROWS, TOO_MANY_ROWS);
         let row = match self.name {
@@ -88,7 +88,8 @@ impl Table {
         faults.add_if(self.has_id(id), ROW);
         let (name, comment) = name_and_comment(columns.file, columns.text_behind(0));
         check_text(name, LONGEST_ORIGIN_NAME, faults);
-        faults.add_if(comment.length > LONGEST_ORIGIN_COMMENT, TEXT);
+        let too_long = comment.length > LONGEST_ORIGIN_COMMENT;
+        faults.add_at_if(too_long, comment.start, TEXT);
         Row {
             id,
             first: name,
@@ -116,7 +117,7 @@ impl Table {
         let id = columns.number(0, TAG_ROW_IDS.0, TAG_ROW_IDS.1, faults);
         let tag = columns.text(1);
         check_text(tag, longest_tag(self.name), faults);
-        self.check_tag(id, tag.of(columns.file), columns.file, faults);
+        self.check_tag(id, tag, columns.file, faults);
         let (flag, last_column) = self.flag(columns, faults);
         let description = columns.text_behind(last_column);
         check_text(description, LONGEST_DESCRIPTION, faults);
@@ -128,8 +129,10 @@ impl Table {
         }
     }
 
-    fn check_tag(&self, id: i64, tag: &[u8], file: &[u8], faults: &mut Faults) {
-        faults.add_if(tag == b"%%", TEXT);
+    fn check_tag(&self, id: i64, tag: Text, file: &[u8], faults: &mut Faults) {
+        let place = tag.start;
+        let tag = tag.of(file);
+        faults.add_at_if(tag == b"%%", place, TEXT);
         faults.add_if(!self.id_is_next(id), ROW);
         faults.add_if((id == -1) != (tag == UNKNOWN), ROW);
         faults.add_if((id == 0) != (tag == NOT_BOUND), ROW);
@@ -143,7 +146,8 @@ impl Table {
             return (false, 1);
         }
         let flag = columns.bytes(2);
-        faults.add_if(flag != b"Y" && flag != b"N", TEXT);
+        let neither = flag != b"Y" && flag != b"N";
+        faults.add_at_if(neither, columns.text(2).start, TEXT);
         (flag == b"Y", 2)
     }
 

@@ -37,7 +37,7 @@ fn assert_answered(cases: Vec<(Vec<u8>, plain::Survey)>) {
 fn parent_of_a_phrase_must_be_larger() {
     assert_eq!(
         survey_of(&changed("S -- -- 0", "S -- SB 500")),
-        survey(19, 104, 0, 0)
+        survey(19, 117, 0, 0)
     );
 }
 

@@ -130,6 +130,12 @@ fn secondary_edges_point_up_and_down_and_in_circles() {
     assert!(up > 2_000 && down > 2_000 && circles > 500, "{found:?}");
 }
 
+/// The first byte of the line that a place stands in.
+fn line_start(file: &[u8], place: usize) -> usize {
+    let newline = file[..place].iter().rposition(|&byte| byte == b'\n');
+    newline.map_or(0, |newline| newline + 1)
+}
+
 /// The secondary parents in the line of a file that begins at a place.
 fn secondary_parents(file: &[u8], place: usize) -> Vec<String> {
     let line = file[place..].split(|&byte| byte == b'\n').next();
@@ -146,9 +152,9 @@ fn damaged_files_cite_themselves_and_absent_phrases() {
         let file = damaged(seed, size_of(seed));
         let answer = survey_of(&file);
         if answer.refusal == 19 {
-            let place = answer.place as usize;
-            let own = String::from_utf8_lossy(&file[place + 1..place + 4]).into_owned();
-            themselves += usize::from(secondary_parents(&file, place).contains(&own));
+            let line = line_start(&file, answer.place as usize);
+            let own = String::from_utf8_lossy(&file[line + 1..line + 4]).into_owned();
+            themselves += usize::from(secondary_parents(&file, line).contains(&own));
         }
         if answer.refusal == 22 {
             absent += usize::from(absent_only_by_secondary_edges(&file));

@@ -8,20 +8,6 @@ use plain::documents::A;
 const BOS: &str = "#BOS 7 2 0 1\n";
 const EOS: &str = "#EOS 7\n";
 
-/// Judges `line` behind `before`; a refusal must be given at that line. What follows
-/// makes the file whole if the line is accepted.
-fn judge(before: &str, line: &str, after: &str, refusal: u32) {
-    let file = [before, line, "\n", after].concat();
-    let case = format!("{before}>>>{line}");
-    assert_judged(file.as_bytes(), before.len(), refusal, &case);
-}
-
-fn judge_all(before: &str, after: &str, cases: &[(&str, u32)]) {
-    for &(line, refusal) in cases {
-        judge(before, line, after, refusal);
-    }
-}
-
 fn long(length: usize) -> String {
     "x".repeat(length)
 }
@@ -155,14 +141,14 @@ const FORMAT_LINES: &[(&str, u32)] = &[
     ("#FORMAT 3 %%", 7),
     ("#FORMAT 4 %%", 7),
     ("#FORMAT x y", 7),
-    ("#FORMAT %%", 8),
-    ("#FORMAT 65536", 8),
-    ("#FORMAT 03", 8),
-    ("#FORMAT -1", 8),
-    ("#FORMAT +3", 8),
-    ("#FORMAT x", 8),
-    ("#FORMAT 3%%", 8),
-    ("#FORMAT 99999999999999999999", 8),
+    ("#FORMAT ^%%", 8),
+    ("#FORMAT ^65536", 8),
+    ("#FORMAT ^03", 8),
+    ("#FORMAT ^-1", 8),
+    ("#FORMAT ^+3", 8),
+    ("#FORMAT ^x", 8),
+    ("#FORMAT ^3%%", 8),
+    ("#FORMAT ^99999999999999999999", 8),
     ("#FORMAT 0", 9),
     ("#FORMAT 4", 9),
     ("#FORMAT 65535", 9),
@@ -276,8 +262,8 @@ fn lines_after_a_sentence() {
         ("#BOS 8 2 0 1", 0),
         ("#BOS 7 2 0 1", 14),
         ("#BOS 7 3 0 1", 14),
-        ("#BOS 8 3 0 1", 15),
-        ("#BOS 7 3 x 1", 8),
+        ("#BOS 8 ^3 0 1", 15),
+        ("#BOS 7 3 ^x 1", 8),
         ("#EOS 7", 6),
         ("Ja ITJ -- -- 0", 6),
         ("#500 S -- -- 0", 6),
@@ -357,9 +343,9 @@ fn origin_rows() {
         (format!("2 {name}%%{comment}"), 0),
         (format!("2 %% {comment}x"), 7),
         (format!("x {name}x"), 8),
-        (format!("2 {name}x"), 10),
-        (format!("1 {name}x"), 10),
-        (format!("2 {name} %% {comment}x"), 10),
+        (format!("2 ^{name}x"), 10),
+        (format!("1 ^{name}x"), 10),
+        (format!("2 {name} %% ^{comment}x"), 10),
     ];
     for (row, refusal) in rows {
         judge(before, &row, after, refusal);
@@ -423,9 +409,9 @@ fn editor_rows() {
         ("x lee Lee".to_string(), 8),
         ("-2 lee Lee".to_string(), 8),
         ("65536 lee Lee".to_string(), 8),
-        (format!("3 {login}x Lee"), 10),
-        (format!("3 lee {name}x"), 10),
-        (format!("2 lee {name}x"), 10),
+        (format!("3 ^{login}x Lee"), 10),
+        (format!("3 lee ^{name}x"), 10),
+        (format!("2 lee ^{name}x"), 10),
         ("2 lee Lee".to_string(), 11),
     ];
     let before = "#FORMAT 3\n#BOT ORIGIN\n#EOT ORIGIN\n#BOT EDITOR\n2 kim Kim\n";
@@ -453,13 +439,13 @@ fn word_tag_rows() {
         ("x NN a noun".to_string(), 8),
         ("-2 NN Y noun".to_string(), 8),
         ("65536 NN Y noun".to_string(), 8),
-        ("1 NN a noun".to_string(), 10),
-        ("1 NN y noun".to_string(), 10),
-        ("2 NN y noun".to_string(), 10),
-        ("1 NN YN noun".to_string(), 10),
-        ("1 %% Y noun".to_string(), 10),
-        (format!("1 {} Y noun", long(11)), 10),
-        (format!("1 NN Y {}", long(81)), 10),
+        ("1 NN ^a noun".to_string(), 10),
+        ("1 NN ^y noun".to_string(), 10),
+        ("2 NN ^y noun".to_string(), 10),
+        ("1 NN ^YN noun".to_string(), 10),
+        ("1 ^%% Y noun".to_string(), 10),
+        (format!("1 ^{} Y noun", long(11)), 10),
+        (format!("1 NN Y ^{}", long(81)), 10),
         ("2 NN Y noun".to_string(), 11),
         ("65535 NN Y noun".to_string(), 11),
         ("1 -- Y noun".to_string(), 11),
@@ -512,11 +498,11 @@ fn tag_lengths() {
         let before = format!("{TABLES}#BOT {name}\n");
         let after = format!("#EOT {name}\n");
         judge(&before, &format!("1 {} d", long(limit)), &after, 0);
-        judge(&before, &format!("1 {} d", long(limit + 1)), &after, 10);
+        judge(&before, &format!("1 ^{} d", long(limit + 1)), &after, 10);
         judge(&before, &format!("1 a \t{}\t", long(80)), &after, 0);
-        judge(&before, &format!("1 a {}", long(81)), &after, 10);
+        judge(&before, &format!("1 a ^{}", long(81)), &after, 10);
         judge(&before, "1 a", &after, 7);
-        judge(&before, "1 %% d", &after, 10);
+        judge(&before, "1 ^%% d", &after, 10);
         judge(&before, "1 a Y", &after, 0);
     }
 }
@@ -531,7 +517,7 @@ fn too_many_rows() {
     judge(&before, "255 x d", "", 12);
     judge(&before, "256 x d", "", 11);
     judge(&before, "255 t1 d", "", 11);
-    judge(&before, "255 %% d", "", 10);
+    judge(&before, "255 ^%% d", "", 10);
     judge(&before, "x x d", "", 8);
     judge(&before, "255 x", "", 7);
     let mut origins = "#FORMAT 3\n#BOT EDITOR\n#EOT EDITOR\n#BOT ORIGIN\n".to_string();
@@ -548,10 +534,10 @@ fn an_empty_table_is_present() {
     let table = [TABLES, "#BOT WORDTAG\n#EOT WORDTAG\n"].concat();
     let before = [table.as_str(), BOS].concat();
     let cases = [
-        ("Ja ITJ -- -- 0", 18),
+        ("Ja ^ITJ -- -- 0", 18),
         ("Ja -- x -- 0", 0),
         ("Ja UNKNOWN x -- 0", 0),
-        ("Ja unknown x -- 0", 18),
+        ("Ja ^unknown x -- 0", 18),
     ];
     judge_all(&before, EOS, &cases);
     let mut lent = Lent::with_old_contents();
@@ -574,25 +560,25 @@ const SENTENCE_BEGINNINGS: &[(&str, u32)] = &[
     ("#BOS 7 2 0 1 %%x", 7),
     ("#BOS 7 2 0 1 x %% y", 7),
     ("#BOS 7 %% 2 0 1", 7),
-    ("#BOS 7 2 0 %%", 8),
+    ("#BOS 7 2 0 ^%%", 8),
     ("#BOS 7 2 0 %% 1", 7),
-    ("#BOS 7 2 0 1%%x", 8),
-    ("#BOS 7 2 0 1%%", 8),
-    ("#BOS 0 2 0 1", 8),
-    ("#BOS 65536 2 0 1", 8),
-    ("#BOS -1 2 0 1", 8),
-    ("#BOS 07 2 0 1", 8),
-    ("#BOS 7 -2 0 1", 8),
-    ("#BOS 7 65536 0 1", 8),
-    ("#BOS 7 2 -1 1", 8),
-    ("#BOS 7 2 4294967296 1", 8),
-    ("#BOS 7 2 99999999999999999999999 1", 8),
-    ("#BOS 7 2 0 0", 8),
-    ("#BOS 7 2 0 65536", 8),
-    ("#BOS 7 3 x 1", 8),
-    ("#BOS 7 3 0 1", 15),
-    ("#BOS 7 1 0 1", 15),
-    ("#BOS 7 2 0 2", 15),
+    ("#BOS 7 2 0 ^1%%x", 8),
+    ("#BOS 7 2 0 ^1%%", 8),
+    ("#BOS ^0 2 0 1", 8),
+    ("#BOS ^65536 2 0 1", 8),
+    ("#BOS ^-1 2 0 1", 8),
+    ("#BOS ^07 2 0 1", 8),
+    ("#BOS 7 ^-2 0 1", 8),
+    ("#BOS 7 ^65536 0 1", 8),
+    ("#BOS 7 2 ^-1 1", 8),
+    ("#BOS 7 2 ^4294967296 1", 8),
+    ("#BOS 7 2 ^99999999999999999999999 1", 8),
+    ("#BOS 7 2 0 ^0", 8),
+    ("#BOS 7 2 0 ^65536", 8),
+    ("#BOS 7 3 ^x 1", 8),
+    ("#BOS 7 ^3 0 1", 15),
+    ("#BOS 7 ^1 0 1", 15),
+    ("#BOS 7 2 0 ^2", 15),
     ("#BOS7 2 0 1", 6),
     ("#bos 7 2 0 1", 6),
 ];
@@ -605,11 +591,11 @@ fn sentence_beginnings() {
     judge_all(
         no_origins,
         EOS,
-        &[("#BOS 7 0 0 1", 15), ("#BOS 7 -1 0 1", 15)],
+        &[("#BOS 7 0 0 ^1", 15), ("#BOS 7 -1 0 ^1", 15)],
     );
     let cases = [
         ("#BOS 7 2 0 1", 13),
-        ("#BOS 7 2 0 x", 8),
+        ("#BOS 7 2 0 ^x", 8),
         ("#BOS 7 2 0", 7),
         ("#BOS 7 9 0 9", 13),
     ];
@@ -624,12 +610,12 @@ const SENTENCE_ENDS: &[(&str, u32)] = &[
     ("#EOS 7 7", 7),
     ("#EOS 7 %%", 7),
     ("#EOS 8 %%", 7),
-    ("#EOS 0", 8),
-    ("#EOS 65536", 8),
-    ("#EOS -1", 8),
-    ("#EOS x", 8),
-    ("#EOS 07", 8),
-    ("#EOS %%", 8),
+    ("#EOS ^0", 8),
+    ("#EOS ^65536", 8),
+    ("#EOS ^-1", 8),
+    ("#EOS ^x", 8),
+    ("#EOS ^07", 8),
+    ("#EOS ^%%", 8),
     ("#EOS 8", 20),
     ("#EOS 65535", 20),
     ("#EOS7", 6),
@@ -651,7 +637,7 @@ fn sentence_ends() {
     judge_all(
         &gap,
         "",
-        &[("#EOS 8", 20), ("#EOS 7", 21), ("#EOS x", 8), ("#EOS", 7)],
+        &[("#EOS 8", 20), ("#EOS 7", 21), ("#EOS ^x", 8), ("#EOS", 7)],
     );
     let absent = [before.as_str(), "Ja ITJ -- -- 0 SB 501\n#500 S -- -- 0\n"].concat();
     judge_all(&absent, "", &[("#EOS 8", 20), ("#EOS 7", 22)]);
@@ -669,7 +655,7 @@ const WORD_LINES: &[(&str, u32)] = &[
     ("# ITJ -- -- 500", 0),
     ("# 500 S -- 0", 0),
     ("# 500 S -- -- 0", 7),
-    ("# 500 S -- SB", 8),
+    ("# 500 S -- ^SB", 8),
     ("500 ITJ -- -- 0", 0),
     ("BOS ITJ -- -- 0", 0),
     ("-1 -1 -1 -- 0", 0),
@@ -691,30 +677,30 @@ const WORD_LINES: &[(&str, u32)] = &[
     ("Ja ITJ -- -- x SB", 7),
     ("Ja ITJ -- -- 0 %%x", 7),
     ("Ja ITJ -- -- 0 SB 500 SB", 7),
-    ("Ja ITJ -- -- x", 8),
-    ("Ja ITJ -- -- 1", 8),
-    ("Ja ITJ -- -- 499", 8),
-    ("Ja ITJ -- -- 1000", 8),
-    ("Ja ITJ -- -- -1", 8),
-    ("Ja ITJ -- -- 0500", 8),
-    ("Ja ITJ -- -- 00", 8),
-    ("Ja ITJ -- -- 500%%", 8),
-    ("Ja ITJ -- SB 500 HD 0", 8),
-    ("Ja ITJ -- SB 500 HD 499", 8),
-    ("Ja ITJ -- SB 500 HD 1000", 8),
-    ("Ja ITJ -- SB 0 HD x", 8),
-    ("Ja ITJ12345678 -- -- 0", 10),
+    ("Ja ITJ -- -- ^x", 8),
+    ("Ja ITJ -- -- ^1", 8),
+    ("Ja ITJ -- -- ^499", 8),
+    ("Ja ITJ -- -- ^1000", 8),
+    ("Ja ITJ -- -- ^-1", 8),
+    ("Ja ITJ -- -- ^0500", 8),
+    ("Ja ITJ -- -- ^00", 8),
+    ("Ja ITJ -- -- ^500%%", 8),
+    ("Ja ITJ -- SB 500 HD ^0", 8),
+    ("Ja ITJ -- SB 500 HD ^499", 8),
+    ("Ja ITJ -- SB 500 HD ^1000", 8),
+    ("Ja ITJ -- SB 0 HD ^x", 8),
+    ("Ja ^ITJ12345678 -- -- 0", 10),
     ("Ja ITJ1234567 -- -- 0", 0),
-    ("Ja ITJ -- SB345678901 500", 10),
-    ("Ja ITJ -- SB345678901 0", 10),
+    ("Ja ITJ -- ^SB345678901 500", 10),
+    ("Ja ITJ -- ^SB345678901 0", 10),
     ("Ja ITJ -- SB34567890 500", 0),
-    ("Ja ITJ -- -- 0 SB345678901 500", 10),
+    ("Ja ITJ -- -- 0 ^SB345678901 500", 10),
     ("Ja ITJ -- -- 0 SB34567890 500", 0),
-    ("Ja ITJ12345678 -- -- x", 8),
+    ("Ja ITJ12345678 -- -- ^x", 8),
     ("Ja ITJ 12345678901234567890123456789012 -- 0", 0),
-    ("Ja ITJ 123456789012345678901234567890123 -- 0", 10),
-    ("Ja ITJ -- SB 0", 19),
-    ("Ja ITJ -- UNKNOWN 0", 19),
+    ("Ja ITJ ^123456789012345678901234567890123 -- 0", 10),
+    ("Ja ITJ -- SB ^0", 19),
+    ("Ja ITJ -- UNKNOWN ^0", 19),
     ("Ja ITJ -- UNKNOWN 500", 0),
     ("#x", 6),
     ("#-1", 6),
@@ -749,20 +735,20 @@ const PHRASE_LINES: &[(&str, u32)] = &[
     ("#1000 S -- -- 0", 8),
     ("#5000000000000 S -- -- 0", 8),
     ("#50000000000000000000000000000000000000000 S -- -- 0", 8),
-    ("#501 S -- -- 1", 8),
-    ("#501 S -- SB 502 SB 0", 8),
-    ("#500 S -- SB x", 8),
-    ("#501 S1234567890 -- -- 0", 10),
-    ("#500 S1234567890 -- -- 0", 10),
+    ("#501 S -- -- ^1", 8),
+    ("#501 S -- SB 502 SB ^0", 8),
+    ("#500 S -- SB ^x", 8),
+    ("#501 ^S1234567890 -- -- 0", 10),
+    ("#500 ^S1234567890 -- -- 0", 10),
     ("#500 S -- -- 0", 17),
     ("#500 S -- SB 0", 17),
-    ("#501 S -- -- 501", 19),
-    ("#501 S -- -- 500", 19),
-    ("#501 S -- SB 0", 19),
-    ("#501 S -- -- 0 SB 501", 19),
-    ("#501 S -- -- 0 SB 502 SB 501", 19),
-    ("#501 S -- -- 0 SB 501 SB 504", 19),
-    ("#501 S -- -- 500 SB 500", 19),
+    ("#501 S -- -- ^501", 19),
+    ("#501 S -- -- ^500", 19),
+    ("#501 S -- SB ^0", 19),
+    ("#501 S -- -- 0 SB ^501", 19),
+    ("#501 S -- -- 0 SB 502 SB ^501", 19),
+    ("#501 S -- -- 0 SB ^501 SB 504", 19),
+    ("#501 S -- -- ^500 SB 500", 19),
     ("#501 S -- -- 0 SB 500", 0),
     ("#501 S -- -- 0 SB 502 SB 500 SB 503", 0),
     ("#501 S -- SB 502 SB 500 SB 500", 0),
@@ -804,15 +790,15 @@ fn tags_of_words_in_their_tables() {
         ("Ja W M E 500 SE 500", 0),
         ("Ja -- UNKNOWN -- 500 UNKNOWN 500", 0),
         ("Ja UNKNOWN -- UNKNOWN 500 -- 500", 0),
-        ("Ja N M E 500", 18),
-        ("Ja W W E 500", 18),
-        ("Ja W M M 500", 18),
-        ("Ja W M E 500 E 500", 18),
-        ("Ja w M E 500", 18),
-        ("Ja W M SB 0", 18),
-        ("Ja W M E 0", 19),
-        ("Ja W M x1234567890 0", 10),
-        ("Ja N M E x", 8),
+        ("Ja ^N M E 500", 18),
+        ("Ja W ^W E 500", 18),
+        ("Ja W M ^M 500", 18),
+        ("Ja W M E 500 ^E 500", 18),
+        ("Ja ^w M E 500", 18),
+        ("Ja W M ^SB 0", 18),
+        ("Ja W M E ^0", 19),
+        ("Ja W M ^x1234567890 0", 10),
+        ("Ja N M E ^x", 8),
     ];
     judge_all(&one_tag_in_each_table(), &after, &cases);
 }
@@ -823,11 +809,11 @@ fn tags_of_phrases_in_their_tables() {
     let cases = [
         ("#500 N M E 501", 0),
         ("#500 UNKNOWN -- -- 0", 0),
-        ("#500 W M E 501", 18),
-        ("#500 N N E 501", 18),
-        ("#500 N M E 501 E 501", 18),
-        ("#500 N M x 500", 18),
-        ("#500 N M E 500", 19),
+        ("#500 ^W M E 501", 18),
+        ("#500 N ^N E 501", 18),
+        ("#500 N M E 501 ^E 501", 18),
+        ("#500 N M ^x 500", 18),
+        ("#500 N M E ^500", 19),
     ];
     judge_all(&one_tag_in_each_table(), &after, &cases);
 }
@@ -840,8 +826,8 @@ fn too_many_words_phrases_and_edges() {
     let cases = [
         ("Ja ITJ -- -- 0", 16),
         ("Ja ITJ -- SB 0", 16),
-        ("Ja ITJ123456789 -- SB 0", 10),
-        ("Ja ITJ -- -- x", 8),
+        ("Ja ^ITJ123456789 -- SB 0", 10),
+        ("Ja ITJ -- -- ^x", 8),
         ("Ja", 7),
         ("#500 S -- -- 0", 0),
     ];

@@ -170,14 +170,6 @@ judge-requires c κs =
     let k = asked (c .before .before .before .before .before .before .before .before) in
     (start (here k) .pre .0, line-here k .listed, ready (line-here k), outlined (here k))
 
-cast-stop-at-2 : tie.Need-cast-stop-at-2 Inv-loop μ-loop
-cast-stop-at-2 c =
-    let h = line-here (whole (c .before .before .before)) in
-    let b = inside h in
-    let o = onward h in
-    let w = h .short in
-    search needs
-
 abbrev refused-at : tie.After-stop-at2 Inv-loop μ-loop → Judged
 refused-at c = c .before .before .before .before
 
@@ -248,8 +240,8 @@ loop-again-2 c =
 closing-requires : tie.Need-closing-requires Inv-loop μ-loop
 closing-requires c κs = sheet-size _ _ _ _ _ (going (c .before .before))
 
-cast-stop-at-3 : tie.Need-cast-stop-at-3 Inv-loop μ-loop
-cast-stop-at-3 c =
+cast-stop-at-2 : tie.Need-cast-stop-at-2 Inv-loop μ-loop
+cast-stop-at-2 c =
     let l = c .before .before .before in
     let h = going l .in-file in
     let w = short l in
@@ -287,7 +279,6 @@ take-lines-spec =
     loop-again
     judge-requires
     (λ c. search needs)
-    cast-stop-at-2
     (λ c κs. search needs)
     (λ c. same-sheet (here (whole (refused-at c))))
     (λ c. same-seen (here (whole (refused-at c))))
@@ -300,7 +291,7 @@ take-lines-spec =
     loop-less-2
     loop-again-2
     closing-requires
-    cast-stop-at-3
+    cast-stop-at-2
     (λ c κs. search needs)
     (λ c. same-sheet (c .before .before .before .before))
     (λ c. same-seen (c .before .before .before .before))

@@ -118,6 +118,12 @@ fn main() -> io::Result<()> {
         tell(&generate::small(seed), &mut out)?;
         tell(&generate::accepted(seed, 1), &mut out)?;
         tell(&generate::damaged(seed, 1), &mut out)?;
+        for seed in 3 * seed..3 * (seed + 1) {
+            tell(
+                &generate::damaged_columns(seed, 1 + (seed % 6) as usize),
+                &mut out,
+            )?;
+        }
     }
     for path in arguments {
         tell(&std::fs::read(path)?, &mut out)?;

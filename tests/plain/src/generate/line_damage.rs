@@ -71,7 +71,7 @@ fn delete_column(line: &mut Vec<u8>, index: usize) {
 }
 
 /// Puts a column before another one, or at the line's end.
-fn insert_column(line: &mut Vec<u8>, index: usize, column: &[u8]) {
+pub fn insert_column(line: &mut Vec<u8>, index: usize, column: &[u8]) {
     let place = columns_of(line)
         .get(index)
         .map_or(line.len(), |&(start, _)| start);

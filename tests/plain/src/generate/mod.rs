@@ -6,6 +6,7 @@
 
 mod aimed;
 mod blind;
+mod columns_at_fault;
 mod corpus;
 mod dice;
 mod draft;
@@ -43,6 +44,14 @@ pub fn damaged(seed: u64, size: usize) -> Vec<u8> {
     let mut dice = Dice::new(seed ^ 0x5eed_da3a_6ed0_0000);
     let draft = draft_file(&mut dice, Measure::of_size(size));
     damage(&mut dice, draft)
+}
+
+/// An accepted file in which several columns of one line are damaged.
+pub fn damaged_columns(seed: u64, size: usize) -> Vec<u8> {
+    let mut dice = Dice::new(seed ^ 0xc010_3a5d_a3a6_0000);
+    let mut draft = draft_file(&mut dice, Measure::of_size(size));
+    columns_at_fault::several_columns_at_fault(&mut dice, &mut draft);
+    draft.bytes()
 }
 
 /// A small accepted file.
@@ -94,10 +103,11 @@ fn draft_file(dice: &mut Dice, measure: Measure) -> Draft {
 fn damage(dice: &mut Dice, mut draft: Draft) -> Vec<u8> {
     let rounds = if dice.one_in(5) { 2 } else { 1 };
     for _ in 0..rounds {
-        match dice.below(10) {
-            0..=5 => aimed::aim_at_any(dice, &mut draft),
-            6 => line_damage::two_faults_in_a_line(dice, &mut draft),
-            7 => blind::move_lines(dice, &mut draft),
+        match dice.below(12) {
+            0..=6 => aimed::aim_at_any(dice, &mut draft),
+            7 => line_damage::two_faults_in_a_line(dice, &mut draft),
+            8 => columns_at_fault::several_columns_at_fault(dice, &mut draft),
+            9 => blind::move_lines(dice, &mut draft),
             _ => return blind::change_bytes(dice, draft.bytes()),
         }
     }

@@ -104,15 +104,31 @@ pub fn survey_of(file: &[u8]) -> Survey {
     Lent::with_old_contents().survey(file)
 }
 
-/// A refusal must be given at the line that begins at `line`; 0 at the file's end.
-pub fn assert_judged(file: &[u8], line: usize, refusal: u32, case: &str) {
+/// A refusal must be given at `place`; 0 at the file's end.
+pub fn assert_judged(file: &[u8], place: usize, refusal: u32, case: &str) {
     let answer = survey_of(file);
-    let place = if refusal == 0 { file.len() } else { line };
+    let place = if refusal == 0 { file.len() } else { place };
     assert_eq!(
         (answer.refusal, answer.place as usize),
         (refusal, place),
         "{case}"
     );
+}
+
+/// Judges `line` behind `before`; a refusal must be given at that line, and at the column
+/// that `^` marks, if there is a mark. What follows makes the file whole if the line is
+/// accepted.
+pub fn judge(before: &str, line: &str, after: &str, refusal: u32) {
+    let place = before.len() + line.find('^').unwrap_or(0);
+    let file = [before, &line.replace('^', ""), "\n", after].concat();
+    let case = format!("{before}>>>{line}");
+    assert_judged(file.as_bytes(), place, refusal, &case);
+}
+
+pub fn judge_all(before: &str, after: &str, cases: &[(&str, u32)]) {
+    for &(line, refusal) in cases {
+        judge(before, line, after, refusal);
+    }
 }
 
 /// The tidy text of a file that must be accepted.
