@@ -16,7 +16,8 @@ use Rattle.rules.specs.Numbers.{Kind, wordLimit, edgeLimit, sentenceNumber, phr
 use Rattle.rules.specs.Rules.{Rule, rule, granted}
 use Rattle.rules.specs.Tables.{Tables, wordTags, nodeTags, tableNames, placeFrom, tableNamed, table, present}
 use Rattle.rules.specs.Sentences.{Edge, Node, Heading, SoFar, headingOf}
-use Rattle.rules.specs.Nodes.{Pair, secondaryParent, asEdge, parentField, itsParent, itsPairs, shaped, parentsWritten, tagsShort, tagsKnown, roomy, wordOf, phraseOf}
+use Rattle.rules.specs.Pairs.{Pair, secondaryParent, asEdge}
+use Rattle.rules.specs.Nodes.{parentField, itsParent, itsPairs, shaped, parentsWritten, tagsShort, tagsKnown, roomy, wordOf, phraseOf}
 use Rattle.rules.specs.Keywords.{fresh, tableOpened}
 use Rattle.rules.proofs.Conjunctions.{and-left, and-right, and-both, not-true, or-found, or-false, every-front, every-back}
 use Rattle.rules.proofs.RuleLaws.{holdsOf, granted-holds}

@@ -10,7 +10,8 @@ use lib.ListN.{length, drop, length-drop}
 use Rattle.rules.specs.Texts.{Text}
 use Rattle.rules.specs.Columns.{written, text}
 use Rattle.rules.specs.Numbers.{fileLimit, phraseNumber, number}
-use Rattle.rules.specs.Nodes.{pairs, paired, shaped}
+use Rattle.rules.specs.Pairs.{pairs, paired}
+use Rattle.rules.specs.Nodes.{shaped}
 use Rattle.rules.proofs.Conjunctions.{and-left, and-right}
 use Rattle.columns.specs.Listing.{columnsOf, Listed}
 use Rattle.columns.specs.declared.listing.Line.{Line}

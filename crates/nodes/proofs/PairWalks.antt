@@ -14,7 +14,7 @@ use Rattle.rules.specs.Lists.{pick}
 use Rattle.rules.specs.Texts.{Text, noText}
 use Rattle.rules.specs.Columns.{text}
 use Rattle.rules.specs.Rules.{Rule}
-use Rattle.rules.specs.Nodes.{Pair, pairs, paired}
+use Rattle.rules.specs.Pairs.{Pair, pairs, paired}
 use Rattle.rules.specs.Numbers.{value}
 use Rattle.rules.specs.Highest.{larger}
 use Rattle.rules.proofs.Largest.{larger-assoc, larger-zero}

@@ -17,7 +17,8 @@ use Rattle.rules.specs.Numbers.{wordLimit, edgeLimit, parentNumber, decimal, go
 use Rattle.rules.specs.Tables.{Tables, wordTags, nodeTags}
 use Rattle.rules.specs.Sentences.{SoFar}
 use Rattle.rules.specs.Lines.{takenAs, wordLine, phraseLine}
-use Rattle.rules.specs.Nodes.{nodeOf, shaped, pairs, paired, parentsWritten, tagsShort, tagsKnown, parentsAllowed, wordOf, phraseOf}
+use Rattle.rules.specs.Pairs.{pairs, paired}
+use Rattle.rules.specs.Nodes.{nodeOf, shaped, parentsWritten, tagsShort, tagsKnown, parentsAllowed, wordOf, phraseOf}
 use Rattle.rules.proofs.Conjunctions.{and-both}
 use Rattle.rules.proofs.Same.{same-eq}
 use Rattle.rules.proofs.Largest.{larger-zero}

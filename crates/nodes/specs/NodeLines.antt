@@ -14,6 +14,7 @@ use Rattle.rules.specs.Numbers.{phraseNumber, number, good, value}
 use Rattle.rules.specs.Rules.{Rule, rule}
 use Rattle.rules.specs.Tables.{Tables, secEdgeTags, known, tagLimit}
 use Rattle.rules.specs.Highest.{larger, largest, edgeParent}
+use Rattle.rules.specs.Pairs.{Pair, pairs, paired, asEdge, isAnother}
 use Rattle.rules.specs.Nodes as nodes
 use Rattle.columns.specs.Listing.{columnsOf, Listed}
 use Rattle.columns.specs.declared.listing.Line.{Line}
@@ -35,8 +36,8 @@ pub record FieldAt (file : List ℕ) (line : Line) (places : List ℕ) (k : ℕ)
   pub inside : k < length (fieldsOf file line)
 
 -- the pairs from a field on
-abbrev pub pairsFrom : List Text → ℕ → List nodes.Pair
-pairsFrom fs k = nodes.pairs (drop k fs)
+abbrev pub pairsFrom : List Text → ℕ → List Pair
+pairsFrom fs k = pairs (drop k fs)
 
 -- a listed line with so many fields: five, and pairs behind them
 pub record Whole (file : List ℕ) (line : Line) (places : List ℕ) (count : ℕ) : Type 0 where
@@ -44,30 +45,30 @@ pub record Whole (file : List ℕ) (line : Line) (places : List ℕ) (count : �
   pub counted : count ≡ length (fieldsOf file line)
   pub five : 5 ≤ count
   pub few : count ≤ columnLimit
-  pub even : nodes.paired (drop 5 (fieldsOf file line)) ≡ true
+  pub even : paired (drop 5 (fieldsOf file line)) ≡ true
 
 -- ---- what each rule asks of a pair
 
 abbrev pub phraseIn : Text → Option ℕ
 phraseIn t = number phraseNumber (t .bytes)
 
-abbrev pub parentWritten : nodes.Pair → Rule
+abbrev pub parentWritten : Pair → Rule
 parentWritten p = rule 8 (p .parent) (good (phraseIn (p .parent)))
 
-abbrev pub labelShort : nodes.Pair → Rule
+abbrev pub labelShort : Pair → Rule
 labelShort p = rule 10 (p .label) (atMost (tagLimit secEdgeTags) (p .label))
 
-abbrev pub labelKnown : Tables → nodes.Pair → Rule
+abbrev pub labelKnown : Tables → Pair → Rule
 labelKnown ts p = rule 18 (p .label) (known ts secEdgeTags (p .label))
 
-abbrev pub parentDiffers : ℕ → nodes.Pair → Rule
-parentDiffers its-number p = rule 19 (p .parent) (nodes.isAnother its-number p)
+abbrev pub parentDiffers : ℕ → Pair → Rule
+parentDiffers its-number p = rule 19 (p .parent) (isAnother its-number p)
 
 -- ---- the parents
 
 -- the highest of the secondary parents
-abbrev pub highestOf : List nodes.Pair → ℕ
-highestOf ps = largest edgeParent (map nodes.asEdge ps)
+abbrev pub highestOf : List Pair → ℕ
+highestOf ps = largest edgeParent (map asEdge ps)
 
 abbrev pub highestIn : ℕ → List Text → ℕ
 highestIn format fs = larger (value (nodes.itsParent format fs)) (highestOf (nodes.itsPairs format fs))

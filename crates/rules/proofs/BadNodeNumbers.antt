@@ -16,7 +16,8 @@ use Rattle.rules.specs.Numbers.{wordLimit, phraseNumber, number, parentN
 use Rattle.rules.specs.Rules.{Rule, rule}
 use Rattle.rules.specs.Tables.{Tables, wordTags, nodeTags}
 use Rattle.rules.specs.Sentences.{Node, SoFar, Sentence, soFar}
-use Rattle.rules.specs.Nodes.{Pair, secondaryParent, itsParent, itsPairs, parentsWritten, tagsShort, tagsKnown, parentsAllowed, roomy, wordOf, phraseOf}
+use Rattle.rules.specs.Pairs.{Pair, secondaryParent}
+use Rattle.rules.specs.Nodes.{itsParent, itsPairs, parentsWritten, tagsShort, tagsKnown, parentsAllowed, roomy, wordOf, phraseOf}
 use Rattle.rules.specs.Keywords.{digits, firstColumn, startsWord, startsPhrase}
 use Rattle.rules.specs.Phases.{Preamble, inSentence, Answer, next}
 use Rattle.rules.specs.GrammarNumbers.{phraseRange}

@@ -182,7 +182,7 @@ module _ (front : List ℕ) (c : Clean front) (l : List ℕ) (o : OneLine l) whe
     survey-line = survey-is (lineIn front l x) fits ∙ ap answered (line-read front l (clean-fresh front c) o x)
 
     -- the line is refused, or what is refused lies behind it
-    refused-here : (q : Rule) → stepped ≡ refuse q → RefusedBy (q .number) (q .about .start) (lineIn front l x)
+    pub refused-here : (q : Rule) → stepped ≡ refuse q → RefusedBy (q .number) (q .about .start) (lineIn front l x)
     refused-here q e =
         let r = ended lineEnd (refuse q) in
         let behind : read (ended lineEnd stepped) x ≡ record { at = r .at + length x; lineStart = r .lineStart; part = r .part; phase = r .phase; handed = r .handed; fault = some (faultOf q) } =

@@ -18,7 +18,8 @@ use Rattle.rules.specs.Rules.{Rule, rule}
 use Rattle.rules.specs.Tables.{Tables, noTables}
 use Rattle.rules.specs.Rows.{rowOf}
 use Rattle.rules.specs.Sentences.{Edge, Node, Sentence, gapless, parented, headingOf, endRules, endOf, soFar}
-use Rattle.rules.specs.Nodes.{Pair, asEdge, isAnother, itsParent, itsPairs, parentsAllowed, wordOf, phraseOf}
+use Rattle.rules.specs.Pairs.{Pair, asEdge, isAnother}
+use Rattle.rules.specs.Nodes.{itsParent, itsPairs, parentsAllowed, wordOf, phraseOf}
 use Rattle.rules.specs.Keywords.{formatOf, tableOpened, tableEnded, firstColumn, startsRow, startsWord, startsPhrase}
 use Rattle.rules.specs.Phases.{Preamble, Phase, start, top, inTable, inSentence, behindSentence, Answer, refuse, go, hand, next, step}
 use Rattle.rules.specs.Reading.{Handed, begin, read}

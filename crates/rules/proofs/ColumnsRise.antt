@@ -15,21 +15,27 @@ use Rattle.rules.proofs.TextPlaces.{Part, Loose, Placed, trim-placed, C
 
 -- ---- inside a line
 
--- of bytes that begin at a place
-abbrev pub Inside : ℕ → List ℕ → Text → Type 0
-Inside at bs t = (at ≤ t .start) × (t .start < at + length bs)
+-- a part of bytes that begin at a place, not an empty one
+pub record Inside (at : ℕ) (bs : List ℕ) (t : Text) : Type 0 where
+  pub part : Part at bs t
+  pub some : 1 ≤ length (t .bytes)
+
+module _ (at : ℕ) (bs : List ℕ) (t : Text) (i : Inside at bs t) where
+  pub inside-from : at ≤ t .start
+  inside-from = omega (arith, i .part .place)
+
+  pub inside-up-to : t .start < at + length bs
+  inside-up-to =
+      let p = i .part in
+      omega (arith, i .some, p .place, ap length (p .parts), length-append (p .front) (t .bytes ++ p .back), length-append (t .bytes) (p .back))
 
 some-bytes : (bs : List ℕ) → (bs ≡ [] → ⊥) → 1 ≤ length bs
 some-bytes [] n = absurd (n refl)
 some-bytes (b ∷ bs) n = omega arith
 
-part-inside : (at : ℕ) (bs : List ℕ) (t : Text) → Part at bs t → 1 ≤ length (t .bytes) → Inside at bs t
-part-inside at bs t p n =
-    (omega (arith, p .place), omega (arith, p .place, ap length (p .parts), length-append (p .front) (t .bytes ++ p .back), length-append (t .bytes) (p .back)))
-
 pub placed-inside : (at : ℕ) (bs : List ℕ) (t : Text) → Placed at bs t → 1 ≤ length (t .bytes) → Inside at bs t
 placed-inside at bs t (inl e) n = absurd (omega (arith, ap (λ (u : Text). length (u .bytes)) e))
-placed-inside at bs t (inr p) n = part-inside at bs t (p .0) n
+placed-inside at bs t (inr p) n = record { part = p .0; some = n }
 
 -- ---- columns
 
@@ -87,7 +93,7 @@ module _ (cs : List Column) (r : Rise cs) where
 pub column-inside : (at : ℕ) (bs : List ℕ) (n : ℕ) → n < length (columnsFrom at bs) → Inside at bs (column (columnsFrom at bs) n .text)
 column-inside at bs n h =
     let k = each-at (ColumnIn at bs) (columnsFrom at bs) (columns-in at bs) n h in
-    part-inside at bs (column (columnsFrom at bs) n .text) (k .text) (some-bytes (column (columnsFrom at bs) n .text .bytes) (k .some))
+    record { part = k .text; some = some-bytes (column (columnsFrom at bs) n .text .bytes) (k .some) }
 
 -- ---- the columns in front of a comment
 
@@ -120,7 +126,7 @@ fields-sorted (c ∷ cs) r = by (reads percents (c .text)) (fields-sorted cs (r 
 pub fields-inside : (at : ℕ) (bs : List ℕ) → Each (Inside at bs) (fields (columnsFrom at bs))
 fields-inside at bs =
     fields-each (Inside at bs) (columnsFrom at bs)
-    (each-then (ColumnIn at bs) (λ (c : Column). Inside at bs (c .text)) (λ c k. part-inside at bs (c .text) (k .text) (some-bytes (c .text .bytes) (k .some))) (columnsFrom at bs) (columns-in at bs))
+    (each-then (ColumnIn at bs) (λ (c : Column). Inside at bs (c .text)) (λ c k. record { part = k .text; some = some-bytes (c .text .bytes) (k .some) }) (columnsFrom at bs) (columns-in at bs))
 
 -- ---- texts behind a column
 
@@ -154,5 +160,5 @@ name-then-note t m n = by (behind-after (t .start) (t .bytes))
     note = trim-inside (behind t) n
 
     by : (behind t ≡ noText) ⊎ (t .start + length (frontBytes (t .bytes)) ≤ behind t .start) → NotBefore (trim (inFront t)) (trim (behind t))
-    by (inl e) = absurd (omega (arith, note .0, note .1, ap (λ (u : Text). length (u .bytes)) e))
-    by (inr h) = omega (arith, name .0, name .1, note .0, h)
+    by (inl e) = absurd (omega (arith, inside-from _ _ _ note, inside-up-to _ _ _ note, ap (λ (u : Text). length (u .bytes)) e))
+    by (inr h) = omega (arith, inside-from _ _ _ name, inside-up-to _ _ _ name, inside-from _ _ _ note, h)

@@ -17,7 +17,8 @@ use Rattle.rules.specs.Rules.{broken, checked}
 use Rattle.rules.specs.Tables.{hasId, hasTag, known}
 use Rattle.rules.specs.Rows.{originRow, editorRow, tagRow}
 use Rattle.rules.specs.Sentences.{Edge, Node, headingOf, endRules, endOf}
-use Rattle.rules.specs.Nodes.{pairs, paired, parentsWritten, tagsShort, tagsKnown, parentsAllowed, wordOf, phraseOf}
+use Rattle.rules.specs.Pairs.{pairs, paired}
+use Rattle.rules.specs.Nodes.{parentsWritten, tagsShort, tagsKnown, parentsAllowed, wordOf, phraseOf}
 use Rattle.rules.specs.Keywords.{formatOf, tableOpened, tableEnded, firstColumn}
 use Rattle.rules.specs.Lines.{atStart, behindOne, atTop, amongRows, amongNodes}
 use Rattle.rules.specs.Phases.{lineAt, taken, judged, after, step}

@@ -13,7 +13,8 @@ use Rattle.rules.specs.Numbers.{valueFrom, decimal}
 use Rattle.rules.specs.Rules.{broken, checked}
 use Rattle.rules.specs.Tables.{hasId, hasTag, known}
 use Rattle.rules.specs.Sentences.{Sentence, headingOf, endRules, endOf}
-use Rattle.rules.specs.Nodes.{pairs, paired, parentsWritten, tagsShort, tagsKnown, parentsAllowed, wordOf, phraseOf}
+use Rattle.rules.specs.Pairs.{pairs, paired}
+use Rattle.rules.specs.Nodes.{parentsWritten, tagsShort, tagsKnown, parentsAllowed, wordOf, phraseOf}
 use Rattle.rules.specs.Keywords.{firstColumn}
 use Rattle.rules.specs.Lines.{behindOne, amongNodes}
 use Rattle.rules.specs.Phases.{lineAt, taken, judged, after, step}

@@ -16,7 +16,8 @@ use Rattle.rules.specs.Rules.{Rule, rule, broken, unless, checked}
 use Rattle.rules.specs.Tables.{Tables, Row, origins, editors, wordTags, nodeTags, secEdgeTags, known, tagLimit}
 use Rattle.rules.specs.Rows.{originRow, editorRow, tagRow, rowOf}
 use Rattle.rules.specs.Sentences.{Node, headingOf, endRules, endOf, SoFar, soFar}
-use Rattle.rules.specs.Nodes.{Pair, secondaryParent, isAnother, itsPairs, roomy, wordOf, phraseOf, parentsWritten, tagsShort, tagsKnown, parentsAllowed}
+use Rattle.rules.specs.Pairs.{Pair, secondaryParent, isAnother}
+use Rattle.rules.specs.Nodes.{itsPairs, roomy, wordOf, phraseOf, parentsWritten, tagsShort, tagsKnown, parentsAllowed}
 use Rattle.rules.specs.Keywords.{formatOf, tableOpened, tableEnded, firstColumn, startsRow, startsWord, startsPhrase}
 use Rattle.rules.specs.Phases.{Preamble, Phase, start, top, inTable, inSentence, behindSentence, Answer, refuse, go, hand, next, step}
 use Rattle.rules.proofs.Takings.{answerStart, answerBehind, answerTop, answerRows, answerNodes, answerAt, answerTo, lineRules, step-answers}

@@ -14,7 +14,8 @@ use Rattle.rules.specs.Numbers.{phraseNumber, number}
 use Rattle.rules.specs.Rules.{Rule}
 use Rattle.rules.specs.Tables.{Tables, wordTags, nodeTags}
 use Rattle.rules.specs.Sentences.{Node, Sentence, edgesOf, gapless, parented, endRules, endOf, soFar}
-use Rattle.rules.specs.Nodes.{itsPairs, asEdge, wordOf, phraseOf}
+use Rattle.rules.specs.Pairs.{asEdge}
+use Rattle.rules.specs.Nodes.{itsPairs, wordOf, phraseOf}
 use Rattle.rules.specs.Keywords.{firstColumn, startsWord, startsPhrase}
 use Rattle.rules.specs.Phases.{Preamble, Answer, refuse, hand, next}
 use Rattle.rules.specs.Meaning.{bareEdge, bareNode, bareHeading, sentenceNumberOf}

@@ -18,7 +18,8 @@ use Rattle.rules.specs.Rules.{Rule, broken, unless, checked}
 use Rattle.rules.specs.Tables.{Tables, Row, origins, editors, wordTags}
 use Rattle.rules.specs.Rows.{originRow, editorRow, tagRow, rowOf}
 use Rattle.rules.specs.Sentences.{Edge, Node, SoFar}
-use Rattle.rules.specs.Nodes.{Pair, pairs, asEdge, itsPairs, pairsField, nodeOf, wordOf, phraseOf}
+use Rattle.rules.specs.Pairs.{Pair, pairs, asEdge}
+use Rattle.rules.specs.Nodes.{itsPairs, pairsField, nodeOf, wordOf, phraseOf}
 use Rattle.rules.specs.Keywords.{firstColumn}
 use Rattle.rules.specs.Phases.{Answer, refuse, next}
 use Rattle.rules.specs.Places.{LiesIn, RowLies, NodeLies}

@@ -13,7 +13,8 @@ use Rattle.rules.specs.Texts.{Text}
 use Rattle.rules.specs.Columns.{text}
 use Rattle.rules.specs.Numbers.{value}
 use Rattle.rules.specs.Sentences.{Edge, Node}
-use Rattle.rules.specs.Nodes.{Pair, pairs, paired, secondaryParent, parentField, itsTag, itsMorphology, itsEdge, shaped, itsPairs}
+use Rattle.rules.specs.Pairs.{Pair, pairs, paired, secondaryParent}
+use Rattle.rules.specs.Nodes.{parentField, itsTag, itsMorphology, itsEdge, shaped, itsPairs}
 use Rattle.rules.specs.GrammarNodes.{EdgeSaid, NodeLine, pairColumns, nodeColumns}
 use Rattle.rules.proofs.AnyLine.{bytesOf}
 use Rattle.rules.proofs.SaidOfLists.{and-both-ways}

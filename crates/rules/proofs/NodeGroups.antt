@@ -14,7 +14,8 @@ use Rattle.rules.specs.Columns.{columns, text, fields}
 use Rattle.rules.specs.Numbers.{good}
 use Rattle.rules.specs.Rules.{Rule, rule}
 use Rattle.rules.specs.Tables.{Tables}
-use Rattle.rules.specs.Nodes.{Pair, paired, secondaryParent, itsPairs, shaped, parentsWritten, tagsShort, tagsKnown, parentsAllowed}
+use Rattle.rules.specs.Pairs.{Pair, paired, secondaryParent}
+use Rattle.rules.specs.Nodes.{itsPairs, shaped, parentsWritten, tagsShort, tagsKnown, parentsAllowed}
 use Rattle.rules.specs.GrammarLines.{In}
 use Rattle.rules.proofs.Conjunctions.{and-left}
 use Rattle.rules.proofs.EachElement.{each-then, each-both, each-joined}

@@ -15,7 +15,8 @@ use Rattle.rules.specs.Columns.{text}
 use Rattle.rules.specs.Numbers.{phraseNumber, number, parentNumber, good, value}
 use Rattle.rules.specs.Rules.{Rule, rule}
 use Rattle.rules.specs.Tables.{Tables, morphTags, edgeTags, secEdgeTags, dashes, known, tagLimit}
-use Rattle.rules.specs.Nodes.{parentField, Pair, secondaryParent, asEdge, isAnother, nodeOf, itsTag, itsMorphology, itsEdge, itsParent, itsPairs, parentsWritten, tagsShort, tagsKnown, parentsAllowed}
+use Rattle.rules.specs.Pairs.{Pair, secondaryParent, asEdge, isAnother}
+use Rattle.rules.specs.Nodes.{parentField, nodeOf, itsTag, itsMorphology, itsEdge, itsParent, itsPairs, parentsWritten, tagsShort, tagsKnown, parentsAllowed}
 use Rattle.rules.proofs.EachElement.{each-joined, each-front, each-back, each-map, each-mapped, each-both}
 use Rattle.rules.proofs.ColumnsSaid.{front-said}
 use Rattle.rules.proofs.BareColumns.{frontColumns, commentOf}

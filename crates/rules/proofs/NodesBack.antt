@@ -14,7 +14,8 @@ use Rattle.rules.specs.Numbers.{wordLimit, edgeLimit, phraseNumber, numb
 use Rattle.rules.specs.Rules.{granted}
 use Rattle.rules.specs.Tables.{Tables, wordTags, nodeTags}
 use Rattle.rules.specs.Sentences.{Node, Sentence, edgesOf, listed, soFar}
-use Rattle.rules.specs.Nodes.{itsPairs, asEdge, nodeOf, wordOf, phraseOf}
+use Rattle.rules.specs.Pairs.{asEdge}
+use Rattle.rules.specs.Nodes.{itsPairs, nodeOf, wordOf, phraseOf}
 use Rattle.rules.specs.Keywords.{startsWord, startsPhrase}
 use Rattle.rules.specs.Phases.{Preamble, Phase, inSentence, go, next, step, withWord, withPhrase}
 use Rattle.rules.specs.Meaning.{bareEdge, bareNode, meantTables}

@@ -15,7 +15,8 @@ use Rattle.rules.specs.Numbers.{phraseNumber, number, parentNumber, good
 use Rattle.rules.specs.Rules.{rule}
 use Rattle.rules.specs.Tables.{Tables, wordTags, nodeTags}
 use Rattle.rules.specs.Sentences.{Node}
-use Rattle.rules.specs.Nodes.{Pair, pairs, paired, secondaryParent, asEdge, nodeOf, shaped, parentsWritten}
+use Rattle.rules.specs.Pairs.{Pair, pairs, paired, secondaryParent, asEdge}
+use Rattle.rules.specs.Nodes.{nodeOf, shaped, parentsWritten}
 use Rattle.rules.specs.Keywords.{startsWord, startsPhrase}
 use Rattle.rules.specs.Meaning.{bareEdge, bareNode, meantTables}
 use Rattle.rules.specs.Tidy.{digitsOf, tab, nodeName, edgeColumns}

@@ -11,7 +11,7 @@ use Rattle.rules.specs.Lists.{Each}
 use Rattle.rules.specs.Texts.{Text}
 use Rattle.rules.specs.Columns.{text}
 use Rattle.rules.specs.Rules.{Rule, rule}
-use Rattle.rules.specs.Nodes.{Pair, pairs}
+use Rattle.rules.specs.Pairs.{Pair, pairs}
 use Rattle.rules.specs.GrammarLines.{In}
 use Rattle.rules.proofs.EachElement.{each-then, each-map}
 use Rattle.rules.proofs.LeftmostRules.{NotLeft, LeftToRight}

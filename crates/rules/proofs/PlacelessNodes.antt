@@ -12,7 +12,8 @@ use Rattle.rules.specs.Columns.{text}
 use Rattle.rules.specs.Numbers.{good, value}
 use Rattle.rules.specs.Rules.{Rule}
 use Rattle.rules.specs.Tables.{Tables, morphTags, edgeTags, secEdgeTags, dashes, known, tagLimit}
-use Rattle.rules.specs.Nodes.{tagField, morphologyField, edgeField, parentField, pairsField, Pair, pairs, paired, asEdge, itsTag, itsMorphology, itsEdge, itsParent, itsPairs, nodeOf, shaped, parentsWritten, tagsShort, tagsKnown, parentsAllowed}
+use Rattle.rules.specs.Pairs.{Pair, pairs, paired, asEdge}
+use Rattle.rules.specs.Nodes.{tagField, morphologyField, edgeField, parentField, pairsField, itsTag, itsMorphology, itsEdge, itsParent, itsPairs, nodeOf, shaped, parentsWritten, tagsShort, tagsKnown, parentsAllowed}
 use Rattle.rules.specs.Meaning.{bareEdge, bareNode, meantTables}
 use Rattle.rules.proofs.RuleLaws.{holdsOf}
 use Rattle.rules.proofs.Elements.{map-map, drop-map}

@@ -4,13 +4,12 @@ use Prim.Native.Nat.{ℕ}
 use native.Mathlib.Nat.{zero-add}
 use native.Mathlib.Omega.{arith}
 use mathlib.Core.Path.{_≡_, refl, sym, ap, _∙_, subst}
-use mathlib.Core.Logic.{inl}
 use mathlib.Core.Bool.{Bool, true, false, _&&_, false≢true}
 use mathlib.Core.Option.{Option, none, some}
-use mathlib.Core.List.{List, [], _∷_, _++_, append-nil, reverse}
+use mathlib.Core.List.{List, [], _∷_, _++_}
 use lib.ListN.{length, length-append}
 use lib.Dec.{leb}
-use borrow.Author.Tests.{leb-true}
+use borrow.Author.Tests.{leb-true, leb-false}
 use Rattle.rules.specs.Lists.{pick, member}
 use Rattle.rules.specs.Texts.{Text}
 use Rattle.rules.specs.Numbers.{fileLimit}
@@ -19,28 +18,20 @@ use Rattle.rules.specs.Tables.{origins, editors, present}
 use Rattle.rules.specs.Phases.{Phase, start, top, inTable, inSentence, behindSentence, atEnd}
 use Rattle.rules.specs.Reading.{begin, numbers, read, closing, closingUnless}
 use Rattle.rules.specs.Survey.{Survey, surveyOf, nothingRead}
-use Rattle.rules.specs.Places.{StartsLine}
-use Rattle.rules.specs.LentBuffers.{WithinLimit}
+use Rattle.rules.specs.LentBuffers.{WithinLimit, TooLong}
 use Rattle.rules.specs.Refusals.{Clean}
 use Rattle.rules.specs.ColumnsAtFault.{pointing, Breaks}
-use Rattle.rules.specs.PointedAt.{AtColumn, PlaceRule}
-use Rattle.rules.proofs.LineStarts.{tested-starts, starts-tested, starts-same}
+use Rattle.rules.specs.PointedAt.{AtColumn, FaultyLine, at-line, at-rest, at-end, too-long, PlaceRule}
 use Rattle.rules.proofs.Cut.{grow}
 use Rattle.rules.proofs.PointedRules.{Places, Placing}
-use Rattle.rules.proofs.PointedSteps.{step-placing}
-use Rattle.rules.proofs.CleanFronts.{Fresh, survey-is}
-use Rattle.rules.proofs.LastLine.{front-lines, ends-at-line}
+use Rattle.rules.proofs.PointedSteps.{InsideLine, step-placing, step-inside}
+use Rattle.rules.proofs.CleanFronts.{Fresh, survey-is, refused-here}
+use Rattle.rules.proofs.LastLine.{unended-only}
 use Rattle.rules.proofs.FirstFaulty.{FirstFaulty, first-faulty}
 
 fresh-clean : (front : List ℕ) → WithinLimit front → Fresh front → Clean front
 fresh-clean front fits k =
     record { fits = fits; place = ap (λ (v : Survey). v .place) (survey-is front fits) ∙ rw (k .sound, k .unbegun) (k .at) }
-
--- bytes behind a front that ends with its line
-still-starts : (front x : List ℕ) → StartsLine front (length front) → StartsLine (front ++ x) (length front)
-still-starts front x h =
-    tested-starts (front ++ x) (length front)
-    (starts-same front [] x (starts-tested (front ++ []) (length front) (subst (λ (l : List ℕ). StartsLine l (length front)) (sym (append-nil front)) h)))
 
 -- ---- a line is refused
 
@@ -70,22 +61,36 @@ module _ (file : List ℕ) (fits : WithinLimit file) (g : Fault) (faulty : read 
   clean : Clean (first-faulty file g faulty .front)
   clean = fresh-clean (k .front) (omega (arith, fits, ap length (k .are), length-append (k .front) (k .bytes ++ (10 ∷ k .behind)))) (k .fresh)
 
+  faulty-line : FaultyLine file
+  faulty-line =
+      record {
+        front = k .front;
+        bytes = k .bytes;
+        behind = k .behind;
+        are = k .are;
+        clean = clean;
+        one-line = k .one-line;
+        faulty =
+            λ c.
+            let r = refused-here (k .front) clean (k .bytes) (k .one-line) [] (c .fits) (k .by) (k .refuses) in
+            let i = subst (InsideLine line) (k .refuses) (step-inside phase (numbers (read begin (k .front) .handed)) line) in
+            omega (arith, c .place, r .at, i .1, length-append (k .front) (k .bytes ++ (10 ∷ [])), length-append (k .bytes) (10 ∷ []));
+      }
+
   line-refused : PlaceRule file
+  unfolding faulty-line
   line-refused =
       record {
         pointed =
             λ p.
             record {
-              its = record { front = k .front; bytes = k .bytes; behind = k .behind; are = k .are; clean = clean; one-line = k .one-line };
+              its = faulty-line;
               at =
                   subst (λ (n : ℕ). AtColumn (Breaks phase line) line n (surveyOf file .place)) (sym refusal-is)
                   (subst (λ (at : ℕ). AtColumn (Breaks phase line) line (k .by .number) at) (sym place-is)
                   (places .column (sym (ap (λ (n : ℕ). member n pointing) refusal-is) ∙ p)));
             };
-        not-pointed =
-            λ p.
-            subst (StartsLine file) (sym (place-is ∙ places .first (sym (ap (λ (n : ℕ). member n pointing) refusal-is) ∙ p)))
-            (subst (λ (f : List ℕ). StartsLine f (length (k .front))) (sym (k .are)) (still-starts (k .front) (k .bytes ++ (10 ∷ k .behind)) (front-lines (k .front) clean)));
+        not-pointed = λ p. at-line faulty-line (place-is ∙ places .first (sym (ap (λ (n : ℕ). member n pointing) refusal-is) ∙ p));
       }
 
 -- ---- no line is refused
@@ -112,25 +117,16 @@ module _ (file : List ℕ) (fits : WithinLimit file) (sound : read begin file .f
   no-line-refused : PlaceRule file
   no-line-refused = by (read begin file .part) refl
     where
-      begun : StartsLine file (read begin file .lineStart)
-      begun = let r = ends-at-line file in subst (StartsLine file) (sym (r .from sound)) (r .phase)
-
-      whole : read begin file .part ≡ [] → read begin file .at ≡ read begin file .lineStart
-      whole e =
-          let r = ends-at-line file in
-          let all = r .parts sound ∙ ap (λ (l : List ℕ). r .done ++ reverse l) e ∙ append-nil (r .done) in
-          grow begin file .place ∙ zero-add (length file) ∙ ap length all ∙ sym (r .from sound)
-
       by : (part : List ℕ) → read begin file .part ≡ part → PlaceRule file
       by [] e =
           record {
             pointed = λ p. absurd (false≢true (sym (end-points (read begin file .phase)) ∙ sym (ap (λ (n : ℕ). member n pointing) (ended-so [] e)) ∙ p));
-            not-pointed = λ p. subst (StartsLine file) (sym (ended-at [] e ∙ whole e)) begun;
+            not-pointed = λ p. at-end (record { fits = fits; place = ended-at [] e ∙ grow begin file .place ∙ zero-add (length file) });
           }
       by (b ∷ bs) e =
           record {
             pointed = λ p. absurd (false≢true (sym (ap (λ (n : ℕ). member n pointing) (ended-so (b ∷ bs) e)) ∙ p));
-            not-pointed = λ p. subst (StartsLine file) (sym (ended-at (b ∷ bs) e)) begun;
+            not-pointed = λ p. at-rest (ended-so (b ∷ bs) e) (unended-only file fits (ended-so (b ∷ bs) e));
           }
 
 -- ---- every file
@@ -143,13 +139,13 @@ pointed-at file = by (leb (length file) fileLimit) refl
     within fits none e = no-line-refused file fits e
     within fits (some g) e = line-refused file fits g e
 
-    too-long : surveyOf file ≡ nothingRead 2 → PlaceRule file
-    too-long e =
+    unread : TooLong file → surveyOf file ≡ nothingRead 2 → PlaceRule file
+    unread long e =
         record {
           pointed = λ p. absurd (false≢true (sym (ap (λ (v : Survey). member (v .refusal) pointing) e) ∙ p));
-          not-pointed = λ p. subst (StartsLine file) (sym (ap (λ (v : Survey). v .place) e)) (inl refl);
+          not-pointed = λ p. too-long long (ap (λ (v : Survey). v .place) e);
         }
 
     by : (t : Bool) → leb (length file) fileLimit ≡ t → PlaceRule file
     by true e = within (leb-true (length file) fileLimit e) (read begin file .fault) refl
-    by false e = too-long (rw e)
+    by false e = unread (leb-false (length file) fileLimit e) (rw e)

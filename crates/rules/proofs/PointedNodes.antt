@@ -16,7 +16,8 @@ use Rattle.rules.specs.Numbers.{wordLimit, phraseNumber, number, good, v
 use Rattle.rules.specs.Rules.{Rule, rule}
 use Rattle.rules.specs.Tables.{Tables, wordTags, morphTags, nodeTags, edgeTags, secEdgeTags, dashes, known, tagLimit}
 use Rattle.rules.specs.Sentences.{Node, SoFar}
-use Rattle.rules.specs.Nodes.{Pair, secondaryParent, isAnother, itsEdge, itsParent, itsPairs, shaped, roomy, parentsWritten, tagsShort, tagsKnown, parentsAllowed, wordOf, phraseOf}
+use Rattle.rules.specs.Pairs.{Pair, secondaryParent, isAnother}
+use Rattle.rules.specs.Nodes.{itsEdge, itsParent, itsPairs, shaped, roomy, parentsWritten, tagsShort, tagsKnown, parentsAllowed, wordOf, phraseOf}
 use Rattle.rules.specs.Phases.{Answer, next}
 use Rattle.rules.specs.GrammarLines.{In}
 use Rattle.rules.specs.ColumnsAtFault.{pointing, NodeBreaks, PhraseBreaks, phraseItself}

@@ -26,7 +26,7 @@ use Rattle.rules.proofs.TestsAsFacts.{given-are, reads-are}
 use Rattle.rules.proofs.TextPlaces.{Loose, columns-in, trim-placed}
 use Rattle.rules.proofs.LinePlaces.{after-loose, front-placed, behind-placed}
 use Rattle.rules.proofs.LeftmostRules.{left-split, left-strictly}
-use Rattle.rules.proofs.ColumnsRise.{Inside, placed-inside, columns-rise, own-order, column-order, column-inside, trim-inside, name-then-note}
+use Rattle.rules.proofs.ColumnsRise.{Inside, inside-from, placed-inside, columns-rise, own-order, column-order, column-inside, trim-inside, name-then-note}
 use Rattle.rules.proofs.PointedRules.{Placing, Found, placing-checked, of-line, of-column, has-held}
 use Rattle.rules.proofs.FaultsAsFacts.{no-number, no-id, longer}
 
@@ -57,7 +57,7 @@ module _ (line : Text) where
 
   -- a column, then the rest of the line
   then-rest : (n : ℕ) → 1 ≤ length (trim (column (columns line) n .after) .bytes) → written (columns line) n .start ≤ trim (column (columns line) n .after) .start
-  then-rest n h = omega (arith, own-order cs (columns-rise (line .start) (line .bytes)) n, trim-inside (column cs n .after) h .0)
+  then-rest n h = omega (arith, own-order cs (columns-rise (line .start) (line .bytes)) n, inside-from _ _ _ (trim-inside (column cs n .after) h))
 
   module _ (f : Row → Answer) (rows : List Row) where
     pub origin-placing : ((r : Row) → Placing (OriginBreaks (columns line)) line (f r)) → Placing (OriginBreaks (columns line)) line (next f (originRow rows line))

@@ -1,6 +1,6 @@
 -- What the rules of a line say of the place where it is refused: for the numbers that point at a column it is that of the
 -- leftmost column that breaks the rule, for all others the line's first byte. From what is known of each rule of the list.
-use Prim.Native.Nat.{ℕ, _≤_}
+use Prim.Native.Nat.{ℕ, _-_, _≤_}
 use native.Mathlib.Omega.{arith}
 use mathlib.Core.Path.{_≡_, refl, sym, ap, subst}
 use mathlib.Core.Logic.{_⊎_, inl, inr}
@@ -17,7 +17,8 @@ use Rattle.rules.specs.GrammarLines.{In}
 use Rattle.rules.specs.ColumnsAtFault.{pointing}
 use Rattle.rules.specs.PointedAt.{AtColumn}
 use Rattle.rules.proofs.LeftmostRules.{NotLeft, LeftToRight, Refusing, refusing, leftmost}
-use Rattle.rules.proofs.ColumnsRise.{Inside}
+use Rattle.rules.proofs.TextPlaces.{part-there}
+use Rattle.rules.proofs.ColumnsRise.{Inside, inside-from, inside-up-to}
 use Rattle.rules.proofs.SaidOfLists.{true-or-not, never-both}
 use Rattle.rules.proofs.TestsAsFacts.{is-member}
 
@@ -66,8 +67,10 @@ module _ (Broken : ℕ → Text → Type 0) (line : Text) where
           column = q .about;
           starts = refl;
           broken = t .breaks (k .fails) p;
-          from = i .0;
-          upTo = i .1;
+          from = inside-from _ _ _ i;
+          upTo = inside-up-to _ _ _ i;
+          there = part-there (line .start) (line .bytes) (q .about) (i .part) (q .about .start - line .start) (omega (arith, inside-from _ _ _ i));
+          some = i .some;
           leftmost =
               λ other b.
               let x = found (q .number) other b in

@@ -12,7 +12,8 @@ use Rattle.rules.specs.Texts.{Text}
 use Rattle.rules.specs.Rules.{Rule, rule}
 use Rattle.rules.specs.Tables.{Tables, wordTags, morphTags, nodeTags, edgeTags, secEdgeTags, known}
 use Rattle.rules.specs.Sentences.{Edge, Node, Sentence, listed, parented}
-use Rattle.rules.specs.Nodes.{Pair, asEdge, itsPairs, tagsKnown}
+use Rattle.rules.specs.Pairs.{Pair, asEdge}
+use Rattle.rules.specs.Nodes.{itsPairs, tagsKnown}
 use Rattle.rules.specs.Reading.{Handed}
 use Rattle.rules.specs.Survey.{Survey, surveyOf}
 use Rattle.rules.specs.Meaning.{bareEdge, bareNode, meantTables}

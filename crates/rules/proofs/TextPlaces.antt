@@ -52,18 +52,17 @@ rest at b bs = record { front = b ∷ []; back = []; parts = ap (λ (l : List �
 later : (at b : ℕ) (bs : List ℕ) (t : Text) → Part (suc at) bs t → Part at (b ∷ bs) t
 later at b bs t p = part-part at (b ∷ bs) (record { start = suc at; bytes = bs }) t (rest at b bs) p
 
+-- the bytes at a part's place are its own
+pub part-there : (at : ℕ) (bs : List ℕ) (t : Text) → Part at bs t → (n : ℕ) → t .start ≡ at + n → take (length (t .bytes)) (drop n bs) ≡ t .bytes
+part-there at bs t p n e =
+    let from : length (p .front) ≡ n = omega (arith, p .place, e) in
+    ap (λ (l : List ℕ). take (length (t .bytes)) (drop n l)) (p .parts)
+    ∙ ap (take (length (t .bytes))) (drop-at (p .front) (t .bytes ++ p .back) n from)
+    ∙ take-at (t .bytes) (p .back) (length (t .bytes)) refl
+
 pub lies : (file : List ℕ) (t : Text) → Placed 0 file t → LiesIn file t
 lies file t (inl e) = subst (LiesIn file) (sym e) (record { found = refl; absent = λ z. refl })
-lies file t (inr p) =
-    let q = p .0 in
-    let at : length (q .front) ≡ t .start = omega (arith, q .place) in
-    record {
-      found =
-          ap (λ (l : List ℕ). take (length (t .bytes)) (drop (t .start) l)) (q .parts)
-          ∙ ap (take (length (t .bytes))) (drop-at (q .front) (t .bytes ++ q .back) (t .start) at)
-          ∙ take-at (t .bytes) (q .back) (length (t .bytes)) refl;
-      absent = λ z. absurd (p .1 z);
-    }
+lies file t (inr p) = record { found = part-there 0 file t (p .0) (t .start) (omega arith); absent = λ z. absurd (p .1 z) }
 
 -- ---- white bytes lost at both ends
 

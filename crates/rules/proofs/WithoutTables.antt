@@ -11,7 +11,8 @@ use Rattle.rules.specs.Columns.{columns, fields}
 use Rattle.rules.specs.Rules.{Rule, rule, Verdict, refused, granted, checked}
 use Rattle.rules.specs.Tables.{Tables, noTables, reserved, present, known, hasTag, rowsOf, table, wordTags, morphTags, nodeTags, edgeTags, secEdgeTags}
 use Rattle.rules.specs.Sentences.{Sentence, soFar, endOf}
-use Rattle.rules.specs.Nodes.{Pair, itsPairs, parentsWritten, tagsShort, tagsKnown, parentsAllowed, wordOf, phraseOf}
+use Rattle.rules.specs.Pairs.{Pair}
+use Rattle.rules.specs.Nodes.{itsPairs, parentsWritten, tagsShort, tagsKnown, parentsAllowed, wordOf, phraseOf}
 use Rattle.rules.specs.Keywords.{firstColumn, startsWord, startsPhrase}
 use Rattle.rules.specs.Phases.{Preamble, inSentence, Answer, refuse, go, hand, next, step}
 use Rattle.rules.proofs.Conjunctions.{and-both, every-map}

@@ -17,7 +17,8 @@ use Rattle.rules.specs.Numbers.{wordLimit, edgeLimit, phraseNumber, numb
 use Rattle.rules.specs.Rules.{Rule, rule}
 use Rattle.rules.specs.Tables.{Tables, wordTags, nodeTags}
 use Rattle.rules.specs.Sentences.{Node, SoFar, Sentence}
-use Rattle.rules.specs.Nodes.{Pair, secondaryParent, isAnother, itsPairs, shaped, roomy, wordOf, phraseOf}
+use Rattle.rules.specs.Pairs.{Pair, secondaryParent, isAnother}
+use Rattle.rules.specs.Nodes.{itsPairs, shaped, roomy, wordOf, phraseOf}
 use Rattle.rules.specs.Phases.{Phase, Answer, next}
 use Rattle.rules.proofs.EachElement.{each-then}
 use Rattle.rules.proofs.ColumnsSaid.{said-front, front-comment}

@@ -12,7 +12,8 @@ use Rattle.rules.specs.Columns.{Column, columns, column, written, text, 
 use Rattle.rules.specs.Numbers.{phraseNumber, originId, number, signedId, value}
 use Rattle.rules.specs.Tables.{Tables, origins, editors, wordTags, nodeTags, known}
 use Rattle.rules.specs.Sentences.{Sentence, knownEditor, knownOrigin}
-use Rattle.rules.specs.Nodes.{Pair, parentField, secondaryParent, itsTag, itsMorphology, itsEdge, itsParent, itsPairs}
+use Rattle.rules.specs.Pairs.{Pair, secondaryParent}
+use Rattle.rules.specs.Nodes.{parentField, itsTag, itsMorphology, itsEdge, itsParent, itsPairs}
 use Rattle.rules.specs.Keywords.{firstColumn, startsPhrase}
 use Rattle.rules.specs.Phases.{Phase, start, top, inTable, inSentence, behindSentence}
 use Rattle.rules.specs.GrammarNames.{commentSign, noTag, ofMorphtag, ofEdgetag, ofSecedgetag}

@@ -7,6 +7,7 @@ pub mod Rules
 pub mod Tables
 pub mod Rows
 pub mod Sentences
+pub mod Pairs
 pub mod Nodes
 pub mod Highest
 pub mod Keywords

@@ -1,9 +1,9 @@
 -- Document 01, "The file from top to bottom", and document 02, request 1: words, phrases and their secondary edges, line by
 -- line.
 use Prim.Native.Nat.{ℕ, suc, _+_}
-use mathlib.Core.Bool.{Bool, true, false, not, _&&_}
+use mathlib.Core.Bool.{Bool, not, _&&_}
 use mathlib.Core.Option.{Option}
-use mathlib.Core.List.{List, [], _∷_, _++_, map}
+use mathlib.Core.List.{List, _∷_, _++_, map}
 use lib.ListN.{length, drop}
 use lib.Dec.{leb, ltb, eqb}
 use Rattle.rules.specs.Lists.{pick}
@@ -12,7 +12,8 @@ use Rattle.rules.specs.Columns.{columns, text, fields, comment}
 use Rattle.rules.specs.Numbers.{wordLimit, edgeLimit, phraseNumber, number, parentNumber, good, value}
 use Rattle.rules.specs.Rules.{Rule, rule, Verdict, checked}
 use Rattle.rules.specs.Tables.{Tables, wordTags, morphTags, nodeTags, edgeTags, secEdgeTags, dashes, known, tagLimit}
-use Rattle.rules.specs.Sentences.{Edge, Node, SoFar}
+use Rattle.rules.specs.Sentences.{Node, SoFar}
+use Rattle.rules.specs.Pairs.{Pair, pairs, paired, secondaryParent, asEdge, isAnother}
 
 -- the places of the fields in the lines of a format, behind the word, or behind # and its number
 abbrev pub tagField : ℕ → ℕ
@@ -29,31 +30,6 @@ parentField format = suc (edgeField format)
 
 abbrev pub pairsField : ℕ → ℕ
 pairsField format = suc (parentField format)
-
--- any number of pairs of secondary label and secondary parent
-pub record Pair : Type 0 where
-  pub label : Text
-  pub parent : Text
-
-unfoldable pub pairs : List Text → List Pair
-pairs [] = []
-pairs (l ∷ []) = []
-pairs (l ∷ p ∷ ts) = record { label = l; parent = p } ∷ pairs ts
-
-unfoldable pub paired : List Text → Bool
-paired [] = true
-paired (l ∷ []) = false
-paired (l ∷ p ∷ ts) = paired ts
-
-abbrev pub secondaryParent : Pair → Option ℕ
-secondaryParent p = number phraseNumber (p .parent .bytes)
-
-abbrev pub asEdge : Pair → Edge
-asEdge p = record { label = p .label; parent = value (secondaryParent p) }
-
--- request 1: a secondary parent is any phrase of the sentence other than the node itself
-abbrev pub isAnother : ℕ → Pair → Bool
-isAnother its-number p = not (eqb its-number (value (secondaryParent p)))
 
 module _ (format : ℕ) (fs : List Text) where
   abbrev pub itsTag : Text

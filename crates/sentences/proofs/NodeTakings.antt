@@ -14,7 +14,8 @@ use Rattle.rules.specs.Texts.{Text, reads}
 use Rattle.rules.specs.Rules.{Verdict, refused, granted}
 use Rattle.rules.specs.Tables.{Tables, noTables}
 use Rattle.rules.specs.Sentences.{Node, Sentence, endOf, soFar}
-use Rattle.rules.specs.Nodes.{asEdge, itsPairs, pairs, paired, shaped, wordOf, phraseOf}
+use Rattle.rules.specs.Pairs.{asEdge, pairs, paired}
+use Rattle.rules.specs.Nodes.{itsPairs, shaped, wordOf, phraseOf}
 use Rattle.rules.specs.Keywords.{firstColumn, startsWord, startsPhrase}
 use Rattle.rules.specs.Lines.{Taking, ignoredLine, formatLine, tableBegins, rowLine, tableEnds, sentenceBegins, wordLine, phraseLine, sentenceEnds, takenAs, amongNodes}
 use Rattle.rules.specs.Phases.{Preamble, inSentence, lineAt, taken}

@@ -11,7 +11,7 @@ use Rattle.rules.specs.Lists.{joined}
 use Rattle.rules.specs.Texts.{Text}
 use Rattle.rules.specs.Columns.{text}
 use Rattle.rules.specs.Numbers.{edgeLimit, value}
-use Rattle.rules.specs.Nodes.{Pair, asEdge}
+use Rattle.rules.specs.Pairs.{Pair, asEdge}
 use Rattle.columns.specs.Splices.{splice}
 use Rattle.columns.specs.Listing.{spanOf}
 use Rattle.columns.specs.declared.listing.Line.{Line}

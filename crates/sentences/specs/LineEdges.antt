@@ -2,7 +2,7 @@
 use Prim.Native.Nat.{ℕ}
 use mathlib.Core.List.{List, map}
 use Rattle.rules.specs.Texts.{Text}
-use Rattle.rules.specs.Nodes.{asEdge}
+use Rattle.rules.specs.Pairs.{asEdge}
 use Rattle.sentence_sheet.specs.FlatEdges.{edgeNumbers}
 use Rattle.nodes.specs.NodeLines.{pairsFrom}
 

@@ -4,7 +4,7 @@ use Prim.Native.Nat.{_<_, _≤_}
 use mathlib.Core.Bool.{Bool, _&&_}
 use lib.ListN.{length, drop}
 use borrow.Author.Tests.{le-leb, lt-leb}
-use Rattle.rules.specs.Nodes.{paired}
+use Rattle.rules.specs.Pairs.{paired}
 use Rattle.nodes.proofs.ListedFields.{even-paired}
 use Rattle.nodes.proofs.is_shaped.Statement.{statement}
 use Rattle.nodes.proofs.is_shaped.Tie as tie

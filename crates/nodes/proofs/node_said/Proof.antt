@@ -1,7 +1,8 @@
 use native.Mathlib.Omega.{arith}
 use mathlib.Core.Path.{sym, ap, _∙_}
 use lib.ListN.{length-map}
-use Rattle.rules.specs.Nodes.{asEdge, itsPairs}
+use Rattle.rules.specs.Pairs.{asEdge}
+use Rattle.rules.specs.Nodes.{itsPairs}
 use Rattle.columns.specs.Listing.{spanOf}
 use Rattle.nodes.specs.NodeLines.{fieldsOf}
 use Rattle.nodes.proofs.ListedFields.{at-column, at-field, first-of, half-pairs}
