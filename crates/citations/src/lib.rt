@@ -61,15 +61,16 @@ pub fn is_known(
     table_sheet::is_row(found)
 }
 
-// Told by the last of two bytes as a rule: whether a tag has just two is harder to guess.
+// Whether a tag has just two bytes is hard to guess. The last is at hand before that is asked, so that one branch tells both.
 fn is_dashes(file: &[u8], start: usize, len: usize) -> bool
-    requires { ⌜ (start < length (now file)) × (start + len ≤ length (now file)) ⌝ }
+    requires { ⌜ (start + 2 ≤ length (now file)) × (start + len ≤ length (now file)) ⌝ }
     ensures { λ r. ⌜ (r ≡ true → same (take len (drop start (now (file .entry)))) dashes ≡ true) ⌝ }
 {
-    if len < 2 {
+    let last = file[start + 1];
+    if len != 2 {
         return false;
     }
-    if file[start + 1] != b'-' {
+    if last != b'-' {
         return false;
     }
     columns::is_twice(&file[start..start + len], b'-')

@@ -27,9 +27,9 @@ pub is-dashes-spec : {M : Type 1} → statement M
 is-dashes-spec =
     tie.close
     (tie.spec
+    (λ c. search needs)
+    (λ c. search needs)
     returns
-    (λ c. search needs)
-    (λ c. search needs)
     returns-2
     (λ c. search needs)
     (λ c. search needs)
