@@ -19,6 +19,7 @@ from .refusals import RULES, NoSuchSentence, Refusal, Refused, Unexplained
 from .showing import shown
 from .told import answer_of, counted, example_dictionary, example_lines, mark_lines, node_row, rescued
 from .told import sentence_dictionary, survey_line
+from .words import unmarked, with_marked_tag
 
 ACCEPTED, REFUSED, UNUSABLE = 0, 1, 2
 
@@ -253,7 +254,7 @@ def parser() -> argparse.ArgumentParser:
     tag = command("explain-tag", run_explain_tag, "the description of a tag, from the file's table or from a list")
     tag.add_argument("file", metavar="FILE")
     tag.add_argument("table", metavar="TABLE", help="WORDTAG, MORPHTAG, NODETAG, EDGETAG or SECEDGETAG")
-    tag.add_argument("tag", nargs="?", default="--", metavar="TAG", help="-- if it is left out")
+    tag.add_argument("tag", type=unmarked, metavar="TAG")
     tag.add_argument("--list", metavar="FILE", help="an export file that is asked if the file hasn't the table")
     command("explain", run_explain, "a refusal in words, example, cure").add_argument("number", type=int, metavar="NUMBER")
     return whole
@@ -267,7 +268,7 @@ def positive(text: str) -> int:
 
 def main(arguments: Optional[List[str]] = None) -> int:
     steady_streams()
-    options = parser().parse_args(arguments)
+    options = parser().parse_args(with_marked_tag(sys.argv[1:] if arguments is None else list(arguments)))
     try:
         if options.run is not run_explain:
             prepare()

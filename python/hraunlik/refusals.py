@@ -18,7 +18,7 @@ class Rule(NamedTuple):
 WHOLE_COPY = "Get a whole copy, or keep the part up to the sound end (rescue)."
 
 RULES: dict[int, Rule] = {
-    1: Rule("a lent buffer has the wrong size", "Mend the program: lend exactly the sizes of docs/RULES.md, section 9."),
+    1: Rule("a lent buffer has the wrong size", "Mend the program: lend exactly the sizes of docs/RULES.md, sections 8 and 9."),
     2: Rule("the file is longer than 268,435,456 bytes", "Split it between sentences, with the format line and the tables in front of each part."),
     3: Rule("the last line isn't ended by a newline, so it may be half a line", WHOLE_COPY + " Add the newline only if you know that the line is whole."),
     4: Rule("the line has an illegal byte; legal are 9, 32 to 127 and 160 to 255", "Remove carriage returns (tr -d '\\r'); convert UTF-8 to Latin-1 (iconv -f utf-8 -t latin1)."),

@@ -127,10 +127,26 @@ class Tags(InARoom):
         self.assertEqual(told, {"table": "WORDTAG", "tag": "ADJD", "description": "Attributives Adjektiv"})
 
     def test_two_dashes_are_a_tag(self):
-        schade = self.file("schade", SCHADE)
-        for words in ([], ["--"], ["--", "--"]):
-            self.assertEqual(run("explain-tag", schade, "WORDTAG", *words)[:2], (0, b"nicht zugeordnet\n"), words)
+        ja, schade = self.file("ja", JA), self.file("schade", SCHADE)
+        granted = (0, b"nicht zugeordnet\n")
+        for words in (["--"], ["--", "--"]):
+            self.assertEqual(run("explain-tag", schade, "WORDTAG", *words)[:2], granted, words)
+            self.assertEqual(run("explain-tag", ja, "WORDTAG", *words, "--list", schade)[:2], granted, words)
+            self.assertEqual(run("explain-tag", "--list", schade, ja, "WORDTAG", *words)[:2], granted, words)
+            told = json.loads(run("explain-tag", ja, "WORDTAG", *words, f"--list={schade}", "--json")[1])
+            self.assertEqual(told["tag"], "--")
         self.assertEqual(run("explain-tag", schade, "SECEDGETAG", "UNKNOWN")[:2], (0, b"\n"))
+
+    def test_a_tag_may_look_like_an_option(self):
+        rows = b"#BOT EDGETAG\n1 -LRB- bracket\n2 -x x\n#EOT EDGETAG\n"
+        tags = self.file("tags", JA.replace(b"#BOS", rows + b"#BOS", 1))
+        for words in (["-LRB-"], ["--", "-LRB-"]):
+            self.assertEqual(run("explain-tag", tags, "EDGETAG", *words)[:2], (0, b"bracket\n"), words)
+        self.assertEqual(run("explain-tag", tags, "EDGETAG", "-x", "--json")[0], 0)
+
+    def test_a_tag_must_be_named(self):
+        for words in ([], ["--json"], ["--list", HALF], ["NN", "NE"], ["--", "NN", "NE"]):
+            self.assertEqual(run("explain-tag", UNTIDY, "WORDTAG", *words)[:2], (2, b""), words)
 
     def test_refused_files_are_named(self):
         ja = self.file("ja", JA)
