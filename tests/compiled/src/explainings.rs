@@ -35,7 +35,7 @@ impl Asked<'_> {
     }
 }
 
-/// Of an empty part its place means nothing.
+/// An empty part stands at 0; where the reader's own does means nothing.
 fn meant(told: Explained) -> Explained {
     Explained {
         start: if told.length > 0 { told.start } else { 0 },
@@ -46,7 +46,7 @@ fn meant(told: Explained) -> Explained {
 /// The answer to a question, and the buffers afterwards.
 pub fn agreed_explaining(case: Arguments, asked: Asked, lent: &Lent) -> (Explained, Lent) {
     let (mut compiled, mut plain) = (lent.clone(), lent.clone());
-    let answer = meant(asked.compiled(&mut compiled));
+    let answer = asked.compiled(&mut compiled);
     let expected = meant(asked.plain(&mut plain));
     if answer != expected || compiled != plain {
         let differences = compiled.differences(&plain);

@@ -1,5 +1,6 @@
-//! A plain reader of NeGra export files, written from document 01 and the readings of its
-//! open points, to be compared with the library. It shares no code with it.
+//! A plain reader of NeGra export files, written from documents 000 and 01, the requests of
+//! document 02 that have landed and the readings of their open points, to be compared with
+//! the library. It shares no code with it.
 //!
 //! The whole file is read into a model (`reading`), and the sheets (`sheets`) and
 //! the tidy text (`tidy`) are made from the model.

@@ -5,6 +5,10 @@
 //! The same seed always gives the same file.
 
 mod aimed;
+mod aimed_lines;
+mod aimed_nodes;
+mod aimed_sentences;
+mod aimed_tables;
 mod blind;
 mod columns_at_fault;
 mod corpus;

@@ -1,6 +1,6 @@
 //! Questions about a tag: a file, a list, a table's number and the tag.
 
-use super::aimed::table_lines;
+use super::aimed_lines::table_lines;
 use super::dice::Dice;
 use super::draft::{Draft, DraftLine, Measure, Role};
 use super::line_damage::{column_at, column_count};

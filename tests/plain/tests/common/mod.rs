@@ -1,6 +1,8 @@
 //! Buffers to lend, and files the tests share.
 #![allow(dead_code)]
 
+pub mod explaining;
+
 use plain::{Edge, Survey, Written, EDGE_LIST, SEEN_SET, SENTENCE_SHEET, TABLE_SHEET};
 
 /// The length of A's format line and tables.
@@ -9,6 +11,10 @@ pub const HEAD: usize = 74;
 /// A's format line and tables.
 pub const TABLES: &str =
     "#FORMAT 3\n#BOT ORIGIN\n1 lab\n#EOT ORIGIN\n#BOT EDITOR\n2 kim Kim\n#EOT EDITOR\n";
+
+/// The first and the last line of A's sentence.
+pub const BOS: &str = "#BOS 7 2 0 1\n";
+pub const EOS: &str = "#EOS 7\n";
 
 /// The tidy text of A.
 pub const TIDY_A: &[u8] = b"#FORMAT 3
@@ -147,4 +153,13 @@ pub fn survey(refusal: u32, place: usize, sentences: u32, sound_end: usize) -> S
         sentences,
         sound_end: sound_end as u32,
     }
+}
+
+pub fn long(length: usize) -> String {
+    "x".repeat(length)
+}
+
+/// The size of the file that dice make of a seed.
+pub fn size_of(seed: u64) -> usize {
+    1 + (seed % 6) as usize
 }
