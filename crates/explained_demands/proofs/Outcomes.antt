@@ -9,7 +9,7 @@ use Rattle.rules.specs.Explaining.{ExplainingOutcome, afterExplaining}
 use Rattle.rules.specs.LentBuffers.{SheetsSized, WithinLimit}
 use Rattle.rules.proofs.Same.{eq-same}
 use Rattle.rules.proofs.ExplainedExactly.{explaining-call}
-use Rattle.explaining.specs.Promise.{Placed, placed, Parted, parted, partOutcome}
+use Rattle.explaining.specs.Promise.{Placed, placed, PartTold, partTold, partOutcome}
 
 module _ (file list : List ℕ) (place : ℕ) (tag tables seen tables2 seen2 : List ℕ) where
   abbrev o : ExplainingOutcome
@@ -35,17 +35,17 @@ module _ (file list : List ℕ) (place : ℕ) (tag tables seen tables2 seen2 : L
 
   -- as parts: whether they have the same bytes, and what else is left
   module _ (refusal : ℕ) (bytes tables′ seen′ : List ℕ) (refusal2 : ℕ) (bytes2 tables2′ seen2′ : List ℕ) (r : Bool) (compared : r ≡ same bytes bytes2)
-      (p : partOutcome refusal bytes tables′ seen′ ≡ parted o) (q : partOutcome refusal2 bytes2 tables2′ seen2′ ≡ parted o2) where
+      (p : partOutcome refusal bytes tables′ seen′ ≡ partTold o) (q : partOutcome refusal2 bytes2 tables2′ seen2′ ≡ partTold o2) where
     abbrev Alike : Type 0
     Alike = (r ≡ true) × (refusal ≡ refusal2) × (tables′ ≡ tables2′) × (seen′ ≡ seen2′)
 
     alike : o ≡ o2 → Alike
     alike e =
-        let z : partOutcome refusal bytes tables′ seen′ ≡ partOutcome refusal2 bytes2 tables2′ seen2′ = p ∙ ap parted e ∙ sym q in (
-          compared ∙ eq-same bytes bytes2 (ap (λ (x : Parted). x .bytes) z),
-          ap (λ (x : Parted). x .refusal) z,
-          ap (λ (x : Parted). x .tables) z,
-          ap (λ (x : Parted). x .seen) z,
+        let z : partOutcome refusal bytes tables′ seen′ ≡ partOutcome refusal2 bytes2 tables2′ seen2′ = p ∙ ap partTold e ∙ sym q in (
+          compared ∙ eq-same bytes bytes2 (ap (λ (x : PartTold). x .bytes) z),
+          ap (λ (x : PartTold). x .refusal) z,
+          ap (λ (x : PartTold). x .tables) z,
+          ap (λ (x : PartTold). x .seen) z,
         )
 
     pub part-only : tables ≡ tables2 → seen ≡ seen2 → Alike

@@ -18,7 +18,7 @@ use Rattle.table_sheet.specs.SheetRows.{tablesIn}
 use Rattle.survey.proofs.Lent.{fitting}
 use Rattle.rules.specs.Explaining.{tagRows, description, refusedBy, partOf, explained, ExplainingOutcome, afterExplaining}
 use Rattle.explaining.specs.declared.Explained.{Explained}
-use Rattle.explaining.specs.Promise.{asExplained, Placed, placed, placeOutcome, parted, partOutcome, tagCount, Telling}
+use Rattle.explaining.specs.Promise.{asExplained, Placed, placed, placeOutcome, partTold, partOutcome, tagCount, Telling}
 use Rattle.rules.proofs.LiesInside.{lies-inside}
 use Rattle.citations.proofs.SurveyedTables.{tables-back}
 use Rattle.rules.proofs.ExplainedThere.{part-stands}
@@ -137,7 +137,7 @@ module _ (file list : List ℕ) (place : ℕ) (tag sheet seen : List ℕ) (r : E
         ∙ ap (λ (x : Explained). take (x .len) (drop (x .start) whole)) told-so
         ∙ lies .found
 
-    as-part : partOutcome (r .refusal) (take (r .start + r .len - r .start) (drop (r .start) whole)) sheet′ seen′ ≡ parted o
+    as-part : partOutcome (r .refusal) (take (r .start + r .len - r .start) (drop (r .start) whole)) sheet′ seen′ ≡ partTold o
     as-part =
         ap₂ (λ (n : ℕ) (bytes : List ℕ). partOutcome n bytes sheet′ seen′) (ap (λ (x : Explained). x .refusal) told-so) its-bytes
         ∙ ap₂ (partOutcome (o .answer .refusal) (o .answer .part .bytes)) (ap (λ (x : Placed). x .tables) e) (ap (λ (x : Placed). x .seen) e)
@@ -149,7 +149,7 @@ module _ (file list : List ℕ) (place : ℕ) (tag sheet seen : List ℕ) (r : E
     pub inside-list : r .start + r .len ≤ length list
     inside-list = inside list in-list
 
-    pub list-part : partOutcome (r .refusal) (take (r .start + r .len - r .start) (drop (r .start) list)) sheet′ seen′ ≡ parted o
+    pub list-part : partOutcome (r .refusal) (take (r .start + r .len - r .start) (drop (r .start) list)) sheet′ seen′ ≡ partTold o
     list-part = as-part list in-list
 
   module _ (other : r .of ≡ 2 → ⊥) where
@@ -159,5 +159,5 @@ module _ (file list : List ℕ) (place : ℕ) (tag sheet seen : List ℕ) (r : E
     pub inside-file : r .start + r .len ≤ length file
     inside-file = inside file in-file
 
-    pub file-part : partOutcome (r .refusal) (take (r .start + r .len - r .start) (drop (r .start) file)) sheet′ seen′ ≡ parted o
+    pub file-part : partOutcome (r .refusal) (take (r .start + r .len - r .start) (drop (r .start) file)) sheet′ seen′ ≡ partTold o
     file-part = as-part file in-file

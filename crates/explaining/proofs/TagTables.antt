@@ -14,7 +14,7 @@ use Rattle.table_sheet.specs.SheetRows.{rowsFrom, tablesIn}
 use Rattle.table_sheet.proofs.OpenSheets.{count-of-table}
 use Rattle.citations.proofs.TablesThere.{table-absent, table-there}
 use Rattle.rules.specs.Explaining.{tagRows}
-use Rattle.rules.specs.ExplainingRules.{TagsApart, TagTable}
+use Rattle.rules.specs.ExplainingRules.{TagsApart, TagTablePlace}
 use Rattle.explaining.specs.Promise.{tagCount, Telling}
 use Rattle.rules.proofs.TagsDiffer.{tags-differ}
 use Rattle.rules.proofs.ExplainedExactly.{between-named}
@@ -23,10 +23,10 @@ use Rattle.citations.proofs.SurveyedTables.{have-room, sheet-tabled, tables-bac
 -- ---- any sheet
 
 module _ (file sheet : List ℕ) (place : ℕ) where
-  pub in-order : (tagCount sheet place ≡ 0 → ⊥) → TagTable (place - 1) place
+  pub in-order : (tagCount sheet place ≡ 0 → ⊥) → TagTablePlace (place - 1) place
   in-order d = by (between (suc wordTags) (suc secEdgeTags) place) refl d
     where
-      by : (b : Bool) → between (suc wordTags) (suc secEdgeTags) place ≡ b → (pick b (getD sheet (place - 1) 0) 0 ≡ 0 → ⊥) → TagTable (place - 1) place
+      by : (b : Bool) → between (suc wordTags) (suc secEdgeTags) place ≡ b → (pick b (getD sheet (place - 1) 0) 0 ≡ 0 → ⊥) → TagTablePlace (place - 1) place
       by true e d = between-named place e
       by false e d = absurd (d refl)
 

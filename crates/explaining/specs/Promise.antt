@@ -29,16 +29,16 @@ placeOutcome r tables seen = record { answer = r; tables = tables; seen = seen }
 
 -- ---- as a part: the number that takes the refusal, and the bytes
 
-pub record Parted : Type 0 where
+pub record PartTold : Type 0 where
   pub refusal : ℕ
   pub bytes : List ℕ
   pub tables : List ℕ
   pub seen : List ℕ
 
-abbrev pub parted : ExplainingOutcome → Parted
-parted o = record { refusal = o .answer .refusal; bytes = o .answer .part .bytes; tables = o .tables; seen = o .seen }
+abbrev pub partTold : ExplainingOutcome → PartTold
+partTold o = record { refusal = o .answer .refusal; bytes = o .answer .part .bytes; tables = o .tables; seen = o .seen }
 
-abbrev pub partOutcome : ℕ → List ℕ → List ℕ → List ℕ → Parted
+abbrev pub partOutcome : ℕ → List ℕ → List ℕ → List ℕ → PartTold
 partOutcome refusal bytes tables seen = record { refusal = refusal; bytes = bytes; tables = tables; seen = seen }
 
 -- ---- a sheet that can be looked up

@@ -12,7 +12,7 @@ ghost use Rattle.table_sheet.specs.SheetRows.{rowsFrom, tablesIn};
 ghost use Rattle.table_sheet.specs.Standing.{Inside};
 ghost use Rattle.rules.specs.Explaining.{described, description, refusedBy, partOf, explained, afterExplaining};
 ghost use Rattle.rules.specs.ExplainingRules.{TagsApart};
-ghost use Rattle.explaining.specs.Promise.{asExplained, placed, placeOutcome, parted, partOutcome, tagCount, Telling};
+ghost use Rattle.explaining.specs.Promise.{asExplained, placed, placeOutcome, partTold, partOutcome, tagCount, Telling};
 use steps::refusals;
 use table_sheet::Found;
 
@@ -173,7 +173,7 @@ pub fn explain<'a>(
     sheet: &mut [u32],
     seen: &mut [u8],
 ) -> &'a [u8]
-    ensures { λ r. ⌜ partOutcome (now (refusal .exit)) (now r) (now (sheet .exit)) (now (seen .exit)) ≡ parted (afterExplaining (now (file .entry)) (now (list .entry)) table (now (tag .entry)) (now (sheet .entry)) (now (seen .entry))) ⌝ }
+    ensures { λ r. ⌜ partOutcome (now (refusal .exit)) (now r) (now (sheet .exit)) (now (seen .exit)) ≡ partTold (afterExplaining (now (file .entry)) (now (list .entry)) table (now (tag .entry)) (now (sheet .entry)) (now (seen .entry))) ⌝ }
 {
     let told = explain_place(file, list, table, tag, sheet, seen);
     *refusal = told.refusal;

@@ -15,7 +15,7 @@ use Rattle.rules.specs.Sentences.{Edge, Node, Sentence}
 use Rattle.rules.specs.Sheets.{nodeRoom, nodes, sentenceSheet, EdgeRecord, noEdge, edgeRecord, edgeList}
 use Rattle.rules.specs.Climbing.{parentIn, parentOn, Climbs}
 use Rattle.rules.specs.SentenceFrom.{sentenceFrom}
-use Rattle.rules.specs.BeginsThere.{OtherPhrase, ParentsThere}
+use Rattle.rules.specs.BeginsThere.{OtherPhrase, ParentsStand}
 use Rattle.rules.proofs.Conjunctions.{and-left, and-right}
 use Rattle.rules.proofs.EachElement.{each-then, each-joined, each-map}
 use Rattle.rules.proofs.NoGap.{listed-is}
@@ -89,7 +89,7 @@ module _ (file : List ℕ) (at : ℕ) (s : Sentence) (e : sentenceFrom file at �
         there = omega (arith, leb-true parent (499 + length ps) (and-right (leb 500 parent) (leb parent (499 + length ps)) b), phrases-on);
       }
 
-  edges-there : (ns : List Node) → Each (ParentsThere s) ns → Each EdgeThere (joined (map (λ (n : Node). map (edgeRecord (n .number)) (n .secondary)) ns))
+  edges-there : (ns : List Node) → Each (ParentsStand s) ns → Each EdgeThere (joined (map (λ (n : Node). map (edgeRecord (n .number)) (n .secondary)) ns))
   edges-there [] a = tt
   edges-there (n ∷ ns) a =
       each-joined EdgeThere (map (edgeRecord (n .number)) (n .secondary)) _

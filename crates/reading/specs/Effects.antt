@@ -94,8 +94,8 @@ notedBy from step s begins = effect from step 0 0 (kept s [] [] [] begins) .begi
 -- ---- an ordinary line, that was not judged
 
 -- its node without the texts, of which a reading keeps nothing
-abbrev pub bareNode : ℕ → ℕ → NodeSaid
-bareNode its-number its-parent =
+abbrev pub bareSaid : ℕ → ℕ → NodeSaid
+bareSaid its-number its-parent =
     record {
       word = noSpan;
       tag = noSpan;
@@ -110,8 +110,8 @@ bareNode its-number its-parent =
 
 -- a line that is left to the judge does nothing yet
 abbrev pub plainStep : Plain → Step
-plainStep (plain.Word its-parent) = Word (bareNode 0 its-parent)
-plainStep (plain.Phrase its-number its-parent) = Phrase (bareNode its-number its-parent)
+plainStep (plain.Word its-parent) = Word (bareSaid 0 its-parent)
+plainStep (plain.Phrase its-number its-parent) = Phrase (bareSaid its-number its-parent)
 plainStep plain.Other = Ignored
 
 -- ---- what a step needs; size is the file's length

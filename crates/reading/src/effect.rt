@@ -5,7 +5,7 @@ ghost use Prim.Native.Nat.{ℕ, _+_, _-_, _≤_};
 ghost use lib.ListN.{length, set};
 ghost use Rattle.rules.specs.Numbers.{fileLimit};
 ghost use Rattle.judging.specs.States.{tallyIn};
-ghost use Rattle.reading.specs.Effects.{kept, formatRead, handedOut, noted, effect, notedBy, bareNode, plainStep, Applicable};
+ghost use Rattle.reading.specs.Effects.{kept, formatRead, handedOut, noted, effect, notedBy, bareSaid, plainStep, Applicable};
 ghost use Rattle.reading.specs.NotedTags.{outlinesBy, TagApplies};
 use crate::rows::end_table;
 use crate::rows::take_row;
@@ -99,7 +99,7 @@ fn mark(number: u32, stamp: u32, marks: &mut [u32; MARKS])
 
 // A node without its texts.
 fn bare_node(number: u32, parent: u32) -> NodeSaid
-    ensures { λ r. ⌜ r ≡ bareNode number parent ⌝ }
+    ensures { λ r. ⌜ r ≡ bareSaid number parent ⌝ }
 {
     let nowhere = Span { start: 0, len: 0 };
     NodeSaid {

@@ -21,7 +21,7 @@ use Rattle.rules.specs.Sheets.{nodes}
 use Rattle.rules.specs.SentenceFrom.{sentenceFrom}
 use Rattle.rules.specs.Places.{SentenceLies, HandedLies}
 use Rattle.rules.specs.AsWritten.{SentenceSaid}
-use Rattle.rules.specs.BeginsThere.{PhraseAbove, OtherPhrase, ParentsThere, BeginsThere}
+use Rattle.rules.specs.BeginsThere.{PhraseAbove, OtherPhrase, ParentsStand, BeginsThere}
 use Rattle.rules.proofs.EachElement.{each-then, each-both}
 use Rattle.rules.proofs.SaidOfLists.{every-each}
 use Rattle.rules.proofs.TestsAsFacts.{other-is}
@@ -91,7 +91,7 @@ module _ (at : ℕ) where
 
 -- ---- its parents
 
-there : (s : Sentence) (n : Node) → parented (s .phrases) n ≡ true → Rises n → OthersDiffer n → ParentsThere s n
+there : (s : Sentence) (n : Node) → parented (s .phrases) n ≡ true → Rises n → OthersDiffer n → ParentsStand s n
 there s n e r o =
     let L : Edge → Type 0 = λ (x : Edge). listed (s .phrases) (x .parent) ≡ true in
     let D : Edge → Type 0 = λ (x : Edge). not (eqb (n .number) (x .parent)) ≡ true in
@@ -108,11 +108,11 @@ there s n e r o =
     by (inr h) (inl z) = inl z
     by (inr h) (inr l) = inr (l, h)
 
-each-there : (s : Sentence) → Climbable s → Each (ParentsThere s) (nodes s)
+each-there : (s : Sentence) → Climbable s → Each (ParentsStand s) (nodes s)
 each-there s k =
     let Q : Node → Type 0 = λ (n : Node). Rises n × OthersDiffer n in
     let R : Node → Type 0 = λ (n : Node). parented (s .phrases) n ≡ true in
-    each-then (λ (n : Node). R n × Q n) (ParentsThere s) (λ n a. there s n (a .0) (a .1 .0) (a .1 .1)) (nodes s)
+    each-then (λ (n : Node). R n × Q n) (ParentsStand s) (λ n a. there s n (a .0) (a .1 .0) (a .1 .1)) (nodes s)
     (each-both R Q (nodes s) (every-each (parented (s .phrases)) (nodes s) (k .parents)) (each-both Rises OthersDiffer (nodes s) (k .rises) (k .others)))
 
 -- ---- all of it

@@ -17,7 +17,7 @@ use Rattle.rules.proofs.Conjunctions.{and-left, and-right, or-left, or-
 use Rattle.rules.proofs.Same.{eq-same, ne-same, same-false}
 use Rattle.rules.proofs.Sizes.{sheets-fit, fit-sheets, within-fits, long-misfits}
 use Rattle.rules.specs.Explaining.{tagRows, described, describedIn, description, Explanation, partOf, explanation, explained, afterExplaining}
-use Rattle.rules.specs.ExplainingRules.{TagsApart, TagTable, NoRow, RowsTell, by-row, dashes-without, unknown-without, Lacks, Unexplained, no-tag-table, in-neither, file-lacks, list-lacks, ExplainingRule, ExplainingCall}
+use Rattle.rules.specs.ExplainingRules.{TagsApart, TagTablePlace, NoRow, RowsTell, by-row, dashes-without, unknown-without, Lacks, Unexplained, no-tag-table, in-neither, file-lacks, list-lacks, ExplainingRule, ExplainingCall}
 use Rattle.rules.proofs.TagsDiffer.{turned, tags-differ}
 
 -- ---- rows
@@ -76,15 +76,15 @@ described-as tag rs t a (unknown-without d k s) =
 
 -- ---- the table named
 
-named-between : (n place : ℕ) → TagTable n place → between 3 7 place ≡ true
+named-between : (n place : ℕ) → TagTablePlace n place → between 3 7 place ≡ true
 named-between n place t = rw (le-leb 3 place (omega (arith, t .counted, t .first)), le-leb place 7 (omega (arith, t .counted, t .last))) refl
 
-named-rows : (n place : ℕ) (ts : Tables) → TagTable n place → tagRows place ts ≡ table n ts
+named-rows : (n place : ℕ) (ts : Tables) → TagTablePlace n place → tagRows place ts ≡ table n ts
 named-rows n place ts t =
     ap (λ (b : Bool). pick b (table (place - 1) ts) none) (named-between n place t)
     ∙ ap (λ (k : ℕ). table k ts) (let m : place - 1 ≡ n = omega (arith, t .counted) in m)
 
-pub between-named : (place : ℕ) → between 3 7 place ≡ true → TagTable (place - 1) place
+pub between-named : (place : ℕ) → between 3 7 place ≡ true → TagTablePlace (place - 1) place
 between-named place e =
     let low = leb-true 3 place (and-left (leb 3 place) (leb place 7) e) in
     let high = leb-true place 7 (and-right (leb 3 place) (leb place 7) e) in
@@ -110,13 +110,13 @@ module _ (fs ls : Tables) (place : ℕ) (tag : List ℕ) where
   why : told .refusal ≡ 26 → Unexplained fs ls place tag
   why e = by (between 3 7 place) refl
     where
-      in-list : TagTable (place - 1) place → table (place - 1) fs ≡ none → (o : Option (List Row)) → table (place - 1) ls ≡ o → Unexplained fs ls place tag
+      in-list : TagTablePlace (place - 1) place → table (place - 1) fs ≡ none → (o : Option (List Row)) → table (place - 1) ls ≡ o → Unexplained fs ls place tag
       in-list t f none q = in-neither (place - 1) t f q
       in-list t f (some rs) q =
           let p = of-list (named-rows (place - 1) place fs t ∙ f) ∙ ap (λ (x : Option (List Row)). partOf 2 (describedIn tag x)) (named-rows (place - 1) place ls t ∙ q) in
           list-lacks (place - 1) rs t f q (lacks tag rs (refused-none 2 (described tag rs) (sym (ap (λ (x : Explanation). x .refusal) p) ∙ e)))
 
-      in-file : TagTable (place - 1) place → (o : Option (List Row)) → table (place - 1) fs ≡ o → Unexplained fs ls place tag
+      in-file : TagTablePlace (place - 1) place → (o : Option (List Row)) → table (place - 1) fs ≡ o → Unexplained fs ls place tag
       in-file t none q = in-list t q (table (place - 1) ls) refl
       in-file t (some rs) q =
           let p = of-file (table (place - 1) fs) rs (named-rows (place - 1) place fs t) q in

@@ -18,7 +18,7 @@ use Rattle.rules.specs.Rules.{Rule, rule}
 use Rattle.rules.specs.Tables.{Row, origins, editors, wordTags, hasId, hasTag, tagLimit}
 use Rattle.rules.specs.Rows.{roomFor, lastId, follows, ownTag, isFlag, originRow, editorRow, tagRow, rowOf}
 use Rattle.rules.specs.Phases.{Answer, next}
-use Rattle.rules.specs.ColumnsAtFault.{OriginBreaks, originName, originComment, EditorBreaks, fullName, TagBreaks, description, RowBreaks}
+use Rattle.rules.specs.ColumnsAtFault.{OriginBreaks, originName, originComment, EditorBreaks, fullName, TagBreaks, rowDescription, RowBreaks}
 use Rattle.rules.specs.ColumnsAtFault as at
 use Rattle.rules.proofs.Conjunctions.{or-left, or-right, false-if-never}
 use Rattle.rules.proofs.SaidOfLists.{true-or-not, never-both}
@@ -196,7 +196,7 @@ module _ (line : Text) where
         flagged = eqb which wordTags
 
         described : Text
-        described = description which cs
+        described = rowDescription which cs
 
         W : Type 0
         W = given described ≡ true

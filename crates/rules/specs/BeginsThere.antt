@@ -24,7 +24,7 @@ PhraseAbove s node parent = (listed (s .phrases) parent ≡ true) × (node < par
 abbrev pub OtherPhrase : Sentence → ℕ → ℕ → Type 0
 OtherPhrase s node parent = (listed (s .phrases) parent ≡ true) × (parent ≡ node → ⊥)
 
-pub record ParentsThere (s : Sentence) (n : Node) : Type 0 where
+pub record ParentsStand (s : Sentence) (n : Node) : Type 0 where
   pub parent : (n .parent ≡ 0) ⊎ PhraseAbove s (n .number) (n .parent)
   pub secondary : Each (λ (e : Edge). OtherPhrase s (n .number) (e .parent)) (n .secondary)
 
@@ -34,7 +34,7 @@ pub record BeginsThere (file : List ℕ) (at : ℕ) (s : Sentence) : Type 0 wher
   pub end : ℕ
   pub written : SentenceSaid file (record { end = end; sentence = s })
   pub lies : SentenceLies file s
-  pub parents : Each (ParentsThere s) (nodes s)
+  pub parents : Each (ParentsStand s) (nodes s)
   pub climbs : EveryChainClimbs s (parentIn s)
   pub climbs-on-sheet : EveryChainClimbs s (parentOn (sentenceSheet s))
   -- of the file's first n bytes, with any bytes behind them; with none behind

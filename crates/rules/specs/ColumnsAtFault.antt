@@ -69,15 +69,15 @@ pub data EditorBreaks (cs : List Column) : ℕ → Text → Type 0 where
   full-name : Longer 40 (fullName cs) → EditorBreaks cs 10 (fullName cs)
 
 -- behind the tag, in WORDTAG behind the flag
-abbrev pub description : ℕ → List Column → Text
-description which cs = trim (pick (eqb which wordTags) (column cs 2) (column cs 1) .after)
+abbrev pub rowDescription : ℕ → List Column → Text
+rowDescription which cs = trim (pick (eqb which wordTags) (column cs 2) (column cs 1) .after)
 
 pub data TagBreaks (which : ℕ) (cs : List Column) : ℕ → Text → Type 0 where
   id : NoId (written cs 0) → TagBreaks which cs 8 (written cs 0)
   long-tag : Longer (tagBytes which) (written cs 1) → TagBreaks which cs 10 (written cs 1)
   tag-is-sign : written cs 1 .bytes ≡ commentSign → TagBreaks which cs 10 (written cs 1)
   flag : which ≡ wordTags → (written cs 2 .bytes ≡ bytes "Y" → ⊥) → (written cs 2 .bytes ≡ bytes "N" → ⊥) → TagBreaks which cs 10 (written cs 2)
-  long-description : Longer 80 (description which cs) → TagBreaks which cs 10 (description which cs)
+  long-description : Longer 80 (rowDescription which cs) → TagBreaks which cs 10 (rowDescription which cs)
 
 abbrev pub RowBreaks : ℕ → List Column → ℕ → Text → Type 0
 RowBreaks which cs n t = pick (eqb which origins) (OriginBreaks cs n t) (pick (eqb which editors) (EditorBreaks cs n t) (TagBreaks which cs n t))

@@ -26,7 +26,7 @@ pub record PartStands (file list : List ℕ) (e : Explanation) : Type 0 where
   pub refused : e .refusal ≢ 0 → (e .of ≡ 0) × (e .part ≡ noText)
 
 -- the place counted from 1 of one of the five tag tables
-pub record TagTable (n place : ℕ) : Type 0 where
+pub record TagTablePlace (n place : ℕ) : Type 0 where
   pub counted : place ≡ suc n
   pub first : 2 ≤ n
   pub last : n ≤ 6
@@ -48,10 +48,10 @@ pub record Lacks (tag : List ℕ) (rs : List Row) : Type 0 where
 
 -- the table named isn't one of the five tag tables, is in neither file, or lacks the tag
 pub data Unexplained (file list : Tables) (place : ℕ) (tag : List ℕ) : Type 0 where
-  no-tag-table : ((n : ℕ) → TagTable n place → ⊥) → Unexplained file list place tag
-  in-neither : (n : ℕ) → TagTable n place → table n file ≡ none → table n list ≡ none → Unexplained file list place tag
-  file-lacks : (n : ℕ) (rs : List Row) → TagTable n place → table n file ≡ some rs → Lacks tag rs → Unexplained file list place tag
-  list-lacks : (n : ℕ) (rs : List Row) → TagTable n place → table n file ≡ none → table n list ≡ some rs → Lacks tag rs → Unexplained file list place tag
+  no-tag-table : ((n : ℕ) → TagTablePlace n place → ⊥) → Unexplained file list place tag
+  in-neither : (n : ℕ) → TagTablePlace n place → table n file ≡ none → table n list ≡ none → Unexplained file list place tag
+  file-lacks : (n : ℕ) (rs : List Row) → TagTablePlace n place → table n file ≡ some rs → Lacks tag rs → Unexplained file list place tag
+  list-lacks : (n : ℕ) (rs : List Row) → TagTablePlace n place → table n file ≡ none → table n list ≡ some rs → Lacks tag rs → Unexplained file list place tag
 
 abbrev pub Accepted : List ℕ → Type 0
 Accepted file = surveyOf file .refusal ≡ 0
@@ -61,9 +61,9 @@ pub record ExplainingRule (file list : List ℕ) (place : ℕ) (tag : List ℕ) 
   pub file-first : surveyOf file .refusal ≢ 0 → explained (surveyOf file) (surveyOf list) place tag ≡ refusedBy (surveyOf file .refusal)
   pub then-list : Accepted file → surveyOf list .refusal ≢ 0 → explained (surveyOf file) (surveyOf list) place tag ≡ refusedBy (surveyOf list .refusal)
   -- which of the two is decided by the table's presence alone: the file if it has it, else the list; the part is what its rows tell
-  pub by-file : Accepted file → Accepted list → (n : ℕ) (rs : List Row) (t : Text) → TagTable n place → table n (surveyOf file .tables) ≡ some rs → RowsTell tag rs t
+  pub by-file : Accepted file → Accepted list → (n : ℕ) (rs : List Row) (t : Text) → TagTablePlace n place → table n (surveyOf file .tables) ≡ some rs → RowsTell tag rs t
       → explained (surveyOf file) (surveyOf list) place tag ≡ record { refusal = 0; of = 1; part = t }
-  pub by-list : Accepted file → Accepted list → (n : ℕ) (rs : List Row) (t : Text) → TagTable n place → table n (surveyOf file .tables) ≡ none
+  pub by-list : Accepted file → Accepted list → (n : ℕ) (rs : List Row) (t : Text) → TagTablePlace n place → table n (surveyOf file .tables) ≡ none
       → table n (surveyOf list .tables) ≡ some rs → RowsTell tag rs t
       → explained (surveyOf file) (surveyOf list) place tag ≡ record { refusal = 0; of = 2; part = t }
   -- 26 exactly if there is nothing to tell

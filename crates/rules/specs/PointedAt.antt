@@ -36,12 +36,12 @@ pub record FaultyLine (file : List ℕ) : Type 0 where
   pub one-line : OneLine bytes
   pub faulty : Clean (lineIn front bytes []) → ⊥
 
-abbrev pub lineOf : {file : List ℕ} → FaultyLine file → Text
-lineOf l = record { start = length (l .front); bytes = l .bytes }
+abbrev pub lineText : {file : List ℕ} → FaultyLine file → Text
+lineText l = record { start = length (l .front); bytes = l .bytes }
 
 pub record PointedAt (file : List ℕ) : Type 0 where
   pub its : FaultyLine file
-  pub at : AtColumn (Breaks (read begin (its .front) .phase) (lineOf its)) (lineOf its) (surveyOf file .refusal) (surveyOf file .place)
+  pub at : AtColumn (Breaks (read begin (its .front) .phase) (lineText its)) (lineText its) (surveyOf file .refusal) (surveyOf file .place)
 
 -- the first byte of the first faulty line, or of an unended rest; the file's end, if no line is faulty; 0 of a file too long
 pub data OtherPlace (file : List ℕ) : Type 0 where

@@ -2,7 +2,7 @@
 
 mod common;
 
-use common::survey_of;
+use common::{size_of, survey_of};
 use plain::generate::damaged_columns;
 use plain::Survey;
 
@@ -16,15 +16,19 @@ fn line_around(file: &[u8], place: usize) -> (usize, usize) {
     )
 }
 
+/// How many columns of a line stand in front of a place.
+fn columns_before(file: &[u8], line: usize, place: usize) -> usize {
+    file[line..place]
+        .split(|byte| b" \t".contains(byte))
+        .filter(|column| !column.is_empty())
+        .count()
+}
+
 /// A column that never has the refusal where the column at fault stands.
 fn mended_column(file: &[u8], line: usize, answer: &Survey) -> Option<&'static [u8]> {
     let itself_highest = file[line..].starts_with(b"#999");
     let at_a_sign = file[answer.place as usize] == b'#';
-    let in_first_half = file[line..answer.place as usize]
-        .split(|byte| b" \t".contains(byte))
-        .filter(|column| !column.is_empty())
-        .count()
-        < 4;
+    let in_first_half = columns_before(file, line, answer.place as usize) < 4;
     match answer.refusal {
         8 if at_a_sign && line == answer.place as usize => Some(b"#999"),
         8 => Some(b"999"),
@@ -49,7 +53,7 @@ fn with_column(file: &[u8], place: usize, column: &[u8]) -> Vec<u8> {
 fn columns_are_mended_from_left_to_right() {
     let (mut equal, mut larger) = ([0; 27], [0; 27]);
     for seed in 0..30_000 {
-        let file = damaged_columns(seed, 1 + (seed % 6) as usize);
+        let file = damaged_columns(seed, size_of(seed));
         let answer = survey_of(&file);
         if ![8, 10, 15, 18, 19].contains(&answer.refusal) {
             continue;
@@ -88,49 +92,47 @@ fn columns_are_mended_from_left_to_right() {
     }
 }
 
+/// A refusal, and how many columns stand in front of the one at fault; 7 for more.
+const PLACES_AT_FAULT: [(u32, usize); 21] = [
+    (8, 0),
+    (8, 1),
+    (8, 2),
+    (8, 3),
+    (8, 4),
+    (8, 6),
+    (10, 1),
+    (10, 2),
+    (10, 3),
+    (10, 5),
+    (10, 7),
+    (15, 2),
+    (15, 4),
+    (18, 1),
+    (18, 2),
+    (18, 3),
+    (18, 5),
+    (18, 7),
+    (19, 4),
+    (19, 6),
+    (19, 7),
+];
+
 /// Each kind of place is met: a parent, a secondary parent, a label, a text.
 #[test]
 fn damaged_columns_stand_everywhere() {
     let mut met = std::collections::BTreeMap::new();
     for seed in 0..20_000 {
-        let file = damaged_columns(seed, 1 + (seed % 6) as usize);
+        let file = damaged_columns(seed, size_of(seed));
         let answer = survey_of(&file);
         let (line, _) = match answer.refusal {
             8 | 10 | 15 | 18 | 19 => line_around(&file, answer.place as usize),
             _ => continue,
         };
-        let before = &file[line..answer.place as usize];
-        let columns = before
-            .split(|byte| b" \t".contains(byte))
-            .filter(|column| !column.is_empty())
-            .count();
+        let columns = columns_before(&file, line, answer.place as usize);
         *met.entry((answer.refusal, columns.min(7))).or_insert(0) += 1;
     }
     println!("{met:?}");
-    let expected = [
-        (8, 0),
-        (8, 1),
-        (8, 2),
-        (8, 3),
-        (8, 4),
-        (8, 6),
-        (10, 1),
-        (10, 2),
-        (10, 3),
-        (10, 5),
-        (10, 7),
-        (15, 2),
-        (15, 4),
-        (18, 1),
-        (18, 2),
-        (18, 3),
-        (18, 5),
-        (18, 7),
-        (19, 4),
-        (19, 6),
-        (19, 7),
-    ];
-    for kind in expected {
+    for kind in PLACES_AT_FAULT {
         assert!(
             met.get(&kind).is_some_and(|&count| count >= 20),
             "{kind:?}: {met:?}"

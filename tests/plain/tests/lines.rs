@@ -25,9 +25,9 @@ fn ignored_lines() {
     ];
     judge_all("", TABLES, &cases);
     judge_all(TABLES, "", &cases);
-    let mut in_table = cases;
-    for case in &mut in_table {
-        // In a table a line that begins with neither `#` nor white is a row.
+    let mut inside = cases;
+    for case in &mut inside {
+        // In a table a line that begins with neither `#` nor white is a row, in a sentence a word.
         case.1 = if ["%", "% %", "\u{7f}"].contains(&case.0) {
             7
         } else {
@@ -35,16 +35,8 @@ fn ignored_lines() {
         };
     }
     let tables_without_end = TABLES.strip_suffix("#EOT EDITOR\n").unwrap();
-    judge_all(tables_without_end, "#EOT EDITOR\n", &in_table);
-    let mut in_sentence = cases;
-    for case in &mut in_sentence {
-        case.1 = if ["%", "% %", "\u{7f}"].contains(&case.0) {
-            7
-        } else {
-            case.1
-        };
-    }
-    judge_all(&[TABLES, BOS].concat(), EOS, &in_sentence);
+    judge_all(tables_without_end, "#EOT EDITOR\n", &inside);
+    judge_all(&[TABLES, BOS].concat(), EOS, &inside);
 }
 
 #[test]

@@ -12,7 +12,7 @@ use Rattle.table_sheet.specs.SheetRows.{rowsFrom}
 use Rattle.table_sheet.specs.Standing.{Inside}
 use Rattle.citations.proofs.TablesThere.{rows-in-sheet}
 use Rattle.rules.specs.Explaining.{describedIn, partOf}
-use Rattle.rules.specs.ExplainingRules.{TagsApart, TagTable}
+use Rattle.rules.specs.ExplainingRules.{TagsApart, TagTablePlace}
 use Rattle.explaining.specs.Promise.{asExplained, tagCount}
 use Rattle.explaining.proofs.TagTables.{in-order, uncounted, its-count, its-rows}
 use Rattle.explaining.proofs.look_up.Statement.{statement}
@@ -52,7 +52,7 @@ module _ (e : tie.Else1) where
   there : tagCount (sheet its) (its .args .table) ≡ 0 → ⊥
   there z = e .if1 .left (count-is ∙ z)
 
-  place : TagTable n (its .args .table)
+  place : TagTablePlace n (its .args .table)
   place = in-order (file its) (sheet its) (its .args .table) there
 
   below : n < tableCount

@@ -21,7 +21,7 @@ pub fn aim_at_any(dice: &mut Dice, draft: &mut Draft) {
     aim_at(dice, refusal, draft);
 }
 
-pub fn aim_at(dice: &mut Dice, refusal: usize, draft: &mut Draft) {
+fn aim_at(dice: &mut Dice, refusal: usize, draft: &mut Draft) {
     match refusal {
         3 => leave_a_rest(dice, draft),
         6 => wrong_kind(dice, draft),

@@ -1,5 +1,6 @@
 //! Damage to several columns of one line, with equal and with different numbers.
 
+use super::aimed_lines::is_node;
 use super::dice::Dice;
 use super::draft::{Draft, DraftLine, Role};
 use super::line_damage::{
@@ -32,10 +33,6 @@ pub fn several_columns_at_fault(dice: &mut Dice, draft: &mut Draft) {
             spoil_column(dice, refusal, line);
         }
     }
-}
-
-fn is_node(role: Role) -> bool {
-    matches!(role, Role::Word | Role::Phrase)
 }
 
 fn can_have(role: Role, refusal: usize) -> bool {
