@@ -63,8 +63,9 @@ uint32_t hraunlik_open(const uint8_t *file, size_t, uint32_t number, uint32_t *t
 uint32_t hraunlik_open_at(const uint8_t *file, size_t, uint32_t place, uint32_t *sheet, size_t,
     uint32_t *edges, size_t);
 /* A survey that writes the tidy text of an accepted file to the front of output, of any length (the
- * file's and HRAUNLIK_TIDY_ROOM more always suffices): 0, and *length is the text's; else the
- * survey's refusal, or 25, with output unchanged and *length 0. sheet and edges end as zeros. */
+ * file's and HRAUNLIK_TIDY_ROOM more suffices if that is at most HRAUNLIK_FILE_LIMIT): 0, and
+ * *length is the text's; else the survey's refusal, or 25, with output unchanged and *length 0.
+ * sheet and edges end as zeros. */
 uint32_t hraunlik_write(const uint8_t *file, size_t, uint8_t *output, size_t, uint32_t *tables,
     size_t, uint8_t *seen, size_t, uint32_t *sheet, size_t, uint32_t *edges, size_t,
     uint32_t *place, uint32_t *length);
