@@ -163,5 +163,10 @@ pub mod TagsDiffer
 pub mod ExplainedThere
 pub mod ExplainedExactly
 pub mod ExplainedByHand
+pub mod TidyColumns
+pub mod TidyOrder
+pub mod TidyLines
+pub mod OneTidyText
+pub mod FullLines
 mod WrongReadings
 mod WrongCalls

@@ -112,7 +112,7 @@ module _ {A : Type 0} (key : A → ℕ) where
   first-alike x y xs ys r q (inr s) (inl e) = sym e
   first-alike x y xs ys r q (inr s) (inr t) = absurd (omega (arith, above (suc (key y)) x ys q s, above (suc (key x)) y xs r t))
 
-  rising-alike : (k : ℕ) (xs ys : List A) → Rising key k xs → Rising key k ys → Among xs ys → Among ys xs → xs ≡ ys
+  pub rising-alike : (k : ℕ) (xs ys : List A) → Rising key k xs → Rising key k ys → Among xs ys → Among ys xs → xs ≡ ys
   rising-alike k [] [] r q a b = refl
   rising-alike k [] (y ∷ ys) r q a b = absurd (b .0)
   rising-alike k (x ∷ xs) [] r q a b = absurd (a .0)

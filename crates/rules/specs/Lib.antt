@@ -43,6 +43,8 @@ pub mod IndexRules
 pub mod WritingRule
 pub mod Refusals
 pub mod AsWritten
+pub mod TidyLines
+pub mod TidyOrder
 pub mod BeginsThere
 pub mod BrokenNumbers
 pub mod ColumnsAtFault
