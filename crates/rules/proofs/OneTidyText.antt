@@ -3,16 +3,18 @@
 use Prim.Native.Nat.{ℕ, suc}
 use native.Mathlib.Omega.{arith}
 use mathlib.Core.Path.{_≡_, refl, sym, ap, ap₂, _∙_, subst}
-use mathlib.Core.Logic.{inl, inr}
+use mathlib.Core.Logic.{inl, inr, _↔_}
 use mathlib.Core.Bool.{Bool, true, false}
 use mathlib.Core.Option.{Option, none, some}
 use mathlib.Core.List.{List, [], _∷_, _++_}
 use lib.Dec.{leb}
 use Rattle.rules.specs.Lists.{pick, bytes}
-use Rattle.rules.specs.GrammarNumbers.{Numeral}
+use Rattle.rules.specs.GrammarNumbers.{Numeral, sentenceRange}
 use Rattle.rules.specs.GrammarNames.{endOfLine}
 use Rattle.rules.specs.GrammarContent.{RowContent, NodeContent, HeadContent, SentenceContent, Content}
 use Rattle.rules.specs.GrammarLines.{In}
+use Rattle.rules.specs.Grammar.{Contains}
+use Rattle.rules.specs.Writing.{tidyOf}
 use Rattle.rules.specs.AsWritten.{EachWith}
 use Rattle.rules.specs.TidyLines.{Saying, the-text, the-number, the-id, the-phrase, Says, PartedBy, TidyLine, Consists, tidyLines}
 use Rattle.rules.specs.TidyOrder.{Rises, ByRising, TableOrdered, TablesOrdered, SentenceOrdered, TidyOrder, WrittenTidily}
@@ -22,6 +24,7 @@ use Rattle.rules.proofs.EachElement.{each-then}
 use Rattle.rules.proofs.Sorting.{Rising}
 use Rattle.rules.proofs.SameLists.{each-itself, Among, rising-alike}
 use Rattle.rules.proofs.TidyOrder.{in-some, some-in}
+use Rattle.rules.proofs.TidyLines.{tidy-as-said}
 
 -- ---- columns and lines
 
@@ -132,3 +135,11 @@ pub one-tidy-text : (c : Content) (xs ys : List ℕ) → WrittenTidily c xs → 
 one-tidy-text c xs ys a b =
     let same = one-tidy-order c (a .inOrder) (b .inOrder) (a .ordered) (b .ordered) in
     one-text (tidyLines (b .inOrder)) xs ys (subst (λ (d : Content). Consists (tidyLines d) xs) same (a .consists)) (b .consists)
+
+-- of what a file contains, a text is so exactly if it is the file's tidy text
+pub tidy-exactly : (file : List ℕ) (content : Content) → Contains sentenceRange file content → (text : List ℕ)
+    → WrittenTidily content text ↔ (text ≡ tidyOf file)
+tidy-exactly file content c text = (
+  λ w. one-tidy-text content text (tidyOf file) w (tidy-as-said file content c),
+  λ e. subst (WrittenTidily content) (sym e) (tidy-as-said file content c),
+)

@@ -6,6 +6,7 @@ use mathlib.Core.Path.{_≡_, refl, sym, ap, _∙_, subst}
 use mathlib.Core.Bool.{true, false, not}
 use mathlib.Core.Option.{Option, none, some}
 use mathlib.Core.List.{List, [], _∷_, _++_, map}
+use lib.ListN.{take}
 use Rattle.rules.specs.Lists.{bytes, empty, every, same, joined, sorted, Each}
 use Rattle.rules.specs.Bytes.{percents}
 use Rattle.rules.specs.Texts.{given}
@@ -19,7 +20,8 @@ use Rattle.rules.specs.GrammarContent.{Content}
 use Rattle.rules.specs.GrammarSurvey.{rowRead, tableRead, edgeRead, nodeRead, headRead, sentenceRead, contentOf}
 use Rattle.rules.specs.Grammar.{Contains}
 use Rattle.rules.specs.Tidy.{digitsOf, idDigits, commented, flagged, secondText, edgeColumns, keywordLine, rowLine, tableName, tableText, tablesText, nodeName, nodeLine, headingLine, sentenceText, tidyText}
-use Rattle.rules.specs.Writing.{tidyOf}
+use Rattle.rules.specs.Writing.{tidyOf, WritingOutcome}
+use Rattle.rules.specs.WritingRule.{GrantedWriting}
 use Rattle.rules.specs.TidyLines.{Saying, the-text, the-phrase, Says, tidyComment, tidyFlag, tidySecond, tidyEdge, tidyRow, withTitle, tidyTable, tidyTables, tidyNode, tidyWord, tidyPhrase, tidyHead, withNumber, tidySentence, tidyLines}
 use Rattle.rules.specs.TidyOrder.{WrittenTidily}
 use Rattle.rules.proofs.Conjunctions.{and-left, every-first}
@@ -177,3 +179,8 @@ tidy-lines file =
 -- and of what the grammar says that a file contains
 pub tidy-as-said : (file : List ℕ) (content : Content) → Contains sentenceRange file content → WrittenTidily content (tidyOf file)
 tidy-as-said file content c = subst (λ (d : Content). WrittenTidily d (tidyOf file)) (as-written file content c) (tidy-lines file)
+
+-- and of what a granted writing has written
+pub written-tidily : (file output : List ℕ) (o : WritingOutcome) → GrantedWriting file output o
+    → WrittenTidily (contentOf (surveyOf file)) (take (o .answer .written) (o .output))
+written-tidily file output o g = subst (WrittenTidily (contentOf (surveyOf file))) (sym (g .text)) (tidy-lines file)
