@@ -168,5 +168,6 @@ pub mod TidyOrder
 pub mod TidyLines
 pub mod OneTidyText
 pub mod FullLines
+pub mod LastPlaces
 mod WrongReadings
 mod WrongCalls
