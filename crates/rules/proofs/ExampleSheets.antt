@@ -1,11 +1,12 @@
--- The sheets of the file of `ExampleFile`, entry by entry: its tables, its first sentence, that sentence's secondary edges;
--- and where its sentences begin. By computing.
+-- The sheets of the file of `ExampleFile`, entry by entry: its tables, its first sentence, that sentence's secondary edges; the
+-- table sheet of a file refused inside a table; and where sentences begin. By computing.
 use Prim.Native.Nat.{ℕ}
+use mathlib.Core.Path.{_≡_, refl}
 use mathlib.Core.Option.{Option, none, some}
 use mathlib.Core.List.{List, [], _∷_, _++_}
 use lib.ListN.{replicate}
 use lib.Dec.{T}
-use Rattle.rules.specs.Lists.{same}
+use Rattle.rules.specs.Lists.{bytes, same}
 use Rattle.rules.specs.Bytes.{ignored}
 use Rattle.rules.specs.Texts.{rightTrim, trimFrom, frontBytes, behindFrom}
 use Rattle.rules.specs.Columns.{columnsFrom, fields, comment}
@@ -52,6 +53,18 @@ tableSheetB =
 pub tables-of-B : T (same (tableSheet (surveyOf fileB .tables)) tableSheetB)
 unfolding ignored rightTrim trimFrom frontBytes behindFrom columnsFrom fields comment valueFrom decimal broken checked hasId hasTag known originRow editorRow tagRow headingOf endRules endOf pairs paired parentsWritten tagsShort tagsKnown parentsAllowed wordOf phraseOf formatOf tableOpened tableEnded firstColumn atStart behindOne atTop amongRows amongNodes lineAt taken judged after step surveyOf rowsRoom tableSheet
 tables-of-B = tt
+
+-- ---- a file refused inside EDITOR, by a repeated id: its closed ORIGIN is on the sheet, and nothing of EDITOR
+
+abbrev pub insideEditor : List ℕ
+insideEditor = bytes "#FORMAT 3\n#BOT ORIGIN\n1 lab\n7 press %% Berlin\n#EOT ORIGIN\n#BOT EDITOR\n2 kim Kim\n2 lee Lee\n"
+
+abbrev sheetInsideEditor : List ℕ
+sheetInsideEditor = (3 ∷ 0 ∷ 0 ∷ 0 ∷ 0 ∷ 0 ∷ 0 ∷ []) ++ (2 ∷ 24 ∷ 3 ∷ 0 ∷ 0 ∷ 0 ∷ 8 ∷ 30 ∷ 5 ∷ 39 ∷ 6 ∷ 0 ∷ []) ++ zeros 10740
+
+pub tables-inside-editor : (surveyOf insideEditor .refusal ≡ 11) × (surveyOf insideEditor .place ≡ 80) × T (same (tableSheet (surveyOf insideEditor .tables)) sheetInsideEditor)
+unfolding ignored rightTrim trimFrom frontBytes behindFrom columnsFrom fields comment valueFrom decimal broken checked hasId hasTag known originRow editorRow tagRow headingOf endRules endOf pairs paired parentsWritten tagsShort tagsKnown parentsAllowed wordOf phraseOf formatOf tableOpened tableEnded firstColumn atStart behindOne atTop amongRows amongNodes lineAt taken judged after step surveyOf rowsRoom tableSheet
+tables-inside-editor = (refl, refl, tt)
 
 -- ---- sentence 12: number, editor + 1, date, origin, comment, words, phrases, edges; nodes 0, 1, 500, 501, 502
 

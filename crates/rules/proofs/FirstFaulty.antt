@@ -37,7 +37,7 @@ some-fault : (f g : Fault) → some f ≡ some g → g ≡ f
 some-fault f g e = cc
 
 -- the reading behind a line that went well stands at a line's first byte
-line-fresh : (done l : List ℕ) → Fresh done → OneLine l → (r : Reading) → read begin (lineIn done l []) ≡ r → r .fault ≡ none → r .part ≡ [] → r .at ≡ suc (length done + length l) → r .lineStart ≡ suc (length done + length l)
+pub line-fresh : (done l : List ℕ) → Fresh done → OneLine l → (r : Reading) → read begin (lineIn done l []) ≡ r → r .fault ≡ none → r .part ≡ [] → r .at ≡ suc (length done + length l) → r .lineStart ≡ suc (length done + length l)
     → Fresh (lineIn done l [])
 line-fresh done l f o r e sound unbegun at from =
     let size : length (lineIn done l []) ≡ suc (length done + length l) = omega (arith, length-append done (l ++ (10 ∷ [])), length-append l (10 ∷ [])) in

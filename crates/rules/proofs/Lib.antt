@@ -169,5 +169,8 @@ pub mod TidyLines
 pub mod OneTidyText
 pub mod FullLines
 pub mod LastPlaces
+pub mod WalkedLines
+pub mod StandingTables
+pub mod TablesTold
 mod WrongReadings
 mod WrongCalls

@@ -46,14 +46,14 @@ Ends rest ph out = (rest ≡ []) × (atEnd ph ≡ 0)
 abbrev pub sentencesOf : List Handed → List Sentence
 sentencesOf hs = map (λ (h : Handed). h .sentence) hs
 
-numbers-out : (hs : List Handed) → numbers hs ≡ numbersIn (sentencesOf hs)
+pub numbers-out : (hs : List Handed) → numbers hs ≡ numbersIn (sentencesOf hs)
 numbers-out hs = sym (map-map (λ (s : Sentence). s .heading .number) (λ (h : Handed). h .sentence) hs)
 
-one-more-out : (hs : List Handed) (h : Handed) → sentencesOf (hs ++ (h ∷ [])) ≡ sentencesOf hs ++ (h .sentence ∷ [])
+pub one-more-out : (hs : List Handed) (h : Handed) → sentencesOf (hs ++ (h ∷ [])) ≡ sentencesOf hs ++ (h .sentence ∷ [])
 one-more-out hs h = map-append (λ (h : Handed). h .sentence) hs (h ∷ [])
 
 -- a reading in front of a line
-abbrev fresh : ℕ → Phase → List Handed → Reading
+abbrev pub fresh : ℕ → Phase → List Handed → Reading
 fresh a ph hs = record { at = a; lineStart = a; part = []; phase = ph; handed = hs; fault = none }
 
 module _ (rest : List ℕ) (u : Unended rest) where

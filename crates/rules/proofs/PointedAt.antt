@@ -29,7 +29,7 @@ use Rattle.rules.proofs.CleanFronts.{Fresh, survey-is, refused-here}
 use Rattle.rules.proofs.LastLine.{unended-only}
 use Rattle.rules.proofs.FirstFaulty.{FirstFaulty, first-faulty}
 
-fresh-clean : (front : List ℕ) → WithinLimit front → Fresh front → Clean front
+pub fresh-clean : (front : List ℕ) → WithinLimit front → Fresh front → Clean front
 fresh-clean front fits k =
     record { fits = fits; place = ap (λ (v : Survey). v .place) (survey-is front fits) ∙ rw (k .sound, k .unbegun) (k .at) }
 

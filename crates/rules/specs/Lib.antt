@@ -49,5 +49,6 @@ pub mod BeginsThere
 pub mod BrokenNumbers
 pub mod ColumnsAtFault
 pub mod PointedAt
+pub mod TablesTold
 pub mod Explaining
 pub mod ExplainingRules
