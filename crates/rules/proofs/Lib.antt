@@ -169,6 +169,7 @@ pub mod TidyLines
 pub mod OneTidyText
 pub mod FullLines
 pub mod LastPlaces
+pub mod TextLimits
 pub mod WalkedLines
 pub mod StandingTables
 pub mod TablesTold

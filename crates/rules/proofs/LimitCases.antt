@@ -1,4 +1,4 @@
--- Document 01, "The numbers of refusal", 12 and 16: the 257th row, the 501st word and the 513th secondary edge are refused.
+-- Document 01, "The numbers of refusal", 12 and 16: the 257th row of each kind of table, the 501st word and the 513th secondary edge are refused.
 -- Computed together.
 use Prim.Native.Nat.{ℕ}
 use mathlib.Core.List.{List, [], _∷_, _++_, map}
@@ -34,8 +34,15 @@ edgedPhrase n = inside "#500 S -- -- 0" ++ joined (replicate n (bytes " s 501"))
 abbrev worded : ℕ → List ℕ
 worded n = inside "" ++ joined (replicate n (bytes "w T -- -- 0\n"))
 
+-- a table with so many rows
 abbrev rowed : ℕ → List ℕ
 rowed n = behindFormat "#BOT ORIGIN\n" ++ joined (map (λ (k : ℕ). digitsOf k ++ bytes " x\n") (counting 1 n))
+
+abbrev editorRowed : ℕ → List ℕ
+editorRowed n = behindFormat "#BOT EDITOR\n" ++ joined (map (λ (k : ℕ). digitsOf k ++ bytes " x y\n") (counting 1 n))
+
+abbrev tagRowed : ℕ → List ℕ
+tagRowed n = behindFormat "#BOT NODETAG\n" ++ joined (map (λ (k : ℕ). digitsOf k ++ bytes " " ++ digitsOf k ++ bytes " y\n") (counting 1 n))
 
 abbrev limitCases : List Case
 limitCases =
@@ -43,6 +50,8 @@ limitCases =
     ∷ case (edgedPhrase 513) 16 87 0 0
     ∷ case (worded 501) 16 6087 0 0
     ∷ case (rowed 257) 12 1450 0 0
+    ∷ case (editorRowed 257) 12 1962 0 0
+    ∷ case (tagRowed 257) 12 2367 0 0
     ∷ []
 
 pub each-limit : T (every holds limitCases)

@@ -2,6 +2,8 @@
 -- that it gets. Computed together.
 use Prim.Native.Nat.{ℕ}
 use Prim.Native.String.{String}
+use mathlib.Core.Path.{_≡_, refl}
+use mathlib.Core.Bool.{true}
 use mathlib.Core.List.{List, [], _∷_, _++_}
 use lib.ListN.{replicate}
 use lib.Dec.{T}
@@ -37,7 +39,7 @@ abbrev pub inside : String → List ℕ
 inside s = behindTables "#BOS 7 2 0 1\n" ++ bytes s
 
 -- so many equal bytes, and the line's end
-abbrev run : ℕ → String → String → List ℕ
+abbrev pub run : ℕ → String → String → List ℕ
 run n letter s = joinedRun n (bytes letter) ++ bytes s
   where
     joinedRun : ℕ → List ℕ → List ℕ
@@ -54,6 +56,29 @@ cannotStand =
     ∷ case (behindFormat "#BOT ORIGIN\n#EOT EDITOR\n") 6 22 0 0
     ∷ case (inside "#500 S -- -- 0\nJa ITJ -- -- 0\n") 6 102 0 0
     ∷ case (inside "#EOS 7\n#BOT WORDTAG\n") 6 94 1 94
+    ∷ case (behindFormat "#BOT FOO\n") 6 10 0 0
+    ∷ case (behindFormat "#BOT FOO x\n") 6 10 0 0
+    ∷ case (behindFormat "#BOT ORIGIN\n#EOT FOO\n") 6 22 0 0
+    ∷ case (behindFormat "#BOT ORIGIN\n#EOT EDITOR x\n") 6 22 0 0
+    ∷ []
+
+-- a phrase's line, a lone # and an unknown keyword outside a sentence: in front of all, among the tables, in a table, behind a sentence
+abbrev noSentence : List Case
+noSentence =
+    case (alone "#500\n") 6 0 0 0
+    ∷ case (alone "#\n") 6 0 0 0
+    ∷ case (alone "#x\n") 6 0 0 0
+    ∷ case (behindFormat "#500\n") 6 10 0 0
+    ∷ case (behindFormat "#\n") 6 10 0 0
+    ∷ case (behindFormat "#x\n") 6 10 0 0
+    ∷ case (behindFormat "#500 S -- -- 0\n") 6 10 0 0
+    ∷ case (behindFormat "#BOT ORIGIN\n#500\n") 6 22 0 0
+    ∷ case (behindFormat "#BOT ORIGIN\n#\n") 6 22 0 0
+    ∷ case (behindFormat "#BOT ORIGIN\n#x\n") 6 22 0 0
+    ∷ case (behindFormat "#BOT ORIGIN\n#500 S -- -- 0\n") 6 22 0 0
+    ∷ case (inside "#EOS 7\n#500\n") 6 94 1 94
+    ∷ case (inside "#EOS 7\n#\n") 6 94 1 94
+    ∷ case (inside "#EOS 7\n#x\n") 6 94 1 94
     ∷ []
 
 -- a column is missing, or there is one too many
@@ -71,6 +96,12 @@ wrongColumns =
     ∷ case (inside "Ja ITJ -- -- 0 SB\n") 7 87 0 0
     ∷ case (inside "#500 S -- --\n") 7 87 0 0
     ∷ case (inside "#EOS\n") 7 87 0 0
+    ∷ case (alone "#FORMAT 3 x\n") 7 0 0 0
+    ∷ case (behindFormat "#BOT ORIGIN x\n") 7 10 0 0
+    ∷ case (behindFormat "#BOT ORIGIN\n#EOT\n") 7 22 0 0
+    ∷ case (behindFormat "#BOT ORIGIN\n#EOT ORIGIN x\n") 7 22 0 0
+    ∷ case (inside "#EOS 7 8\n") 7 87 0 0
+    ∷ case (inside "#500\n") 7 87 0 0
     ∷ []
 
 -- a number is badly written or outside its range
@@ -91,7 +122,7 @@ badNumbers =
     ∷ []
 
 -- a text is too long, a tag is %%, a flag isn't Y or N
-abbrev badTexts : List Case
+abbrev pub badTexts : List Case
 badTexts =
     case (behindFormat "#BOT ORIGIN\n1 " ++ run 129 "n" "\n") 10 24 0 0
     ∷ case (behindFormat "#BOT ORIGIN\n1 n %% " ++ run 161 "c" "\n") 10 29 0 0
@@ -117,6 +148,8 @@ rowsOutOfPlace =
     ∷ case (behindFormat "#BOT NODETAG\n1 -- d\n") 11 23 0 0
     ∷ case (behindFormat "#BOT NODETAG\n0 S d\n") 11 23 0 0
     ∷ case (behindFormat "#BOT NODETAG\n1 S d\n2 S d\n") 11 29 0 0
+    ∷ case (behindFormat "#BOT NODETAG\n-1 S d\n") 11 23 0 0
+    ∷ case (behindFormat "#BOT NODETAG\n1 UNKNOWN d\n") 11 23 0 0
     ∷ []
 
 -- ORIGIN or EDITOR is missing; a sentence number is used before; an editor or origin is unknown
@@ -170,6 +203,10 @@ badEnds =
     ∷ case (inside "Ja T -- -- 0 s 500\n#EOS 7\n") 22 106 0 0
     ∷ []
 
-pub each-number : T (every holds (cannotStand ++ wrongColumns ++ badNumbers ++ badTexts ++ rowsOutOfPlace ++ badHeadings ++ phraseTwice ++ unknownTags ++ wrongParents ++ severalColumns ++ badEnds))
+pub each-number : T (every holds (cannotStand ++ noSentence ++ wrongColumns ++ badNumbers ++ rowsOutOfPlace ++ badHeadings ++ phraseTwice ++ unknownTags ++ wrongParents ++ severalColumns ++ badEnds))
 unfolding ignored rightTrim trimFrom frontBytes behindFrom columnsFrom fields comment valueFrom decimal broken checked hasId hasTag known originRow editorRow tagRow headingOf endRules endOf pairs paired parentsWritten tagsShort tagsKnown parentsAllowed wordOf phraseOf formatOf tableOpened tableEnded firstColumn atStart behindOne atTop amongRows amongNodes lineAt taken judged after step surveyOf
 each-number = tt
+
+pub each-bad-text : every holds badTexts ≡ true
+unfolding ignored rightTrim trimFrom frontBytes behindFrom columnsFrom fields comment valueFrom decimal broken checked hasId hasTag known originRow editorRow tagRow headingOf endRules endOf pairs paired parentsWritten tagsShort tagsKnown parentsAllowed wordOf phraseOf formatOf tableOpened tableEnded firstColumn atStart behindOne atTop amongRows amongNodes lineAt taken judged after step surveyOf
+each-bad-text = refl
