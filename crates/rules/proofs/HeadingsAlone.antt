@@ -38,23 +38,26 @@ begun-seen line word starts i e =
     let every-solid = sym (ap (every solidColumn) (b .form)) ∙ columns-solid (line .start) (line .bytes) in
     ap ignored (b .whole) ∙ ignored-first c (b .first .after .bytes) (and-left (solid c) (every solidColumn (b .others)) every-solid) (b .ends) ∙ ap ignored its ∙ i
 
-keyword-seen : (line : Text) (word : List ℕ) → not (empty word) ≡ true → ignored word ≡ false → reads word (firstColumn line) ≡ true → ignored (line .bytes) ≡ false
+pub keyword-seen : (line : Text) (word : List ℕ) → not (empty word) ≡ true → ignored word ≡ false → reads word (firstColumn line) ≡ true → ignored (line .bytes) ≡ false
 unfolding firstColumn
 keyword-seen line word g i e = begun-seen line word (first-goes (line .start) (line .bytes) (reads-given word (firstColumn line) g e)) i e
 
-bos-seen : ignored (bytes "#BOS") ≡ false
+pub bos-seen : ignored (bytes "#BOS") ≡ false
 unfolding ignored
 bos-seen = refl
 
 module _ (line : Text) where
-  pub heading-alone : LineFit (line .bytes) → reads (bytes "#BOS") (firstColumn line) ≡ true → (ts : Tables) (used : ℕ → Bool)
-      → every holdsOf (headingWritten line ++ headingCites ts used line) ≡ true → headingAlone line ≡ granted (headingIn line)
+  pub written-alone : LineFit (line .bytes) → reads (bytes "#BOS") (firstColumn line) ≡ true → every holdsOf (headingWritten line) ≡ true → headingAlone line ≡ granted (headingIn line)
   unfolding headingAlone
-  heading-alone f e ts used h =
+  written-alone f e h =
       holds-granted _ (headingIn line)
       (and-both (every legal (line .bytes)) _ (f .lawful)
       (and-both (leb (length (line .bytes)) lineLimit) _ (le-leb (length (line .bytes)) lineLimit (f .short))
-      (and-both (reads (bytes "#BOS") (firstColumn line)) _ e (every-front holdsOf (headingWritten line) (headingCites ts used line) h))))
+      (and-both (reads (bytes "#BOS") (firstColumn line)) _ e h)))
+
+  pub heading-alone : LineFit (line .bytes) → reads (bytes "#BOS") (firstColumn line) ≡ true → (ts : Tables) (used : ℕ → Bool)
+      → every holdsOf (headingWritten line ++ headingCites ts used line) ≡ true → headingAlone line ≡ granted (headingIn line)
+  heading-alone f e ts used h = written-alone f e (every-front holdsOf (headingWritten line) (headingCites ts used line) h)
 
   pub record Alone (h : Heading) : Type 0 where
     pub fit : LineFit (line .bytes)

@@ -16,7 +16,7 @@ use Rattle.rules.specs.Texts.{Text, reads}
 use Rattle.rules.specs.Columns.{Column, columnsFrom, columns, written, fields, comment}
 use Rattle.rules.specs.Numbers.{sentenceNumber, originId, date, decimal, number, signedId, good, value}
 use Rattle.rules.specs.Tables.{Tables, origins, editors, table, present, rowsOf, hasId}
-use Rattle.rules.specs.Sentences.{Heading, knownEditor, headingOf, Sentence}
+use Rattle.rules.specs.Sentences.{Heading, knownEditor, headingWritten, headingIn, headingOf, Sentence}
 use Rattle.rules.specs.Phases.{Phase, Answer, next}
 use Rattle.rules.specs.GrammarNumbers.{sentenceRange}
 use Rattle.rules.specs.GrammarContent.{HeadContent}
@@ -36,7 +36,7 @@ use Rattle.rules.proofs.SaidOfLists.{and-both-ways, or-both-ways, not-b
 use Rattle.rules.proofs.TestsAsFacts.{reads-are, good-some, some-good, some-value}
 use Rattle.rules.proofs.NumeralsAsSaid.{number-said, id-said}
 use Rattle.rules.proofs.TablesAsSaid.{Stand, is-there, has-row}
-use Rattle.rules.proofs.LineByLine.{Through, through-held, held-through}
+use Rattle.rules.proofs.LineByLine.{Through, Hold, through-held, held-through}
 
 -- ---- columns in front of the comment
 
@@ -129,6 +129,38 @@ same-head : {i j : ℕ} {a b : ℕ} {d e : ℕ} {o p : ℕ} {x y : List ℕ} →
     → _≡_ {A = HeadContent} (record { number = i; editor1 = a; date = d; origin = o; comment = x }) (record { number = j; editor1 = b; date = e; origin = p; comment = y })
 same-head p q r s t = cc
 
+-- as the grammar says, whatever the tables have
+module _ (line : Text) (ts : List TableLines) where
+  pub record Written (head : HeadLine) : Type 0 where
+    pub rules : Hold (headingWritten line)
+    pub same : headRead (headingIn line) ≡ headSays head
+
+  pub head-written : (head : HeadLine) → head .line ≡ line .bytes → HeadFits sentenceRange ts head → Written head
+  head-written head l t =
+      let cs = columns line in
+      let are = fronted (bytes "#BOS" ∷ t .numberText ∷ t .editorText ∷ t .dateText ∷ t .originText ∷ []) cs (front-columns line ∙ ap frontColumns (sym l) ∙ said-front (head .line) _ (head .comment) (t .columns)) in
+      let n = number sentenceNumber (written cs 1 .bytes) in
+      let e = signedId (written cs 2 .bytes) in
+      let d = number date (written cs 3 .bytes) in
+      let o = number originId (written cs 4 .bytes) in
+      let is-n : n ≡ some (head .number) = ap (number sentenceNumber) (are .at 1 (omega arith)) ∙ number-said sentenceNumber (t .numberText) (head .number) .1 (t .number-written) in
+      let is-e : e ≡ some (head .editor1) = ap signedId (are .at 2 (omega arith)) ∙ id-said (t .editorText) (head .editor1) .1 (t .editor-written) in
+      let is-d : d ≡ some (head .date) = ap (number date) (are .at 3 (omega arith)) ∙ number-said date (t .dateText) (head .date) .1 (t .date-written) in
+      let is-o : o ≡ some (head .origin) = ap (number originId) (are .at 4 (omega arith)) ∙ number-said originId (t .originText) (head .origin) .1 (t .origin-written) in
+      let v-n : value n ≡ head .number = some-value n (head .number) is-n in
+      let v-e : value e ≡ head .editor1 = some-value e (head .editor1) is-e in
+      let v-d : value d ≡ head .date = some-value d (head .date) is-d in
+      let v-o : value o ≡ head .origin = some-value o (head .origin) is-o in
+      let its-comment : comment (drop 5 cs) .bytes ≡ head .comment =
+      sym (ap (λ (t : Text). t .bytes) (are .comment-behind)) ∙ comment-there line ∙ ap commentOf (sym l) ∙ front-comment (head .line) _ (head .comment) (t .columns) in
+      record {
+        rules = (
+          and-both-ways (ltb 4 (length cs)) (empty (fields (drop 5 cs))) .1 (lt-ltb 4 (length cs) (omega (arith, are .enough)), are .none-behind),
+          (some-good n (head .number) is-n, (some-good e (head .editor1) is-e, (some-good d (head .date) is-d, (some-good o (head .origin) is-o, tt)))),
+        );
+        same = same-head v-n v-e v-d v-o its-comment;
+      }
+
 module _ (T : Tables) (ts : List TableLines) (s : Stand T ts) where
   editor-said : (i : ℕ) → (knownEditor T i ≡ true) ↔ ((i ≤ 1) ⊎ HasRow ts editors i)
   editor-said i = (λ e. said (or-both-ways (ltb i 2) (hasId i (rowsOf (table editors T))) .0 e), λ h. or-both-ways (ltb i 2) (hasId i (rowsOf (table editors T))) .1 (read-so h))
@@ -206,36 +238,25 @@ module _ (T : Tables) (ts : List TableLines) (s : Stand T ts) where
         → (before (head .number) ≡ true → ⊥) → ((r : Heading) → headRead r ≡ headSays head → Through K out (f r)) → Through K out (next f (headingOf T before line))
     unfolding headingOf
     head-grants f head l t io ie new goes-on =
+        let w = head-written line ts head l t in
         let cs = columns line in
-        let are = fronted (bytes "#BOS" ∷ t .numberText ∷ t .editorText ∷ t .dateText ∷ t .originText ∷ []) cs (front-columns line ∙ ap frontColumns (sym l) ∙ said-front (head .line) _ (head .comment) (t .columns)) in
-        let n = number sentenceNumber (written cs 1 .bytes) in
-        let e = signedId (written cs 2 .bytes) in
-        let d = number date (written cs 3 .bytes) in
-        let o = number originId (written cs 4 .bytes) in
-        let is-n : n ≡ some (head .number) = ap (number sentenceNumber) (are .at 1 (omega arith)) ∙ number-said sentenceNumber (t .numberText) (head .number) .1 (t .number-written) in
-        let is-e : e ≡ some (head .editor1) = ap signedId (are .at 2 (omega arith)) ∙ id-said (t .editorText) (head .editor1) .1 (t .editor-written) in
-        let is-d : d ≡ some (head .date) = ap (number date) (are .at 3 (omega arith)) ∙ number-said date (t .dateText) (head .date) .1 (t .date-written) in
-        let is-o : o ≡ some (head .origin) = ap (number originId) (are .at 4 (omega arith)) ∙ number-said originId (t .originText) (head .origin) .1 (t .origin-written) in
-        let v-n : value n ≡ head .number = some-value n (head .number) is-n in
-        let v-e : value e ≡ head .editor1 = some-value e (head .editor1) is-e in
-        let v-d : value d ≡ head .date = some-value d (head .date) is-d in
-        let v-o : value o ≡ head .origin = some-value o (head .origin) is-o in
-        let its-comment : comment (drop 5 cs) .bytes ≡ head .comment =
-        sym (ap (λ (t : Text). t .bytes) (are .comment-behind)) ∙ comment-there line ∙ ap commentOf (sym l) ∙ front-comment (head .line) _ (head .comment) (t .columns) in
+        let v-n : value (number sentenceNumber (written cs 1 .bytes)) ≡ head .number = ap (λ (c : HeadContent). c .number) (w .same) in
+        let v-e : value (signedId (written cs 2 .bytes)) ≡ head .editor1 = ap (λ (c : HeadContent). c .editor1) (w .same) in
+        let v-o : value (number originId (written cs 4 .bytes)) ≡ head .origin = ap (λ (c : HeadContent). c .origin) (w .same) in
         held-through K out f _ _ (
-          and-both-ways (ltb 4 (length cs)) (empty (fields (drop 5 cs))) .1 (lt-ltb 4 (length cs) (omega (arith, are .enough)), are .none-behind),
+          w .rules .0,
           (
-            some-good n (head .number) is-n,
+            w .rules .1 .0,
             (
-              some-good e (head .editor1) is-e,
+              w .rules .1 .1 .0,
               (
-                some-good d (head .date) is-d,
+                w .rules .1 .1 .1 .0,
                 (
-                  some-good o (head .origin) is-o,
+                  w .rules .1 .1 .1 .1 .0,
                   (
                     and-both-ways (present origins T) (present editors T) .1 (is-there T ts s origins .1 io, is-there T ts s editors .1 ie),
                     (
-                      not-both-ways (before (value n)) .1 (rw v-n new),
+                      not-both-ways (before (value (number sentenceNumber (written cs 1 .bytes)))) .1 (rw v-n new),
                       (
                         rw v-e (editor-said (head .editor1) .1 (t .editor-known)),
                         (rw v-o (has-row T ts s origins (suc (head .origin)) .1 (t .origin-known)), tt),
@@ -247,4 +268,4 @@ module _ (T : Tables) (ts : List TableLines) (s : Stand T ts) where
             ),
           ),
         )
-        (goes-on _ (same-head v-n v-e v-d v-o its-comment))
+        (goes-on _ (w .same))

@@ -173,5 +173,6 @@ pub mod TextLimits
 pub mod WalkedLines
 pub mod StandingTables
 pub mod TablesTold
+pub mod OpensThere
 mod WrongReadings
 mod WrongCalls

@@ -196,9 +196,14 @@ accepted-takes f z =
       taken = takes-then (Ends (l .rest)) (λ ph out. Accepting ph) (λ ph out e. e .1) (heededTexts (placed 0 (l .lines))) start [] (t .1);
     }
 
+-- lines that fit and are taken from a place on
+pub takes-reach : (F : Phase → List Sentence → Type 0) (ls : List (List ℕ)) (a : ℕ) (ph : Phase) (hs : List Handed) → Each LineFits ls
+    → Takes (MayEnd F) (heededTexts (placed a ls)) ph (sentencesOf hs) → Reaches F (read (fresh a ph hs) (linesWritten ls))
+takes-reach F ls a ph hs s t =
+    read-comes F ls a ph hs (each-then LineFits Unended (λ l k. legal-unended l (every-said legal Legal legal-said l .1 (k .legal-bytes))) ls s)
+    (takes-read (MayEnd F) (placed a ls) ph (sentencesOf hs)
+    (each-mapped (λ (t : Text). t .bytes) LineFits (placed a ls) (rw (placed-bytes a ls) s)) t)
+
 pub takes-accepted : (F : Phase → List Sentence → Type 0) (ls : List (List ℕ)) → Each LineFits ls → Takes (MayEnd F) (heededTexts (placed 0 ls)) start []
     → Reaches F (read begin (linesWritten ls))
-takes-accepted F ls s t =
-    read-comes F ls 0 start [] (each-then LineFits Unended (λ l k. legal-unended l (every-said legal Legal legal-said l .1 (k .legal-bytes))) ls s)
-    (takes-read (MayEnd F) (placed 0 ls) start []
-    (each-mapped (λ (t : Text). t .bytes) LineFits (placed 0 ls) (rw (placed-bytes 0 ls) s)) t)
+takes-accepted F ls s t = takes-reach F ls 0 start [] s t

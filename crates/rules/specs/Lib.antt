@@ -46,6 +46,7 @@ pub mod AsWritten
 pub mod TidyLines
 pub mod TidyOrder
 pub mod BeginsThere
+pub mod OpensThere
 pub mod BrokenNumbers
 pub mod ColumnsAtFault
 pub mod PointedAt
