@@ -62,7 +62,8 @@ insideEditor = bytes "#FORMAT 3\n#BOT ORIGIN\n1 lab\n7 press %% Berlin\n#EOT ORI
 abbrev sheetInsideEditor : List ℕ
 sheetInsideEditor = (3 ∷ 0 ∷ 0 ∷ 0 ∷ 0 ∷ 0 ∷ 0 ∷ []) ++ (2 ∷ 24 ∷ 3 ∷ 0 ∷ 0 ∷ 0 ∷ 8 ∷ 30 ∷ 5 ∷ 39 ∷ 6 ∷ 0 ∷ []) ++ zeros 10740
 
-pub tables-inside-editor : (surveyOf insideEditor .refusal ≡ 11) × (surveyOf insideEditor .place ≡ 80) × T (same (tableSheet (surveyOf insideEditor .tables)) sheetInsideEditor)
+pub tables-inside-editor : (surveyOf insideEditor .refusal ≡ 11) × (surveyOf insideEditor .place ≡ 80)
+    × T (same (tableSheet (surveyOf insideEditor .tables)) sheetInsideEditor)
 unfolding ignored rightTrim trimFrom frontBytes behindFrom columnsFrom fields comment valueFrom decimal broken checked hasId hasTag known originRow editorRow tagRow headingOf endRules endOf pairs paired parentsWritten tagsShort tagsKnown parentsAllowed wordOf phraseOf formatOf tableOpened tableEnded firstColumn atStart behindOne atTop amongRows amongNodes lineAt taken judged after step surveyOf rowsRoom tableSheet
 tables-inside-editor = (refl, refl, tt)
 

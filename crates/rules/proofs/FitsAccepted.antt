@@ -62,13 +62,15 @@ ends-here E ph out a (t ∷ ts) e s = absurd (let z : _≡_ {A = ℕ} 0 1 = cc i
 -- a sentence that is begun, its nodes and its end; whatever tables its heading is about
 module _ (E : Phase → List Sentence → Type 0) (p : Preamble) (ts : List TableLines) (stand : Stand (p .tables) ts) where
   pub nodes-follow : (t : SentenceLines) (rest : List (List ℕ)) (out : List Sentence) (s : Sentence) → SentenceAlike s (t .head) [] []
-      → (us : List TableLines) → SentenceFits sentenceRange (p .format) us t → Each (WordFits (p .format) ts) (t .words) → Each (PhraseFits (p .format) ts) (t .phrases)
+      → (us : List TableLines) → SentenceFits sentenceRange (p .format) us t → Each (WordFits (p .format) ts) (t .words)
+      → Each (PhraseFits (p .format) ts) (t .phrases)
       → ((s : Sentence) → sentenceRead s ≡ sentenceSays t → Follows E rest (behindSentence p) (out ++ (s ∷ [])))
       → Follows E (nodeLines (t .words) ++ (nodeLines (nodesOf (t .phrases)) ++ (t .eos ∷ rest))) (inSentence p s) out
   nodes-follow t rest out s a us f of-words of-phrases k =
       let head = t .head in
       let ends = t .eos ∷ rest in
-      words-follow E p ts stand out head (nodeLines (nodesOf (t .phrases)) ++ ends) (t .words) [] s a of-words (f .words-at-most) (omega (arith, f .edges-at-most))
+      words-follow E p ts stand out head (nodeLines (nodesOf (t .phrases)) ++ ends) (t .words) [] s a of-words (f .words-at-most)
+      (omega (arith, f .edges-at-most))
       (λ s a.
       phrases-follow E p ts stand out head ends (t .words) (t .phrases) [] s a of-phrases (f .numbered .differ) (f .edges-at-most)
       (λ s a.
@@ -76,7 +78,8 @@ module _ (E : Phase → List Sentence → Type 0) (p : Preamble) (ts : List Tabl
       let eos = subst (EosFits sentenceRange (head .number)) (sym e) (f .ends) in
       taken-end E p ts stand out head rest (Follows E rest) line s
       (keyword-reads line (bytes "#EOS") st (keyword-first line (bytes "#EOS") (eos .numberText) (eos .columns)))
-      (end-grants s head (t .words) (t .phrases) a (Follows E rest) out line (λ n. hand p s) eos (λ n l u. f .numbered .no-gap n .1 (l, u)) (f .parents-of-words) (f .parents-of-phrases)
+      (end-grants s head (t .words) (t .phrases) a (Follows E rest) out line (λ n. hand p s) eos (λ n l u. f .numbered .no-gap n .1 (l, u))
+      (f .parents-of-words) (f .parents-of-phrases)
       (k s (same-sentence s t a))))))
 
 module _ (E : Phase → List Sentence → Type 0) (p : Preamble) (ts : List TableLines) (stand : Stand (p .tables) ts) (io : In origins (whiches ts)) (ie : In editors (whiches ts)) where
@@ -111,7 +114,8 @@ module _ (E : Phase → List Sentence → Type 0) (p : Preamble) (ts : List Tabl
       (head-grants (p .tables) ts stand (Follows E (words ++ (phrases ++ ends))) out line (λ n. member n (numbersIn out)) (goBegun p (line .start)) head (sym e) (f .begins) io ie
       (λ h. new (is-member (head .number) (numbersIn out) .0 h))
       (λ r same.
-      nodes-follow E p ts stand t rest out (begun (line .start) r) (record { heading-is = same; words-are = refl; phrases-are = refl }) ts f (f .each-word) (f .each-phrase) k))))
+      nodes-follow E p ts stand t rest out (begun (line .start) r) (record { heading-is = same; words-are = refl; phrases-are = refl }) ts f
+      (f .each-word) (f .each-phrase) k))))
 
   sentences-follow : (rest done : List SentenceLines) (out : List Sentence) → map sentenceRead out ≡ map sentenceSays done → Each (SentenceFits sentenceRange (p .format) ts) rest
       → Differ (sentenceNumbers (done ++ rest)) → ((out : List Sentence) → map sentenceRead out ≡ map sentenceSays (done ++ rest) → E (behindSentence p) out)

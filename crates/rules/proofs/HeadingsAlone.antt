@@ -38,7 +38,8 @@ begun-seen line word starts i e =
     let every-solid = sym (ap (every solidColumn) (b .form)) ∙ columns-solid (line .start) (line .bytes) in
     ap ignored (b .whole) ∙ ignored-first c (b .first .after .bytes) (and-left (solid c) (every solidColumn (b .others)) every-solid) (b .ends) ∙ ap ignored its ∙ i
 
-pub keyword-seen : (line : Text) (word : List ℕ) → not (empty word) ≡ true → ignored word ≡ false → reads word (firstColumn line) ≡ true → ignored (line .bytes) ≡ false
+pub keyword-seen : (line : Text) (word : List ℕ) → not (empty word) ≡ true → ignored word ≡ false → reads word (firstColumn line) ≡ true
+    → ignored (line .bytes) ≡ false
 unfolding firstColumn
 keyword-seen line word g i e = begun-seen line word (first-goes (line .start) (line .bytes) (reads-given word (firstColumn line) g e)) i e
 
@@ -47,7 +48,8 @@ unfolding ignored
 bos-seen = refl
 
 module _ (line : Text) where
-  pub written-alone : LineFit (line .bytes) → reads (bytes "#BOS") (firstColumn line) ≡ true → every holdsOf (headingWritten line) ≡ true → headingAlone line ≡ granted (headingIn line)
+  pub written-alone : LineFit (line .bytes) → reads (bytes "#BOS") (firstColumn line) ≡ true → every holdsOf (headingWritten line) ≡ true
+      → headingAlone line ≡ granted (headingIn line)
   unfolding headingAlone
   written-alone f e h =
       holds-granted _ (headingIn line)

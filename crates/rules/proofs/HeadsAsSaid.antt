@@ -138,25 +138,35 @@ module _ (line : Text) (ts : List TableLines) where
   pub head-written : (head : HeadLine) → head .line ≡ line .bytes → HeadFits sentenceRange ts head → Written head
   head-written head l t =
       let cs = columns line in
-      let are = fronted (bytes "#BOS" ∷ t .numberText ∷ t .editorText ∷ t .dateText ∷ t .originText ∷ []) cs (front-columns line ∙ ap frontColumns (sym l) ∙ said-front (head .line) _ (head .comment) (t .columns)) in
+      let are = fronted (bytes "#BOS" ∷ t .numberText ∷ t .editorText ∷ t .dateText ∷ t .originText ∷ []) cs
+      (front-columns line ∙ ap frontColumns (sym l) ∙ said-front (head .line) _ (head .comment) (t .columns)) in
       let n = number sentenceNumber (written cs 1 .bytes) in
       let e = signedId (written cs 2 .bytes) in
       let d = number date (written cs 3 .bytes) in
       let o = number originId (written cs 4 .bytes) in
-      let is-n : n ≡ some (head .number) = ap (number sentenceNumber) (are .at 1 (omega arith)) ∙ number-said sentenceNumber (t .numberText) (head .number) .1 (t .number-written) in
-      let is-e : e ≡ some (head .editor1) = ap signedId (are .at 2 (omega arith)) ∙ id-said (t .editorText) (head .editor1) .1 (t .editor-written) in
-      let is-d : d ≡ some (head .date) = ap (number date) (are .at 3 (omega arith)) ∙ number-said date (t .dateText) (head .date) .1 (t .date-written) in
-      let is-o : o ≡ some (head .origin) = ap (number originId) (are .at 4 (omega arith)) ∙ number-said originId (t .originText) (head .origin) .1 (t .origin-written) in
+      let is-n : n ≡ some (head .number) =
+      ap (number sentenceNumber) (are .at 1 (omega arith)) ∙ number-said sentenceNumber (t .numberText) (head .number) .1 (t .number-written) in
+      let is-e : e ≡ some (head .editor1) =
+      ap signedId (are .at 2 (omega arith)) ∙ id-said (t .editorText) (head .editor1) .1 (t .editor-written) in
+      let is-d : d ≡ some (head .date) =
+      ap (number date) (are .at 3 (omega arith)) ∙ number-said date (t .dateText) (head .date) .1 (t .date-written) in
+      let is-o : o ≡ some (head .origin) =
+      ap (number originId) (are .at 4 (omega arith)) ∙ number-said originId (t .originText) (head .origin) .1 (t .origin-written) in
       let v-n : value n ≡ head .number = some-value n (head .number) is-n in
       let v-e : value e ≡ head .editor1 = some-value e (head .editor1) is-e in
       let v-d : value d ≡ head .date = some-value d (head .date) is-d in
       let v-o : value o ≡ head .origin = some-value o (head .origin) is-o in
       let its-comment : comment (drop 5 cs) .bytes ≡ head .comment =
-      sym (ap (λ (t : Text). t .bytes) (are .comment-behind)) ∙ comment-there line ∙ ap commentOf (sym l) ∙ front-comment (head .line) _ (head .comment) (t .columns) in
+      sym (ap (λ (t : Text). t .bytes) (are .comment-behind)) ∙ comment-there line ∙ ap commentOf (sym l)
+      ∙ front-comment (head .line) _ (head .comment) (t .columns) in
       record {
         rules = (
-          and-both-ways (ltb 4 (length cs)) (empty (fields (drop 5 cs))) .1 (lt-ltb 4 (length cs) (omega (arith, are .enough)), are .none-behind),
-          (some-good n (head .number) is-n, (some-good e (head .editor1) is-e, (some-good d (head .date) is-d, (some-good o (head .origin) is-o, tt)))),
+          and-both-ways (ltb 4 (length cs)) (empty (fields (drop 5 cs))) .1
+              (lt-ltb 4 (length cs) (omega (arith, are .enough)), are .none-behind),
+          (
+            some-good n (head .number) is-n,
+            (some-good e (head .editor1) is-e, (some-good d (head .date) is-d, (some-good o (head .origin) is-o, tt))),
+          ),
         );
         same = same-head v-n v-e v-d v-o its-comment;
       }

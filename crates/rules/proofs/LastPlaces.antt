@@ -22,7 +22,8 @@ use Rattle.rules.specs.Layout.{TablesLaid, SeenLaid, SentenceLaid}
 pub climbs-somewhere : (parent : ℕ → ℕ) (n : ℕ) → Climbs parent 0 n → ⊥
 climbs-somewhere parent n c = omega (arith, c .some, c .few)
 
-pub climbs-on : (parent : ℕ → ℕ) (most n : ℕ) → Climbs parent (suc most) n → (parent n ≡ 0) ⊎ ((n < parent n) × Climbs parent most (parent n))
+pub climbs-on : (parent : ℕ → ℕ) (most n : ℕ) → Climbs parent (suc most) n
+    → (parent n ≡ 0) ⊎ ((n < parent n) × Climbs parent most (parent n))
 climbs-on parent most n c = by (c .steps) (c .some) (c .few) (c .rising) (c .top)
   where
     by : (steps : ℕ) → 1 ≤ steps → steps ≤ suc most → ((k : ℕ) → suc k < steps → climbed parent k n < climbed parent (suc k) n)
@@ -30,7 +31,8 @@ climbs-on parent most n c = by (c .steps) (c .some) (c .few) (c .rising) (c .top
     by zero some few rising top = absurd (omega (arith, some))
     by (suc zero) some few rising top = inl top
     by (suc (suc k)) some few rising top =
-        let rises : (j : ℕ) → suc j < suc k → climbed parent j (parent n) < climbed parent (suc j) (parent n) = λ j h. rising (suc j) (omega (arith, h)) in
+        let rises : (j : ℕ) → suc j < suc k → climbed parent j (parent n) < climbed parent (suc j) (parent n) =
+        λ j h. rising (suc j) (omega (arith, h)) in
         inr (rising 0 (omega arith), record { steps = suc k; some = omega arith; few = omega (arith, few); rising = rises; top = top })
 
 -- a chain that stays at 500 never climbs, from whatever number, word 0 too

@@ -1,5 +1,5 @@
--- Document 01, "The numbers of refusal", 12 and 16: the 257th row of each kind of table, the 501st word and the 513th secondary edge are refused.
--- Computed together.
+-- Document 01, "The numbers of refusal", 12 and 16: the 257th row of each kind of table, the 501st word and the 513th secondary
+-- edge are refused. Computed together.
 use Prim.Native.Nat.{ℕ}
 use mathlib.Core.List.{List, [], _∷_, _++_, map}
 use lib.ListN.{replicate}

@@ -200,7 +200,8 @@ accepted-takes f z =
 pub takes-reach : (F : Phase → List Sentence → Type 0) (ls : List (List ℕ)) (a : ℕ) (ph : Phase) (hs : List Handed) → Each LineFits ls
     → Takes (MayEnd F) (heededTexts (placed a ls)) ph (sentencesOf hs) → Reaches F (read (fresh a ph hs) (linesWritten ls))
 takes-reach F ls a ph hs s t =
-    read-comes F ls a ph hs (each-then LineFits Unended (λ l k. legal-unended l (every-said legal Legal legal-said l .1 (k .legal-bytes))) ls s)
+    read-comes F ls a ph hs
+    (each-then LineFits Unended (λ l k. legal-unended l (every-said legal Legal legal-said l .1 (k .legal-bytes))) ls s)
     (takes-read (MayEnd F) (placed a ls) ph (sentencesOf hs)
     (each-mapped (λ (t : Text). t .bytes) LineFits (placed a ls) (rw (placed-bytes a ls) s)) t)
 

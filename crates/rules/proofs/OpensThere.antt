@@ -90,7 +90,8 @@ module _ (ts : List TableLines) where
 no-newline-among : (l : List ℕ) → every legal l ≡ true → OneLine l
 no-newline-among [] e = tt
 no-newline-among (b ∷ bs) e =
-    (λ q. false≢true (ap legal (sym q) ∙ and-left (legal b) (every legal bs) e), no-newline-among bs (and-right (legal b) (every legal bs) e))
+    let one : b ≡ 10 → ⊥ = λ q. false≢true (ap legal (sym q) ∙ and-left (legal b) (every legal bs) e) in
+    (one, no-newline-among bs (and-right (legal b) (every legal bs) e))
 
 abbrev preamble : Preamble
 preamble = record { format = 3; tables = noTables }
@@ -103,7 +104,8 @@ first-out : (hs more : List Handed) (t : Sentence) → sentencesOf hs ≡ t ∷ 
 first-out [] more t e = absurd (let z : _≡_ {A = ℕ} 0 1 = cc in omega arith)
 first-out (h ∷ hs) more t e = let q : h .sentence ≡ t = cc in ap some q
 
-module _ (file : List ℕ) (at : ℕ) (s : SentenceLines) (ts : List TableLines) (f : SentenceFits sentenceRange 3 ts s) (w : SentenceStands file at s) where
+module _ (file : List ℕ) (at : ℕ) (s : SentenceLines) (ts : List TableLines) (f : SentenceFits sentenceRange 3 ts s)
+    (w : SentenceStands file at s) where
   abbrev line : Text
   line = record { start = length (w .front); bytes = s .head .line }
 
@@ -111,15 +113,17 @@ module _ (file : List ℕ) (at : ℕ) (s : SentenceLines) (ts : List TableLines)
   started = each-then Starts Started (λ l. started-said l .1) (sentenceLines s) (w .each-starts)
 
   keyword : reads (bytes "#BOS") (firstColumn line) ≡ true
-  keyword = keyword-reads line (bytes "#BOS") (started .0) (front-column (s .head .line) (bytes "#BOS") _ (s .head .comment) (f .begins .columns))
+  keyword =
+      keyword-reads line (bytes "#BOS") (started .0) (front-column (s .head .line) (bytes "#BOS") _ (s .head .comment) (f .begins .columns))
 
   lawful : every legal (s .head .line) ≡ true
   lawful = every-said legal Legal legal-said (s .head .line) .1 (w .each-line .0 .legal-bytes)
 
+  its-fit : LineFit (s .head .line)
+  its-fit = record { lawful = lawful; short = w .each-line .0 .short; seen = keyword-seen line (bytes "#BOS") refl bos-seen keyword }
+
   heads : headingAlone line ≡ granted (headingIn line)
-  heads =
-      written-alone line (record { lawful = lawful; short = w .each-line .0 .short; seen = keyword-seen line (bytes "#BOS") refl bos-seen keyword }) keyword
-      (each-every holdsOf (headingWritten line) (head-written line ts (s .head) refl (f .begins) .rules))
+  heads = written-alone line its-fit keyword (each-every holdsOf (headingWritten line) (head-written line ts (s .head) refl (f .begins) .rules))
 
   -- where the reading goes on, and from which place
   abbrev inside : Phase
@@ -132,7 +136,8 @@ module _ (file : List ℕ) (at : ℕ) (s : SentenceLines) (ts : List TableLines)
   nodes-taken =
       nodes-follow (MayEnd (Said s)) preamble [] stand-none s [] [] (begun (length (w .front)) (headingIn line))
       (record { heading-is = head-written line ts (s .head) refl (f .begins) .same; words-are = refl; phrases-are = refl }) ts f
-      (each-then (WordFits 3 ts) (WordFits 3 []) (free-word ts) (s .words) (f .each-word)) (each-then (PhraseFits 3 ts) (PhraseFits 3 []) (free-phrase ts) (s .phrases) (f .each-phrase))
+      (each-then (WordFits 3 ts) (WordFits 3 []) (free-word ts) (s .words) (f .each-word))
+      (each-then (PhraseFits 3 ts) (PhraseFits 3 []) (free-phrase ts) (s .phrases) (f .each-phrase))
       (λ t same. ends-here (MayEnd (Said s)) (behindSentence preamble) (t ∷ []) (refl, (t, refl, same)))
 
   reached : Reaches (Said s) (read (fresh next inside []) (linesWritten (w .others)))
@@ -144,13 +149,18 @@ module _ (file : List ℕ) (at : ℕ) (s : SentenceLines) (ts : List TableLines)
       (subst (Each Started) again (started .1)))
 
   whole : file ≡ w .front ++ (s .head .line ++ (newline ∷ (linesWritten (w .others) ++ w .back)))
-  whole = w .parts ∙ ap (λ (x : List ℕ). w .front ++ x) (append-assoc (s .head .line ++ (newline ∷ [])) (linesWritten (w .others)) (w .back) ∙ append-assoc (s .head .line) (newline ∷ []) (linesWritten (w .others) ++ w .back))
+  whole =
+      w .parts
+      ∙ ap (λ (x : List ℕ). w .front ++ x)
+      (append-assoc (s .head .line ++ (newline ∷ [])) (linesWritten (w .others)) (w .back)
+      ∙ append-assoc (s .head .line) (newline ∷ []) (linesWritten (w .others) ++ w .back))
 
   found-there : sentenceFrom file (length (w .front)) ≡ some (reached .1 .0)
   found-there =
       let r = read (fresh next inside []) (linesWritten (w .others)) in
       let starts = starts-tested file (length (w .front)) (subst (StartsLine file) (sym (w .place)) (w .starts)) in
-      read-from file (w .front) (s .head .line) (linesWritten (w .others) ++ w .back) (headingIn line) whole starts (no-newline-among (s .head .line) lawful) heads
+      read-from file (w .front) (s .head .line) (linesWritten (w .others) ++ w .back) (headingIn line) whole starts
+      (no-newline-among (s .head .line) lawful) heads
       ∙ ap (λ (q : Reading). firstHanded (q .handed)) (read-append (fresh next inside []) (linesWritten (w .others)) (w .back))
       ∙ ap firstHanded (grow r (w .back) .handed)
       ∙ first-out (r .handed) (grow r (w .back) .more) (reached .1 .0) (reached .1 .1)

@@ -81,7 +81,8 @@ module _ (K : Phase → List Sentence → Type 0) (out : List Sentence) (line : 
     opens-here p t =
         let o = opened-granted K out line (λ n. go (inTable p n [])) (p .tables) (its-keyword (bytes "#BOT") n names) t in
         let mine = is-named (written (columns line) 1) n l (name-second line (bytes "#BOT") (getD tableNames n []) names) in
-        let its = is-named (written (columns line) 1) (o .which) (o .one-of-seven) (name-second line (bytes "#BOT") (getD tableNames (o .which) []) (o .names)) in
+        let its = is-named (written (columns line) 1) (o .which) (o .one-of-seven)
+        (name-second line (bytes "#BOT") (getD tableNames (o .which) []) (o .names)) in
         let e : o .which ≡ n = one-name (o .which) n (sym its ∙ mine) in
         record {
           preamble = p;
@@ -96,46 +97,56 @@ module _ (K : Phase → List Sentence → Type 0) (out : List Sentence) (line : 
 
     pub bot-opens : (ph : Phase) → Through K out (answerAt ph used line (firstColumn line)) → Opens n ph
     unfolding answerAt answerStart answerTop answerRows answerNodes
-    bot-opens start t = absurd (passes (reads (bytes "#FORMAT") (firstColumn line)) _ (refuseSix line) (other (bytes "#FORMAT") refl refl) t)
+    bot-opens start t =
+        absurd (passes (reads (bytes "#FORMAT") (firstColumn line)) _ (refuseSix line) (other (bytes "#FORMAT") refl refl) t)
     bot-opens (top p) t = by (reads (bytes "#BOT") (firstColumn line)) t
       where
         by : (b : Bool) → Through K out (pick b (next (λ n. go (inTable p n [])) (tableOpened (p .tables) line)) (answerBehind line (firstColumn line) p used)) → Opens n (top p)
         by true t = opens-here p t
         by false t = absurd (nothing-behind p t)
     bot-opens (inTable p m rs) t =
-        absurd (passes (startsRow (firstColumn line)) _ (refuseSix line) (not-so (bytes "#BOT") n names (λ (c : List ℕ). not (empty c) && not (hashed c)) refl refl)
+        absurd (passes (startsRow (firstColumn line)) _ (refuseSix line)
+        (not-so (bytes "#BOT") n names (λ (c : List ℕ). not (empty c) && not (hashed c)) refl refl)
         (passes (reads (bytes "#EOT") (firstColumn line)) _ _ (other (bytes "#EOT") refl refl) t))
     bot-opens (inSentence p s) t =
-        absurd (passes _ _ (refuseSix line) (not-so (bytes "#BOT") n names (λ (c : List ℕ). same c (bytes "#") || (not (empty c) && not (hashed c))) refl refl)
+        absurd (passes _ _ (refuseSix line)
+        (not-so (bytes "#BOT") n names (λ (c : List ℕ). same c (bytes "#") || (not (empty c) && not (hashed c))) refl refl)
         (passes _ _ _ (not-so (bytes "#BOT") n names hashAndDigits refl refl)
         (passes (reads (bytes "#EOS") (firstColumn line)) _ _ (other (bytes "#EOS") refl refl) t)))
     bot-opens (behindSentence p) t = absurd (nothing-behind p t)
 
   module _ (p : Preamble) (n : ℕ) (rs : List Row) where
     -- a line that doesn't begin with #
-    pub row-taken : ((rest : List ℕ) → line .bytes ≡ bytes "#" ++ rest → ⊥) → Through K out (answerAt (inTable p n rs) used line (firstColumn line))
+    pub row-taken : ((rest : List ℕ) → line .bytes ≡ bytes "#" ++ rest → ⊥)
+        → Through K out (answerAt (inTable p n rs) used line (firstColumn line))
         → (r : Row) × TableRowSaid n r (line .bytes) × K (inTable p n (rs ++ (r ∷ []))) out
     unfolding answerAt answerRows
     row-taken plain t =
         by (startsRow (firstColumn line))
         (passes (reads (bytes "#EOT") (firstColumn line)) _ _
-        (false-if-never (reads (bytes "#EOT") (firstColumn line)) (λ e. (let h = hash-first line (bytes "EOT") (reads-are (bytes "#EOT") (firstColumn line) .0 e) in plain (h .0) (h .1)))) t)
+        (false-if-never (reads (bytes "#EOT") (firstColumn line))
+        (λ e. (let h = hash-first line (bytes "EOT") (reads-are (bytes "#EOT") (firstColumn line) .0 e) in plain (h .0) (h .1)))) t)
       where
-        by : (b : Bool) → Through K out (pick b (next (goRow p n rs) (rowOf n rs line)) (refuseSix line)) → (r : Row) × TableRowSaid n r (line .bytes) × K (inTable p n (rs ++ (r ∷ []))) out
+        by : (b : Bool) → Through K out (pick b (next (goRow p n rs) (rowOf n rs line)) (refuseSix line))
+            → (r : Row) × TableRowSaid n r (line .bytes) × K (inTable p n (rs ++ (r ∷ []))) out
         by true t =
-            row-said line (λ (a : Answer). Through K out a → (r : Row) × TableRowSaid n r (line .bytes) × K (inTable p n (rs ++ (r ∷ []))) out) (λ q t. absurd t) (goRow p n rs) n rs
+            row-said line (λ (a : Answer). Through K out a → (r : Row) × TableRowSaid n r (line .bytes) × K
+            (inTable p n (rs ++ (r ∷ []))) out) (λ q t. absurd t) (goRow p n rs) n rs
             (λ r w t. (r, w, t)) t
         by false t = absurd t
 
     -- #EOT and its name
-    pub eot-closes : Names (bytes "#EOT") n (line .bytes) → Through K out (answerAt (inTable p n rs) used line (firstColumn line)) → K (top (withTable p n rs)) out
+    pub eot-closes : Names (bytes "#EOT") n (line .bytes) → Through K out (answerAt (inTable p n rs) used line (firstColumn line))
+        → K (top (withTable p n rs)) out
     unfolding answerAt answerRows
     eot-closes names t = by (reads (bytes "#EOT") (firstColumn line)) t
       where
         by : (b : Bool) → Through K out (pick b (next (λ m. goClosed p n rs) (tableEnded n line)) (pick (startsRow (firstColumn line)) (next (goRow p n rs) (rowOf n rs line)) (refuseSix line)))
             → K (top (withTable p n rs)) out
         by true t = ended-granted K out line (λ m. goClosed p n rs) n (its-keyword (bytes "#EOT") n names) t .1
-        by false t = absurd (passes (startsRow (firstColumn line)) _ (refuseSix line) (not-so (bytes "#EOT") n names (λ (c : List ℕ). not (empty c) && not (hashed c)) refl refl) t)
+        by false t =
+            absurd (passes (startsRow (firstColumn line)) _ (refuseSix line)
+            (not-so (bytes "#EOT") n names (λ (c : List ℕ). not (empty c) && not (hashed c)) refl refl) t)
 
 -- ---- a table's lines
 
@@ -163,11 +174,13 @@ module _ (E : Phase → List Sentence → Type 0) where
     pub goes-on : Walks E tail (top preamble) out
 
   table-walked : (n : ℕ) → n < 7 → (bot eot : List ℕ) (rows tail : List (List ℕ)) → Names (bytes "#BOT") n bot → Names (bytes "#EOT") n eot
-      → Each (λ (l : List ℕ). (rest : List ℕ) → l ≡ bytes "#" ++ rest → ⊥) rows → (ph : Phase) (out : List Sentence) → length (tablesAt ph) ≡ 7
+      → Each (λ (l : List ℕ). (rest : List ℕ) → l ≡ bytes "#" ++ rest → ⊥) rows → (ph : Phase) (out : List Sentence)
+      → length (tablesAt ph) ≡ 7
       → Walks E (((bot ∷ rows) ++ (eot ∷ [])) ++ tail) ph out → Closed n rows tail
   table-walked n l bot eot rows tail begins ends plain ph out seven w =
       let o = one-taken E bot ((rows ++ (eot ∷ [])) ++ tail) ph out w in
-      let b = bot-opens (Walks E ((rows ++ (eot ∷ [])) ++ tail)) out (o .0) (numbersIn out) n l (subst (Names (bytes "#BOT") n) (sym (o .1)) begins) ph (o .2) in
+      let b = bot-opens (Walks E ((rows ++ (eot ∷ [])) ++ tail)) out (o .0) (numbersIn out) n l
+      (subst (Names (bytes "#BOT") n) (sym (o .1)) begins) ph (o .2) in
       let p = b .preamble in
       let inside = subst (λ (ls : List (List ℕ)). Walks E ls (inTable p n []) out) (append-assoc rows (eot ∷ []) tail) (b .goes-on) in
       let r = rows-walked rows (eot ∷ tail) p n [] out plain inside in
@@ -184,14 +197,16 @@ module _ (E : Phase → List Sentence → Type 0) where
 
   -- ---- among other lines
 
-  phase-seven : (ph : Phase) → Holds (Unit {0}) (λ (ts : Tables). length ts ≡ 7) (λ (n : ℕ) (ts : Tables). Unit {0}) ph → length (tablesAt ph) ≡ 7
+  phase-seven : (ph : Phase) → Holds (Unit {0}) (λ (ts : Tables). length ts ≡ 7) (λ (n : ℕ) (ts : Tables). Unit {0}) ph
+      → length (tablesAt ph) ≡ 7
   phase-seven start h = refl
   phase-seven (top p) h = h
   phase-seven (inTable p n rs) h = h .0
   phase-seven (inSentence p s) h = h
   phase-seven (behindSentence p) h = h
 
-  phase-has : (n : ℕ) (us : List Row) (ph : Phase) → Holds ⊥ (λ (ts : Tables). table n ts ≡ some us) (λ (m : ℕ) (ts : Tables). m ≡ n → ⊥) ph → table n (tablesAt ph) ≡ some us
+  phase-has : (n : ℕ) (us : List Row) (ph : Phase) → Holds ⊥ (λ (ts : Tables). table n ts ≡ some us) (λ (m : ℕ) (ts : Tables). m ≡ n → ⊥) ph
+      → table n (tablesAt ph) ≡ some us
   phase-has n us start h = absurd h
   phase-has n us (top p) h = h
   phase-has n us (inTable p m rs) h = h .0
@@ -214,7 +229,8 @@ module _ (E : Phase → List Sentence → Type 0) where
       by [] e t = t
       by (line ∷ ts) e t = absurd (let z : _≡_ {A = ℕ} 0 1 = cc in omega arith)
 
-  pub stands-told : (n : ℕ) → n < 7 → (bot eot : List ℕ) (before rows behind : List (List ℕ)) → Names (bytes "#BOT") n bot → Names (bytes "#EOT") n eot
+  pub stands-told : (n : ℕ) → n < 7 → (bot eot : List ℕ) (before rows behind : List (List ℕ)) → Names (bytes "#BOT") n bot
+      → Names (bytes "#EOT") n eot
       → Each (λ (l : List ℕ). (rest : List ℕ) → l ≡ bytes "#" ++ rest → ⊥) rows
       → Walks E (before ++ (((bot ∷ rows) ++ (eot ∷ [])) ++ behind)) start [] → Standing n rows
   stands-told n l bot eot before rows behind begins ends plain w =

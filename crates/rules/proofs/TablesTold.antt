@@ -44,17 +44,30 @@ tables-at-line front l x c o fits faulty =
     next-line a e = line-read front l k o [] ∙ ap (ended (endOfLine front l)) e
 
     shorter : WithinLimit (lineIn front l [])
-    shorter = omega (arith, fits, length-append front (l ++ (10 ∷ [])), length-append l (10 ∷ []), length-append front (l ++ (10 ∷ x)), length-append l (10 ∷ x))
+    shorter =
+        omega (
+          arith,
+          fits,
+          length-append front (l ++ (10 ∷ [])),
+          length-append l (10 ∷ []),
+          length-append front
+              (l ++ (10 ∷ x)),
+          length-append l (10 ∷ x),
+        )
 
     by : (a : Answer) → answerOn front l ≡ a → answered (read (ended (endOfLine front l) a) x) .tables ≡ answered (read begin front) .tables
     by (refuse q) e = ap (λ (r : Reading). answered r .tables) (read-fault (ended (endOfLine front l) (refuse q)) (faultOf q) x refl)
-    by (go ph) e = absurd (faulty (fresh-clean (lineIn front l []) shorter (line-fresh front l k o _ (next-line (go ph) e) refl refl refl refl)))
-    by (hand p s) e = absurd (faulty (fresh-clean (lineIn front l []) shorter (line-fresh front l k o _ (next-line (hand p s) e) refl refl refl refl)))
+    by (go ph) e =
+        absurd (faulty (fresh-clean (lineIn front l []) shorter (line-fresh front l k o _ (next-line (go ph) e) refl refl refl refl)))
+    by (hand p s) e =
+        absurd (faulty (fresh-clean (lineIn front l []) shorter (line-fresh front l k o _ (next-line (hand p s) e) refl refl refl refl)))
 
-tables-at-rest : (front rest : List ℕ) → Clean front → OneLine rest → WithinLimit (front ++ rest) → surveyOf (front ++ rest) .tables ≡ surveyOf front .tables
+tables-at-rest : (front rest : List ℕ) → Clean front → OneLine rest → WithinLimit (front ++ rest)
+    → surveyOf (front ++ rest) .tables ≡ surveyOf front .tables
 tables-at-rest front rest c o fits =
     ap (λ (v : Survey). v .tables) (survey-is (front ++ rest) fits)
-    ∙ ap (λ (r : Reading). answered r .tables) (read-append begin front rest ∙ read-part (read begin front) rest (clean-fresh front c .sound) (no-newline rest o))
+    ∙ ap (λ (r : Reading). answered r .tables)
+    (read-append begin front rest ∙ read-part (read begin front) rest (clean-fresh front c .sound) (no-newline rest o))
     ∙ sym (ap (λ (v : Survey). v .tables) (survey-is front (c .fits)))
 
 -- ---- the tables of the lines in front
@@ -63,7 +76,8 @@ heeded-append : (xs ys : List (List ℕ)) → heededOf (xs ++ ys) ≡ heededOf x
 heeded-append [] ys = refl
 heeded-append (x ∷ xs) ys = by (ignored x) (heeded-append xs ys)
   where
-    by : (t : Bool) → heededOf (xs ++ ys) ≡ heededOf xs ++ heededOf ys → pick t (heededOf (xs ++ ys)) (x ∷ heededOf (xs ++ ys)) ≡ pick t (heededOf xs) (x ∷ heededOf xs) ++ heededOf ys
+    by : (t : Bool) → heededOf (xs ++ ys) ≡ heededOf xs ++ heededOf ys
+        → pick t (heededOf (xs ++ ys)) (x ∷ heededOf (xs ++ ys)) ≡ pick t (heededOf xs) (x ∷ heededOf xs) ++ heededOf ys
     by true e = e
     by false e = ap (λ (ls : List (List ℕ)). x ∷ ls) e
 
@@ -76,15 +90,20 @@ each-told front c n rows s =
     let ls = s .before ++ (s .lines ++ s .behind) in
     let whole : read begin front ≡ read begin (linesWritten ls) = ap (read begin) (s .parts) in
     let sound = sym (ap (λ (r : Reading). r .fault) whole) ∙ clean-fresh front c .sound in
-    let taken = read-takes (There front) (placed 0 ls) start [] (sound-lines (There front) ls 0 start [] (s .each-line) (sound, sym (ap (λ (r : Reading). r .phase) whole))) .1 in
+    let taken = read-takes (There front) (placed 0 ls) start []
+    (sound-lines (There front) ls 0 start [] (s .each-line) (sound, sym (ap (λ (r : Reading). r .phase) whole))) .1 in
     let parts : heededOf ls ≡ heededOf (s .before) ++ (((s .bot ∷ rows) ++ (s .eot ∷ [])) ++ heededOf (s .behind)) =
     heeded-append (s .before) (s .lines ++ s .behind)
-    ∙ ap (λ (hs : List (List ℕ)). heededOf (s .before) ++ hs) (heeded-append (s .lines) (s .behind) ∙ ap (λ (hs : List (List ℕ)). hs ++ heededOf (s .behind)) (sym (heeded-only (s .heeded)))) in
-    let k = stands-told (There front) n (s .one-of-seven) (s .bot) (s .eot) (heededOf (s .before)) rows (heededOf (s .behind)) (s .its-bot) (s .its-eot) (s .its-rows)
+    ∙ ap (λ (hs : List (List ℕ)). heededOf (s .before) ++ hs)
+    (heeded-append (s .lines) (s .behind) ∙ ap (λ (hs : List (List ℕ)). hs ++ heededOf (s .behind)) (sym (heeded-only (s .heeded)))) in
+    let k = stands-told (There front) n (s .one-of-seven) (s .bot) (s .eot) (heededOf (s .before)) rows (heededOf (s .behind)) (s .its-bot)
+    (s .its-eot) (s .its-rows)
     (heededTexts (placed 0 ls), heeded-bytes (placed 0 ls) ∙ ap heededOf (placed-bytes 0 ls) ∙ parts, taken) in
     record {
       told = k .told;
-      there = ap (λ (v : Survey). table n (v .tables)) (survey-is front (c .fits)) ∙ ap (λ (ph : Phase). table n (tablesAt ph)) (sym (k .at-end)) ∙ k .there;
+      there =
+          ap (λ (v : Survey). table n (v .tables)) (survey-is front (c .fits)) ∙ ap (λ (ph : Phase). table n (tablesAt ph))
+          (sym (k .at-end)) ∙ k .there;
       each-row = k .each-row;
     }
 

@@ -45,7 +45,8 @@ module _ (E : Phase → List Sentence → Type 0) where
   abbrev Soundly : Reading → Type 0
   Soundly r = (r .fault ≡ none) × E (r .phase) (sentencesOf (r .handed))
 
-  pub sound-lines : (ls : List (List ℕ)) (a : ℕ) (ph : Phase) (hs : List Handed) → Each OneLine ls → Soundly (read (fresh a ph hs) (linesWritten ls))
+  pub sound-lines : (ls : List (List ℕ)) (a : ℕ) (ph : Phase) (hs : List Handed) → Each OneLine ls
+      → Soundly (read (fresh a ph hs) (linesWritten ls))
       → ReadsAll E (placed a ls) ph (sentencesOf hs)
   sound-lines [] a ph hs o s = s .1
   sound-lines (l ∷ ls) a ph hs o s =
@@ -56,14 +57,18 @@ module _ (E : Phase → List Sentence → Type 0) where
       (by (step ph (numbers hs) t) (subst Soundly e s) (λ ph hs. sound-lines ls (suc (a + length l)) ph hs (o .1)))
     where
       by : (w : Answer) → Soundly (read (ended (lineEnd l a ph hs) w) (linesWritten ls))
-          → ((ph : Phase) (hs : List Handed) → Soundly (read (fresh (suc (a + length l)) ph hs) (linesWritten ls)) → ReadsAll E (placed (suc (a + length l)) ls) ph (sentencesOf hs))
+          → ((ph : Phase) (hs : List Handed) → Soundly (read (fresh (suc (a + length l)) ph hs) (linesWritten ls))
+          → ReadsAll E (placed (suc (a + length l)) ls) ph (sentencesOf hs))
           → Through (ReadsAll E (placed (suc (a + length l)) ls)) (sentencesOf hs) w
       by (refuse q) s more =
-          absurd (never-some (faultOf q) (sym (ap (λ (r : Reading). r .fault) (read-fault (ended (lineEnd l a ph hs) (refuse q)) (faultOf q) (linesWritten ls) refl)) ∙ s .0))
+          absurd (never-some (faultOf q)
+          (sym (ap (λ (r : Reading). r .fault) (read-fault (ended (lineEnd l a ph hs) (refuse q)) (faultOf q) (linesWritten ls) refl))
+          ∙ s .0))
       by (go ph') s more = more ph' hs s
       by (hand p t) s more =
           let h : Handed = record { end = suc (a + length l); sentence = t } in
-          subst (ReadsAll E (placed (suc (a + length l)) ls) (behindSentence p)) (one-more-out hs h) (more (behindSentence p) (hs ++ (h ∷ [])) s)
+          subst (ReadsAll E (placed (suc (a + length l)) ls) (behindSentence p)) (one-more-out hs h)
+          (more (behindSentence p) (hs ++ (h ∷ [])) s)
 
   -- lines that are taken from here on, wherever they stand
   abbrev pub Walks : List (List ℕ) → Phase → List Sentence → Type 0
@@ -78,8 +83,12 @@ module _ (E : Phase → List Sentence → Type 0) where
       by [] e t = absurd (let z : _≡_ {A = ℕ} 0 1 = cc in omega arith)
       by (line ∷ ts) e t =
           let its : line .bytes ≡ l = cc in
-          let others : bytesOf ts ≡ ls = cc in
-          (line, its, through-then (Takes E ts) (Walks ls) (λ ph out t. (ts, others, t)) out (answerAt ph (numbersIn out) line (firstColumn line)) t)
+          let others : bytesOf ts ≡ ls = cc in (
+            line,
+            its,
+            through-then (Takes E ts) (Walks ls) (λ ph out t. (ts, others, t)) out
+                (answerAt ph (numbersIn out) line (firstColumn line)) t,
+          )
 
 -- ---- what holds of the tables: Q of those that are closed, R of the one that is open, S in front of the format line
 
@@ -116,7 +125,11 @@ module _ (S : Type 0) (Q : Tables → Type 0) (R : ℕ → Tables → Type 0) (f
     unfolding tableOpened
     opened p q =
         next-checked Keeps (λ r h. tt) (λ n. go (inTable p n [])) _ (value name) refl
-        (λ h. (q, by name (free (and-left (may (p .tables)) (two && true) h) (eqb-true (length (columns line)) 2 (and-left two true (and-right (may (p .tables)) (two && true) h))))))
+        (λ h. (
+          q,
+          by name (free (and-left (may (p .tables)) (two && true) h)
+              (eqb-true (length (columns line)) 2 (and-left two true (and-right (may (p .tables)) (two && true) h)))),
+        ))
       where
         free : may (p .tables) ≡ true → length (columns line) ≡ 2 → unused (p .tables) name ≡ true
         free h e = sym (ap (λ (b : Bool). b || unused (p .tables) name) (le-ltb (length (columns line)) 2 (omega (arith, e)))) ∙ h
@@ -136,24 +149,30 @@ module _ (S : Type 0) (Q : Tables → Type 0) (R : ℕ → Tables → Type 0) (f
     answer-keeps start used q =
         either Keeps (reads (bytes "#FORMAT") (firstColumn line)) _ (refuseSix line)
         (λ e. next-any Keeps bad (λ n. go (top (record { format = n; tables = noTables }))) (λ n. first q) (formatOf line)) (λ e. tt)
-    answer-keeps (top p) used q = either Keeps (reads (bytes "#BOT") (firstColumn line)) _ (answerBehind line (firstColumn line) p used) (λ e. opened p q) (λ e. behind p used q)
+    answer-keeps (top p) used q =
+        either Keeps (reads (bytes "#BOT") (firstColumn line)) _ (answerBehind line (firstColumn line) p used) (λ e. opened p q)
+        (λ e. behind p used q)
     answer-keeps (inTable p n rs) used q =
         let row = next (goRow p n rs) (rowOf n rs line) in
         either Keeps (reads (bytes "#EOT") (firstColumn line)) _ (pick (startsRow (firstColumn line)) row (refuseSix line))
         (λ e. next-any Keeps bad (λ m. goClosed p n rs) (λ m. closes n rs (p .tables) (q .0) (q .1)) (tableEnded n line))
-        (λ e. either Keeps (startsRow (firstColumn line)) row (refuseSix line) (λ z. next-any Keeps bad (goRow p n rs) (λ r. q) (rowOf n rs line)) (λ z. tt))
+        (λ e. either Keeps (startsRow (firstColumn line)) row (refuseSix line)
+        (λ z. next-any Keeps bad (goRow p n rs) (λ r. q) (rowOf n rs line)) (λ z. tt))
     answer-keeps (inSentence p s) used q =
         let word = next (goWord p s) (wordOf (p .format) (p .tables) (soFar s) line) in
         let phrase = next (goPhrase p s) (phraseOf (p .format) (p .tables) (soFar s) line) in
         let other = pick (startsWord (firstColumn line)) word (refuseSix line) in
         either Keeps (reads (bytes "#EOS") (firstColumn line)) _ (pick (startsPhrase (firstColumn line)) phrase other)
         (λ e. next-any Keeps bad (λ n. hand p s) (λ n. q) (endOf (soFar s) line))
-        (λ e. either Keeps (startsPhrase (firstColumn line)) phrase other (λ z. next-any Keeps bad (goPhrase p s) (λ n. q) (phraseOf (p .format) (p .tables) (soFar s) line))
-        (λ z. either Keeps (startsWord (firstColumn line)) word (refuseSix line) (λ y. next-any Keeps bad (goWord p s) (λ n. q) (wordOf (p .format) (p .tables) (soFar s) line)) (λ y. tt)))
+        (λ e. either Keeps (startsPhrase (firstColumn line)) phrase other
+        (λ z. next-any Keeps bad (goPhrase p s) (λ n. q) (phraseOf (p .format) (p .tables) (soFar s) line))
+        (λ z. either Keeps (startsWord (firstColumn line)) word (refuseSix line)
+        (λ y. next-any Keeps bad (goWord p s) (λ n. q) (wordOf (p .format) (p .tables) (soFar s) line)) (λ y. tt)))
     answer-keeps (behindSentence p) used q = behind p used q
 
   -- it holds behind some of the lines if it holds in front of them
-  pub walked : (E : Phase → List Sentence → Type 0) (xs ys : List (List ℕ)) (ph : Phase) (out : List Sentence) → Holds S Q R ph → Walks E (xs ++ ys) ph out
+  pub walked : (E : Phase → List Sentence → Type 0) (xs ys : List (List ℕ)) (ph : Phase) (out : List Sentence) → Holds S Q R ph
+      → Walks E (xs ++ ys) ph out
       → (ph : Phase) × (out : List Sentence) × Holds S Q R ph × Walks E ys ph out
   walked E [] ys ph out h w = (ph, out, h, w)
   walked E (x ∷ xs) ys ph out h w =
@@ -161,7 +180,8 @@ module _ (S : Type 0) (Q : Tables → Type 0) (R : ℕ → Tables → Type 0) (f
       by (answerAt ph (numbersIn out) (o .0) (firstColumn (o .0))) (answer-keeps (o .0) ph (numbersIn out) h) (o .2) (walked E xs ys)
     where
       by : (a : Answer) → Keeps a → Through (Walks E (xs ++ ys)) out a
-          → ((ph : Phase) (out : List Sentence) → Holds S Q R ph → Walks E (xs ++ ys) ph out → (ph : Phase) × (out : List Sentence) × Holds S Q R ph × Walks E ys ph out)
+          → ((ph : Phase) (out : List Sentence) → Holds S Q R ph → Walks E (xs ++ ys) ph out
+          → (ph : Phase) × (out : List Sentence) × Holds S Q R ph × Walks E ys ph out)
           → (ph : Phase) × (out : List Sentence) × Holds S Q R ph × Walks E ys ph out
       by (refuse q) k t more = absurd t
       by (go ph') k t more = more ph' out k t
