@@ -174,5 +174,6 @@ pub mod WalkedLines
 pub mod StandingTables
 pub mod TablesTold
 pub mod OpensThere
+mod BareSentence
 mod WrongReadings
 mod WrongCalls

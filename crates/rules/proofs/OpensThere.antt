@@ -3,7 +3,7 @@
 use Prim.Native.Nat.{ℕ, suc, _+_}
 use native.Mathlib.Omega.{arith}
 use mathlib.Core.Path.{_≡_, refl, sym, ap, _∙_, subst}
-use mathlib.Core.Logic.{inl, inr}
+use mathlib.Core.Logic.{inr}
 use mathlib.Core.Bool.{true, false≢true}
 use mathlib.Core.Option.{some}
 use mathlib.Core.List.{List, [], _∷_, _++_, append-assoc}
@@ -13,13 +13,13 @@ use Rattle.rules.specs.Bytes.{newline, legal}
 use Rattle.rules.specs.Texts.{Text, reads}
 use Rattle.rules.specs.Tables.{noTables}
 use Rattle.rules.specs.Rules.{granted}
-use Rattle.rules.specs.Sentences.{Heading, Sentence, headingWritten, headingIn}
+use Rattle.rules.specs.Sentences.{Sentence, headingWritten, headingIn}
 use Rattle.rules.specs.Keywords.{firstColumn}
 use Rattle.rules.specs.Phases.{Preamble, Phase, inSentence, behindSentence, begun}
 use Rattle.rules.specs.Reading.{Handed, Reading, read}
-use Rattle.rules.specs.SentenceFrom.{headingAlone, behindHeading, firstHanded, sentenceFrom}
+use Rattle.rules.specs.SentenceFrom.{headingAlone, firstHanded, sentenceFrom}
 use Rattle.rules.specs.GrammarNumbers.{sentenceRange}
-use Rattle.rules.specs.GrammarLines.{Legal, Starts, LineFits, linesWritten}
+use Rattle.rules.specs.GrammarLines.{Legal, Starts, linesWritten}
 use Rattle.rules.specs.GrammarTables.{TableLines, Known}
 use Rattle.rules.specs.GrammarNodes.{EdgeSaid, EdgeFits, NodeLine, NodeFits, WordFits, PhraseLine, PhraseFits}
 use Rattle.rules.specs.GrammarSentences.{SentenceLines, SentenceFits, nodesOf, nodeLines, sentenceLines, sentenceSays}
@@ -36,7 +36,7 @@ use Rattle.rules.proofs.SaidOfLists.{each-every}
 use Rattle.rules.proofs.BytesAsSaid.{legal-said, every-said, Started, started-said, heededOf, heeded-only}
 use Rattle.rules.proofs.LineFit.{LineFit}
 use Rattle.rules.proofs.LineByLine.{heededTexts, heeded-bytes}
-use Rattle.rules.proofs.LinesOfFiles.{placed, placed-bytes, sentencesOf, fresh, Reaches, MayEnd, legal-unended, takes-reach}
+use Rattle.rules.proofs.LinesOfFiles.{placed, placed-bytes, sentencesOf, fresh, Reaches, MayEnd, takes-reach}
 use Rattle.rules.proofs.TablesAsSaid.{stand-none}
 use Rattle.rules.proofs.TablesFollow.{Follows, keyword-reads}
 use Rattle.rules.proofs.HeadsAsSaid.{front-column, head-written}

@@ -1,6 +1,6 @@
 -- A table whose lines stand among lines that are all taken is told: its #BOT can only open it, its rows can only be rows, its
 -- #EOT can only close it, and no line behind takes it away. By one step along the lines.
-use Prim.Native.Nat.{ℕ, zero, suc, _≤_, _<_}
+use Prim.Native.Nat.{ℕ, _<_}
 use native.Mathlib.Omega.{arith}
 use mathlib.Core.Path.{_≡_, refl, sym, ap, _∙_, subst}
 use mathlib.Core.Bool.{Bool, true, false, not, _&&_, _||_}
@@ -9,15 +9,13 @@ use mathlib.Core.List.{List, [], _∷_, _++_, append-assoc, append-nil}
 use lib.ListN.{length, getD, length-set}
 use lib.Seq.{getD-set-same, getD-set-other}
 use Rattle.rules.specs.Lists.{pick, bytes, empty, same, Each}
-use Rattle.rules.specs.Bytes.{ignored}
 use Rattle.rules.specs.Texts.{Text, reads}
 use Rattle.rules.specs.Columns.{Column, columns, written}
-use Rattle.rules.specs.Rules.{Rule}
 use Rattle.rules.specs.Tables.{Tables, Row, table, there as there-is, present, tableNames}
 use Rattle.rules.specs.Rows.{rowOf}
 use Rattle.rules.specs.Sentences.{Sentence}
 use Rattle.rules.specs.Keywords.{tableOpened, tableEnded, firstColumn, hashed, hashAndDigits, startsRow}
-use Rattle.rules.specs.Phases.{Preamble, Phase, start, top, inTable, inSentence, behindSentence, withTable, tablesAt, Answer, refuse, go, next}
+use Rattle.rules.specs.Phases.{Preamble, Phase, start, top, inTable, inSentence, behindSentence, withTable, tablesAt, Answer, go, next}
 use Rattle.rules.specs.GrammarTables.{Names}
 use Rattle.rules.specs.AsWritten.{EachWith, TableRowSaid}
 use Rattle.rules.proofs.Conjunctions.{false-if-never}

@@ -4,10 +4,10 @@ use Prim.Native.Nat.{ℕ}
 use native.Mathlib.Omega.{arith}
 use mathlib.Core.Path.{_≡_, refl, sym, ap, _∙_, subst}
 use mathlib.Core.Bool.{Bool, true, false}
-use mathlib.Core.Option.{none, some}
+use mathlib.Core.Option.{none}
 use mathlib.Core.List.{List, [], _∷_, _++_}
 use lib.ListN.{length-append}
-use Rattle.rules.specs.Lists.{pick, bytes}
+use Rattle.rules.specs.Lists.{pick}
 use Rattle.rules.specs.Bytes.{ignored}
 use Rattle.rules.specs.Rules.{faultOf}
 use Rattle.rules.specs.Tables.{table}
@@ -18,6 +18,7 @@ use Rattle.rules.specs.Survey.{Survey, answered, surveyOf}
 use Rattle.rules.specs.LentBuffers.{WithinLimit}
 use Rattle.rules.specs.Refusals.{Clean, OneLine, lineIn}
 use Rattle.rules.specs.GrammarLines.{linesWritten}
+use Rattle.rules.specs.PointedAt.{FaultyLine}
 use Rattle.rules.specs.TablesTold.{TableStands, TableTold, TablesBeforeFault}
 use Rattle.rules.proofs.ReadLines.{read-append, read-part, read-fault}
 use Rattle.rules.proofs.CleanFronts.{Fresh, survey-is, clean-fresh, no-newline, endOfLine, line-read}
@@ -26,7 +27,7 @@ use Rattle.rules.proofs.PointedAt.{fresh-clean}
 use Rattle.rules.proofs.BytesAsSaid.{heededOf, heeded-only}
 use Rattle.rules.proofs.LineByLine.{read-takes, heededTexts, heeded-bytes}
 use Rattle.rules.proofs.LinesOfFiles.{placed, placed-bytes}
-use Rattle.rules.proofs.WalkedLines.{sound-lines, Walks}
+use Rattle.rules.proofs.WalkedLines.{sound-lines}
 use Rattle.rules.proofs.StandingTables.{stands-told}
 
 -- ---- a line that is refused, and an unended rest
@@ -114,3 +115,11 @@ tables-before-fault front c =
       at-rest = λ rest o fits. tables-at-rest front rest c o fits;
       each-table = λ n rows s. each-told front c n rows s;
     }
+
+-- every table that stands in front of a file's first faulty line is told of the file
+pub told-before-fault : (file : List ℕ) → WithinLimit file → (l : FaultyLine file) (n : ℕ) (rows : List (List ℕ)) → TableStands (l .front) n rows
+    → TableTold file n rows
+told-before-fault file fits l n rows s =
+    let t = each-told (l .front) (l .clean) n rows s in
+    let left = tables-at-line (l .front) (l .bytes) (l .behind) (l .clean) (l .one-line) (subst WithinLimit (l .are) fits) (l .faulty) in
+    record { told = t .told; there = ap (λ (f : List ℕ). table n (surveyOf f .tables)) (l .are) ∙ ap (table n) left ∙ t .there; each-row = t .each-row }

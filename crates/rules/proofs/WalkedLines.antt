@@ -1,6 +1,6 @@
 -- A walk along lines that are all taken: what the lines of a reading without a fault come to, line by line, and what holds of
 -- the tables behind any of them, once a line's answer keeps it. By one step along the lines.
-use Prim.Native.Nat.{ℕ, zero, suc, _+_, _≤_, _<_}
+use Prim.Native.Nat.{ℕ, suc, _+_}
 use native.Mathlib.Omega.{arith}
 use mathlib.Core.Path.{_≡_, refl, sym, ap, _∙_, subst}
 use mathlib.Core.Bool.{Bool, true, false, false≢true, _&&_, _||_}
