@@ -71,7 +71,7 @@ module _ (line : Text) where
               of-column B line W 10 name _ refl (λ w e. placed-inside (line .start) (line .bytes) name (front-placed (line .start) (line .bytes) after loose) (given-are name .0 w)) (λ e. at.name (longer 128 name .0 e)),
               (
                 of-column B line W 10 note _ refl (λ w e. placed-inside (line .start) (line .bytes) note (behind-placed (line .start) (line .bytes) after loose) (some-note e)) (λ e. at.comment (longer 160 note .0 e)),
-                (of-line B line W 11 _ refl, (of-line B line W 12 _ refl, tt)),
+                (of-line B line W 11 _ refl, (of-line B line W _ _ refl, tt)),
               ),
             ),
           ),
@@ -127,7 +127,7 @@ module _ (line : Text) where
               of-column B line W 10 (written cs 1) _ refl (λ w e. column-there 1 (some-behind 1 cs w)) (λ e. at.login (longer 16 (written cs 1) .0 e)),
               (
                 of-column B line W 10 name _ refl (λ w e. rest-there 1 (given-are name .0 w)) (λ e. at.full-name (longer 40 name .0 e)),
-                (of-line B line W 11 _ refl, (of-line B line W 12 _ refl, tt)),
+                (of-line B line W 11 _ refl, (of-line B line W _ _ refl, tt)),
               ),
             ),
           ),
@@ -175,7 +175,7 @@ module _ (line : Text) where
                 of-column B line W 10 (written cs 2) _ refl (λ w e. column-there 2 (flag-there w (is-flagged e))) bad-flag,
                 (
                   of-column B line W 10 described _ refl (λ w e. described-there w) (λ e. at.long-description (longer 80 described .0 e)),
-                  (of-line B line W 11 _ refl, (of-line B line W 12 _ refl, tt)),
+                  (of-line B line W 11 _ refl, (of-line B line W _ _ refl, tt)),
                 ),
               ),
             ),
