@@ -99,7 +99,9 @@ module _ (K : Phase → List Sentence → Type 0) (out : List Sentence) (line : 
         absurd (passes (reads (bytes "#FORMAT") (firstColumn line)) _ (refuseSix line) (other (bytes "#FORMAT") refl refl) t)
     bot-opens (top p) t = by (reads (bytes "#BOT") (firstColumn line)) t
       where
-        by : (b : Bool) → Through K out (pick b (next (λ n. go (inTable p n [])) (tableOpened (p .tables) line)) (answerBehind line (firstColumn line) p used)) → Opens n (top p)
+        by : (b : Bool)
+            → Through K out (pick b (next (λ n. go (inTable p n [])) (tableOpened (p .tables) line)) (answerBehind line (firstColumn line) p used))
+            → Opens n (top p)
         by true t = opens-here p t
         by false t = absurd (nothing-behind p t)
     bot-opens (inTable p m rs) t =
@@ -139,7 +141,9 @@ module _ (K : Phase → List Sentence → Type 0) (out : List Sentence) (line : 
     unfolding answerAt answerRows
     eot-closes names t = by (reads (bytes "#EOT") (firstColumn line)) t
       where
-        by : (b : Bool) → Through K out (pick b (next (λ m. goClosed p n rs) (tableEnded n line)) (pick (startsRow (firstColumn line)) (next (goRow p n rs) (rowOf n rs line)) (refuseSix line)))
+        by : (b : Bool)
+            → Through K out (pick b (next (λ m. goClosed p n rs) (tableEnded n line))
+            (pick (startsRow (firstColumn line)) (next (goRow p n rs) (rowOf n rs line)) (refuseSix line)))
             → K (top (withTable p n rs)) out
         by true t = ended-granted K out line (λ m. goClosed p n rs) n (its-keyword (bytes "#EOT") n names) t .1
         by false t =
