@@ -23,18 +23,18 @@ const NEWLINE: u8 = 10;
 fn survey_file(file: &[u8]) -> Surveyed
     ensures { λ r. ⌜ r ≡ asSurveyed (surveyed (now (file .entry)) .answer) ⌝ }
 {
-    let mut tables = [0u32; 10759];
-    let mut seen = [0u8; 8192];
+    let mut tables = [0u32; table_sheet::SIZE];
+    let mut seen = [0u8; seen::SIZE];
     survey::survey(file, &mut tables, &mut seen)
 }
 
 fn write_tidy(file: &[u8], output: &mut [u8]) -> Written
     ensures { λ r. ⌜ (answerOf r ≡ writtenInto (now (file .entry)) (now (output .entry)) .answer) × (now (output .exit) ≡ writtenInto (now (file .entry)) (now (output .entry)) .output) × Counts (r .length) (now (output .exit)) ⌝ }
 {
-    let mut tables = [0u32; 10759];
-    let mut seen = [0u8; 8192];
-    let mut sheet = [0u32; 11009];
-    let mut edges = [0u32; 2048];
+    let mut tables = [0u32; table_sheet::SIZE];
+    let mut seen = [0u8; seen::SIZE];
+    let mut sheet = [0u32; sentence_sheet::SIZE];
+    let mut edges = [0u32; sentence_sheet::EDGE_LIST_SIZE];
     writing::write_flat(file, output, &mut tables, &mut seen, &mut sheet, &mut edges)
 }
 

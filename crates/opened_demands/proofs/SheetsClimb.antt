@@ -12,7 +12,8 @@ use borrow.Author.Tests.{leb-true}
 use Rattle.rules.specs.Lists.{joined, Each}
 use Rattle.rules.specs.Numbers.{edgeLimit}
 use Rattle.rules.specs.Sentences.{Edge, Node, Sentence}
-use Rattle.rules.specs.Sheets.{nodeRoom, nodes, sentenceSheet, EdgeRecord, noEdge, edgeRecord, edgeList}
+use Rattle.rules.specs.SheetFields.{nodeRoom}
+use Rattle.rules.specs.Sheets.{nodes, sentenceSheet, EdgeRecord, noEdge, edgeRecord, edgeList}
 use Rattle.rules.specs.Climbing.{parentIn, parentOn, Climbs}
 use Rattle.rules.specs.SentenceFrom.{sentenceFrom}
 use Rattle.rules.specs.BeginsThere.{OtherPhrase, ParentsStand}

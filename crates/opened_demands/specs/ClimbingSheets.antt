@@ -6,7 +6,8 @@ use mathlib.Core.List.{List}
 use lib.ListN.{getD}
 use Rattle.rules.specs.Lists.{Each}
 use Rattle.rules.specs.Numbers.{edgeLimit}
-use Rattle.rules.specs.Sheets.{nodeRoom, EdgeRecord, noEdge}
+use Rattle.rules.specs.SheetFields.{nodeRoom}
+use Rattle.rules.specs.Sheets.{EdgeRecord, noEdge}
 use Rattle.rules.specs.Climbing.{parentOn, Climbs}
 use Rattle.opening.specs.FlatLists.{edgeRecords}
 

@@ -7,10 +7,11 @@ use lib.ListN.{length, getD, take, drop}
 abbrev pub textMost : ℕ
 textMost = 4294967295
 
--- the bytes whose start and length stand in a sheet from a place on
-abbrev pub fieldText : List ℕ → List ℕ → ℕ → List ℕ
-fieldText file sheet place = take (getD sheet (place + 1) 0) (drop (getD sheet place 0) file)
+-- the bytes whose start and whose length stand at two places of a sheet
+abbrev pub fieldText : List ℕ → List ℕ → ℕ → ℕ → List ℕ
+fieldText file sheet start len = take (getD sheet len 0) (drop (getD sheet start 0) file)
 
-pub record FieldInside (file sheet : List ℕ) (place : ℕ) : Type 0 where
-  pub room : place + 1 < length sheet
-  pub inside : getD sheet place 0 + getD sheet (place + 1) 0 ≤ length file
+pub record FieldInside (file sheet : List ℕ) (start len : ℕ) : Type 0 where
+  pub start-room : start < length sheet
+  pub length-room : len < length sheet
+  pub inside : getD sheet start 0 + getD sheet len 0 ≤ length file

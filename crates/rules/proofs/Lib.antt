@@ -74,6 +74,7 @@ pub mod References
 pub mod NodeNumbers
 pub mod Chains
 pub mod ParentsClimb
+pub mod FieldsOnSheet
 pub mod ParentsOnSheet
 pub mod SaidOfLists
 pub mod NoOthers

@@ -13,7 +13,8 @@ use Rattle.rules.specs.Numbers.{phraseNumber, wordLimit}
 use Rattle.rules.specs.Tables.{Tables}
 use Rattle.rules.specs.Sentences.{Node, Sentence, listed}
 use Rattle.rules.specs.Reading.{Handed}
-use Rattle.rules.specs.Sheets.{nodeRoom, nodes}
+use Rattle.rules.specs.SheetFields.{nodeRoom}
+use Rattle.rules.specs.Sheets.{nodes}
 use Rattle.rules.specs.Survey.{Survey, surveyOf}
 use Rattle.rules.specs.Meaning.{bareNode, nodeNumber, meantTables}
 use Rattle.rules.specs.Climbing.{parentAmong, parentIn}

@@ -13,62 +13,31 @@ use lib.Dec.{eqb}
 use Rattle.rules.specs.Lists.{pick, counting, joined, Each}
 use Rattle.rules.specs.Sentences.{Node, Sentence}
 use Rattle.rules.specs.Reading.{Handed}
-use Rattle.rules.specs.Sheets.{nodeRoom, nodeWidth, parentOffset, nodes, leading, nodeNumbers, recordAt, sentenceSheet}
+use Rattle.rules.specs.SheetFields.{nodeRoom, nodeWidth, parentPlace}
+use Rattle.rules.specs.Sheets.{nodes, leading, nodeNumbers, recordAt, sentenceSheet}
 use Rattle.rules.specs.Survey.{surveyOf}
 use Rattle.rules.specs.Climbing.{parentAmong, parentIn, parentOn, climbed, Climbs, EveryChainClimbs}
 use Rattle.rules.proofs.EachElement.{each-then}
+use Rattle.rules.proofs.FieldsOnSheet.{field-at}
 use Rattle.rules.proofs.NodeNumbers.{InRoom}
 use Rattle.rules.proofs.Climbable.{Climbable, handed-climbable}
 use Rattle.rules.proofs.Chains.{ZeroOrAbove, climbed-same, climbs-same}
 use Rattle.rules.proofs.ParentsClimb.{parent-above, sentence-climbs}
 
--- ---- records of one width, one behind the other, for each number counted
+-- ---- the parent of a number
 
-module _ (f : ℕ → List ℕ) (width : ℕ) (wide : (k : ℕ) → length (f k) ≡ width) where
-  pub at-joined : (from count n at : ℕ) → n < count → at < width → getD (joined (map f (counting from count))) (width * n + at) 0 ≡ getD (f (from + n)) at 0
-  at-joined from zero n at h l = absurd (not-suc-le-zero h)
-  at-joined from (suc count) zero at h l =
-      let w = wide from in
-      let place : width * 0 + at ≡ at = omega (arith, mul-zero width) in
-      ap (λ (m : ℕ). getD (f from ++ joined (map f (counting (suc from) count))) m 0) place
-      ∙ List·getD-append (f from) (joined (map f (counting (suc from) count))) 0 at (omega arith)
-      ∙ ap (λ (m : ℕ). getD (f m) at 0) (sym (add-zero from))
-  at-joined from (suc count) (suc n) at h l =
-      let w = wide from in
-      let m : width * suc n ≡ width * n + width = mul-suc width n in
-      let place : width * suc n + at ≡ length (f from) + (width * n + at) = omega arith in
-      ap (λ (m : ℕ). getD (f from ++ joined (map f (counting (suc from) count))) m 0) place
-      ∙ getD-append-add (f from) (joined (map f (counting (suc from) count))) (width * n + at) 0
-      ∙ at-joined (suc from) count n at (le-of-suc-le-suc h) l
-      ∙ ap (λ (m : ℕ). getD (f m) at 0) (suc-add from n ∙ sym (add-suc from n))
-
--- ---- the record of a number
-
-pub record-wide : (ns : List Node) (k : ℕ) → length (recordAt ns k) ≡ nodeWidth
-record-wide [] k = refl
-record-wide (n ∷ ns) k = by (eqb (n .number) k) (record-wide ns k)
-  where
-    by : (t : Bool) → length (recordAt ns k) ≡ nodeWidth → length (pick t (nodeNumbers n) (recordAt ns k)) ≡ nodeWidth
-    by true more = refl
-    by false more = more
-
-record-parent : (ns : List Node) (k : ℕ) → getD (recordAt ns k) parentOffset 0 ≡ parentAmong ns k
+record-parent : (ns : List Node) (k : ℕ) → getD (recordAt ns k) parentPlace 0 ≡ parentAmong ns k
 record-parent [] k = refl
 record-parent (n ∷ ns) k = by (eqb (n .number) k) (record-parent ns k)
   where
-    by : (t : Bool) → getD (recordAt ns k) parentOffset 0 ≡ parentAmong ns k
-        → getD (pick t (nodeNumbers n) (recordAt ns k)) parentOffset 0 ≡ pick t (n .parent) (parentAmong ns k)
+    by : (t : Bool) → getD (recordAt ns k) parentPlace 0 ≡ parentAmong ns k
+        → getD (pick t (nodeNumbers n) (recordAt ns k)) parentPlace 0 ≡ pick t (n .parent) (parentAmong ns k)
     by true more = refl
     by false more = more
 
 -- of any sentence, at each number that a node may have
 pub parent-on-sheet : (s : Sentence) (n : ℕ) → n < nodeRoom → parentOn (sentenceSheet s) n ≡ parentIn s n
-unfolding sentenceSheet
-parent-on-sheet s n h =
-    getD-append-add (leading s) (joined (map (recordAt (nodes s)) (counting 0 nodeRoom))) (nodeWidth * n + parentOffset) 0
-    ∙ at-joined (recordAt (nodes s)) nodeWidth (record-wide (nodes s)) 0 nodeRoom n parentOffset h (omega arith)
-    ∙ ap (λ (m : ℕ). getD (recordAt (nodes s) m) parentOffset 0) (zero-add n)
-    ∙ record-parent (nodes s) n
+parent-on-sheet s n h = field-at s parentPlace n (omega arith) h ∙ record-parent (nodes s) n
 
 -- ---- a sentence whose chains climb
 

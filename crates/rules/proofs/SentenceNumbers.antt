@@ -12,6 +12,7 @@ use lib.Dec.{eqb}
 use borrow.Author.Tests.{eq-eqb, ne-eqb}
 use Rattle.rules.specs.Lists.{counting, joined, Each}
 use Rattle.rules.specs.Sentences.{Edge, Node, Sentence, edgeCount, edgesOf, listed}
+use Rattle.rules.specs.SheetFields.{fieldPlace}
 use Rattle.rules.specs.Sheets.{leading, nodeNumbers, recordAt, sentenceSheet, EdgeRecord, edgeRecord, edgeList}
 use Rattle.rules.specs.Meaning.{nodeNumber}
 use Rattle.rules.specs.Layout.{NodeLaid, edgesIn, zeroRecord, SentenceLaid}
@@ -22,21 +23,9 @@ use Rattle.rules.proofs.Elements.{map-append}
 use Rattle.rules.proofs.SaidOfLists.{never-both}
 use Rattle.rules.proofs.Sorting.{Distinct}
 use Rattle.rules.proofs.SentencesKept.{edges-append}
-use Rattle.rules.proofs.NodeNumbers.{InRoom, each-own}
-use Rattle.rules.proofs.ParentsOnSheet.{at-joined, record-wide}
+use Rattle.rules.proofs.NodeNumbers.{InRoom}
+use Rattle.rules.proofs.FieldsOnSheet.{record-wide, FieldsStand, fields-stand, no-field}
 use Rattle.rules.proofs.Rooms.{behind-at, joined-around, length-joined}
-
--- ---- the record of a number
-
--- a number that no node has
-no-record : (ns : List Node) (k : ℕ) → listed ns k ≡ false → recordAt ns k ≡ replicate 11 0
-no-record [] k e = refl
-no-record (n ∷ ns) k e =
-    let other : eqb (n .number) k ≡ false = ne-eqb (n .number) k (λ z. absurd (never-both (eqb k (n .number)) (eq-eqb k (n .number) (sym z)) (or-left (eqb k (n .number)) (listed ns k) e))) in
-    rw other (no-record ns k (or-right (eqb k (n .number)) (listed ns k) e))
-
-abbrev HasRecord : List Node → Node → Type 0
-HasRecord ns n = recordAt ns (n .number) ≡ nodeNumbers n
 
 -- ---- the nodes' records
 
@@ -55,17 +44,8 @@ module _ (s : Sentence) where
       (length-joined (recordAt ns) 11 (counting 0 1000) (each-of (λ (k : ℕ). length (recordAt ns k) ≡ 11) (record-wide ns) (counting 0 1000))
       ∙ ap (λ (m : ℕ). 11 * m) (length-counting 0 1000))
 
-  field-at : (k j : ℕ) → k < 1000 → j < 11 → getD (sentenceSheet s) (9 + 11 * k + j) 0 ≡ getD (recordAt ns k) j 0
-  unfolding sentenceSheet
-  field-at k j h l =
-      let place : 9 + 11 * k + j ≡ 9 + (11 * k + j) = omega arith in
-      ap (λ (m : ℕ). getD (leading s ++ records) m 0) place
-      ∙ behind-at (leading s) records 9 (11 * k + j) 0 refl
-      ∙ at-joined (recordAt ns) 11 (record-wide ns) 0 1000 k j h l
-      ∙ ap (λ (m : ℕ). getD (recordAt ns m) j 0) (zero-add k)
-
-  node-laid : (n : Node) → HasRecord ns n → InRoom n → NodeLaid (sentenceSheet s) (9 + 11 * n .number) n
-  node-laid n own room =
+  node-laid : (n : Node) → FieldsStand (sentenceSheet s) n → NodeLaid (sentenceSheet s) (9 + 11 * n .number) n
+  node-laid n own =
       record {
         word-start = at 0 (omega arith);
         word-length = at 1 (omega arith);
@@ -81,7 +61,9 @@ module _ (s : Sentence) where
       }
     where
       at : (j : ℕ) → j < 11 → getD (sentenceSheet s) (9 + 11 * n .number + j) 0 ≡ getD (nodeNumbers n) j 0
-      at j h = field-at (n .number) j room h ∙ ap (λ (l : List ℕ). getD l j 0) own
+      at j h =
+          let place : 9 + 11 * n .number + j ≡ fieldPlace j (n .number) = omega arith in
+          ap (λ (m : ℕ). getD (sentenceSheet s) m 0) place ∙ own j h
 
 -- ---- secondary edges
 
@@ -165,9 +147,11 @@ sentence-laid s distinct room few =
       phrases = refl;
       edges = counted;
       nodes =
-          each-then (λ (n : Node). HasRecord ms n × InRoom n) (λ (n : Node). NodeLaid (sentenceSheet s) (9 + 11 * n .number) n) (λ n k. node-laid s n (k .0) (k .1)) ms
-          (each-both (HasRecord ms) InRoom ms (each-own recordAt nodeNumbers (λ m us k. refl) ms distinct) room);
-      no-node = λ k j h l e. field-at s k j h l ∙ ap (λ (r : List ℕ). getD r j 0) (no-record ms k e) ∙ getD-replicate {A = ℕ} 11 j 0 0 l;
+          each-then (FieldsStand (sentenceSheet s)) (λ (n : Node). NodeLaid (sentenceSheet s) (9 + 11 * n .number) n) (node-laid s) ms (fields-stand s distinct room);
+      no-node =
+          λ k j h l e.
+          let place : 9 + 11 * k + j ≡ fieldPlace j k = omega arith in
+          ap (λ (m : ℕ). getD (sentenceSheet s) m 0) place ∙ no-field s j k l h e;
       list-size = list-size s (omega (arith, counted));
       edge =
           λ front n back before e behind p q.

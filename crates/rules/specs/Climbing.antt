@@ -10,7 +10,8 @@ use lib.Dec.{eqb}
 use Rattle.rules.specs.Lists.{pick, every, Each}
 use Rattle.rules.specs.Tables.{Tables, wordTags, morphTags, nodeTags, edgeTags, secEdgeTags, known}
 use Rattle.rules.specs.Sentences.{Edge, Node, Sentence, knownEditor, knownOrigin, listed}
-use Rattle.rules.specs.Sheets.{fieldPlace, parentOffset, nodes}
+use Rattle.rules.specs.SheetFields.{fieldPlace, parentPlace}
+use Rattle.rules.specs.Sheets.{nodes}
 
 -- ---- references
 
@@ -41,7 +42,7 @@ parentIn s n = parentAmong (nodes s) n
 
 -- the parent that the sentence sheet has for a number
 abbrev pub parentOn : List ℕ → ℕ → ℕ
-parentOn sheet n = getD sheet (fieldPlace parentOffset n) 0
+parentOn sheet n = getD sheet (fieldPlace parentPlace n) 0
 
 -- so many steps up from a number
 abbrev pub climbed : (ℕ → ℕ) → ℕ → ℕ → ℕ

@@ -14,6 +14,7 @@ pub mod Keywords
 pub mod Lines
 pub mod Phases
 pub mod Reading
+pub mod SheetFields
 pub mod Sheets
 pub mod Survey
 pub mod Index

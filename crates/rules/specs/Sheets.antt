@@ -9,6 +9,7 @@ use Rattle.rules.specs.Texts.{Text}
 use Rattle.rules.specs.Numbers.{rowLimit, edgeLimit, sentenceNumber}
 use Rattle.rules.specs.Tables.{Tables, Row, rowsOf}
 use Rattle.rules.specs.Sentences.{Edge, Node, Sentence, edgesOf}
+pub use Rattle.rules.specs.SheetFields.{leadingCount, nodeWidth, nodeRoom, fieldPlace}
 
 -- unused room is zero
 abbrev pub filledUp {ℓ} : {A : Type ℓ} → ℕ → A → List A → List A
@@ -70,25 +71,8 @@ seenSet ns = map (seenByte ns) (counting 0 seenSetSize)
 
 -- ---- the sentence sheet: nine numbers, then 1,000 node records of 11 at the node's number
 
-abbrev pub leadingCount : ℕ
-leadingCount = 9
-
-abbrev pub nodeRoom : ℕ
-nodeRoom = 1000
-
-abbrev pub nodeWidth : ℕ
-nodeWidth = 11
-
--- the place of a field of a node's record: 0 for the word's start, to 10 for the comment's length
-abbrev pub fieldPlace : ℕ → ℕ → ℕ
-fieldPlace field node = leadingCount + (nodeWidth * node + field)
-
--- the field that the parent stands in
-abbrev pub parentOffset : ℕ
-parentOffset = 8
-
 abbrev pub sentenceSheetSize : ℕ
-sentenceSheetSize = fieldPlace 0 nodeRoom
+sentenceSheetSize = leadingCount + nodeWidth * nodeRoom
 
 abbrev pub nodes : Sentence → List Node
 nodes s = s .words ++ s .phrases

@@ -5,7 +5,8 @@ use mathlib.Core.Bool.{false}
 use mathlib.Core.List.{List, [], _∷_, _++_}
 use lib.ListN.{length, replicate}
 use Rattle.rules.specs.Sentences.{Node, Heading, Sentence, listed, edgesOf}
-use Rattle.rules.specs.Sheets.{sentenceSheetSize, nodeRoom, nodeWidth, fieldPlace, nodes, nodeNumbers, sentenceSheet}
+use Rattle.rules.specs.SheetFields.{nodeRoom, nodeWidth, fieldPlace}
+use Rattle.rules.specs.Sheets.{sentenceSheetSize, nodes, nodeNumbers, sentenceSheet}
 use Rattle.columns.specs.Splices.{splice}
 use Rattle.columns.proofs.Splices.{splice-behind}
 use Rattle.sentence_sheet.specs.OpenSentences.{headingNumbers, records, openSentence, countsPlace}

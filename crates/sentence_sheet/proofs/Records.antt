@@ -9,10 +9,11 @@ use lib.Dec.{eqb}
 use borrow.Author.Tests.{eqb-false, eq-eqb, ne-eqb}
 use Rattle.rules.specs.Lists.{pick, counting, joined}
 use Rattle.rules.specs.Sentences.{Node, listed}
-use Rattle.rules.specs.Sheets.{nodeRoom, nodeWidth, nodeNumbers, recordAt}
+use Rattle.rules.specs.SheetFields.{nodeRoom, nodeWidth}
+use Rattle.rules.specs.Sheets.{nodeNumbers, recordAt}
 use Rattle.rules.proofs.Counting.{length-counting, at-counting}
 use Rattle.rules.proofs.Conjunctions.{or-left, or-right}
-use Rattle.rules.proofs.ParentsOnSheet.{record-wide}
+use Rattle.rules.proofs.FieldsOnSheet.{record-wide}
 use Rattle.columns.specs.Splices.{splice}
 use Rattle.columns.proofs.Splices.{splice-whole}
 use Rattle.table_sheet.proofs.Rooms.{Wide, splice-joined}

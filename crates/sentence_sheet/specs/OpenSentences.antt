@@ -4,7 +4,8 @@ use Prim.Native.Nat.{ℕ}
 use mathlib.Core.List.{List, [], _∷_, _++_, map}
 use Rattle.rules.specs.Lists.{counting, joined}
 use Rattle.rules.specs.Sentences.{Node, Heading}
-use Rattle.rules.specs.Sheets.{span, nodeRoom, recordAt}
+use Rattle.rules.specs.SheetFields.{wordsPlace, nodeRoom}
+use Rattle.rules.specs.Sheets.{span, recordAt}
 
 abbrev pub headingNumbers : Heading → List ℕ
 headingNumbers h = h .number ∷ h .editor1 ∷ h .date ∷ h .origin ∷ span (h .comment)
@@ -17,4 +18,4 @@ openSentence h ns = (headingNumbers h ++ (0 ∷ 0 ∷ 0 ∷ [])) ++ records ns
 
 -- the place of the counts, which are the last of the leading numbers
 abbrev pub countsPlace : ℕ
-countsPlace = 6
+countsPlace = wordsPlace

@@ -3,23 +3,55 @@ ghost use mathlib.Core.Path.{_≡_};
 ghost use mathlib.Core.List.{[], _∷_};
 ghost use Prim.Native.Nat.{_+_, _*_, _≤_, _<_};
 ghost use lib.ListN.{length};
-ghost use Rattle.rules.specs.Sheets.{leadingCount, nodeRoom, nodeWidth, fieldPlace, sentenceSheetSize};
+ghost use Rattle.rules.specs.SheetFields.{leadingCount, nodeRoom, nodeWidth, fieldPlace};
+ghost use Rattle.rules.specs.Sheets.{sentenceSheetSize};
 ghost use Rattle.columns.specs.Splices.{splice};
 ghost use Rattle.sentence_sheet.specs.OpenSentences.{countsPlace};
 ghost use Rattle.sentence_sheet.specs.FlatEdges.{edgeWidth};
 ghost use Rattle.sentence_sheet.specs.NodeRecords.{recordNumbers};
 
-// The layout: nine numbers of the sentence, then a record of eleven for each of 1,000 nodes.
-pub const LEADING_COUNT: usize = 9;
+// The leading numbers of the sheet, by their places.
+pub const NUMBER: usize = 0;
 
+pub const EDITOR: usize = NUMBER + 1;
+
+pub const DATE: usize = EDITOR + 1;
+
+pub const ORIGIN: usize = DATE + 1;
+
+pub const REMARK: usize = ORIGIN + 1;
+
+pub const REMARK_LEN: usize = REMARK + 1;
+
+pub const WORDS: usize = REMARK_LEN + 1;
+
+pub const PHRASES: usize = WORDS + 1;
+
+pub const EDGES: usize = PHRASES + 1;
+
+pub const LEADING_COUNT: usize = EDGES + 1;
+
+// The fields of a node; a text's length is the field behind its start.
+pub const WORD: usize = 0;
+
+pub const TAG: usize = WORD + 2;
+
+pub const MORPHOLOGY: usize = TAG + 2;
+
+pub const EDGE: usize = MORPHOLOGY + 2;
+
+pub const PARENT: usize = EDGE + 2;
+
+pub const COMMENT: usize = PARENT + 1;
+
+pub const NODE_WIDTH: usize = COMMENT + 2;
+
+// Then the fields of 1,000 nodes; phrases are numbered from 500 on.
 pub const NODE_ROOM: usize = 1000;
 
-pub const NODE_WIDTH: usize = 11;
+pub const FIRST_PHRASE: usize = 500;
 
 pub const SIZE: usize = LEADING_COUNT + NODE_WIDTH * NODE_ROOM;
-
-// The last three of the nine are counts.
-const COUNTS_PLACE: usize = 6;
 
 // Each of 512 secondary edges has four numbers.
 pub const EDGE_LIMIT: usize = 512;
@@ -43,7 +75,7 @@ pub struct NodeRecord {
     pub comment_len: u32,
 }
 
-// The place of a field of a node's record.
+// The place of a field of a node.
 pub fn field_place(field: usize, node: usize) -> usize
     requires { ⌜ (field < nodeWidth) × (node < nodeRoom) ⌝ }
     ensures { λ r. ⌜ r ≡ fieldPlace field node ⌝ }
@@ -96,7 +128,7 @@ pub fn put_counts(sheet: &mut [u32], words: u32, phrases: u32, edges: u32)
     requires { ⌜ leadingCount ≤ length (now sheet) ⌝ }
     ensures { λ _. ⌜ now (sheet .exit) ≡ splice countsPlace (words ∷ phrases ∷ edges ∷ []) (now (sheet .entry)) ⌝ }
 {
-    table_sheet::put(sheet, COUNTS_PLACE, &[words, phrases, edges]);
+    table_sheet::put(sheet, WORDS, &[words, phrases, edges]);
 }
 
 // A secondary edge as four numbers, behind `count` others.

@@ -54,12 +54,9 @@ pub edges-text : (e : Edge) (es : List Edge) → edgesText (e ∷ []) ++ edgesTe
 edges-text e es = further-append tab (edgeColumns e) (joined (map edgeColumns es))
 
 pub edge-text : (file list : List ℕ) (at : ℕ)
-    → (tab ∷ fieldText file list (at + 1)) ++ (tab ∷ digitsOf (getD list (at + 3) 0)) ≡ edgesText (edgeIn file (edgeRecordAt list at) ∷ [])
+    → (tab ∷ fieldText file list (at + 1) (at + 2)) ++ (tab ∷ digitsOf (getD list (at + 3) 0)) ≡ edgesText (edgeIn file (edgeRecordAt list at) ∷ [])
 edge-text file list at =
-    let p : at + 1 + 1 ≡ at + 2 = omega arith in
-    ap₂ (λ (k : ℕ) (l : List ℕ). (tab ∷ take (getD list k 0) (drop (getD list (at + 1) 0) file)) ++ (tab ∷ l))
-    p
-    (sym (append-nil (digitsOf (getD list (at + 3) 0))))
+    ap (λ (l : List ℕ). (tab ∷ fieldText file list (at + 1) (at + 2)) ++ (tab ∷ l)) (sym (append-nil (digitsOf (getD list (at + 3) 0))))
 
 module _ (file list : List ℕ) (node : ℕ) where
   abbrev left : ℕ → ℕ → List ℕ

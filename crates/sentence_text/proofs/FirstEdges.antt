@@ -10,7 +10,8 @@ use lib.Seq.{getD-set-same, getD-set-other, drop-append-seam}
 use lib.Dec.{eqb}
 use borrow.Author.Tests.{eqb-true, eqb-false}
 use Rattle.rules.specs.Lists.{pick, Each}
-use Rattle.rules.specs.Sheets.{EdgeRecord, nodeRoom}
+use Rattle.rules.specs.SheetFields.{nodeRoom}
+use Rattle.rules.specs.Sheets.{EdgeRecord}
 use Rattle.rules.proofs.EachElement.{each-more}
 use Rattle.sentence_sheet.specs.FlatEdges.{edgeWidth}
 use Rattle.sentence_text.specs.EdgesRead.{edgesFrom, together, ownEdges, firstFrom, Firsts}

@@ -9,7 +9,8 @@ use lib.ListN.{length, getD, set, replicate, length-set, length-replicate, getD-
 use lib.Seq.{getD-set-same, getD-set-other, ext-getD}
 use lib.Dec.{eqb}
 use borrow.Author.Tests.{eqb-true, eqb-false}
-use Rattle.rules.specs.Sheets.{EdgeRecord, nodeRoom}
+use Rattle.rules.specs.SheetFields.{nodeRoom}
+use Rattle.rules.specs.Sheets.{EdgeRecord}
 use Rattle.sentence_text.specs.EdgesRead.{firstFrom, Firsts}
 use Rattle.sentence_text.proofs.FirstEdges.{Lacks}
 

@@ -12,23 +12,23 @@ use Rattle.rules.specs.Lists.{pick, counting, joined, sorted, Each}
 use Rattle.rules.specs.Texts.{Text}
 use Rattle.rules.specs.Numbers.{edgeLimit}
 use Rattle.rules.specs.Sentences.{Edge, Node, Heading, Sentence, edgeCount, edgesOf}
-use Rattle.rules.specs.Sheets.{EdgeRecord, noEdge, edgeRecord, nodeRoom, nodeNumbers, recordAt, leading, nodes, fieldPlace, sentenceSheet}
+use Rattle.rules.specs.SheetFields.{remarkStart, remarkLength, wordStart, tagStart, morphologyStart, edgeStart, commentStart, nodeWidth, nodeRoom}
+use Rattle.rules.specs.Sheets.{EdgeRecord, noEdge, edgeRecord, nodeNumbers, recordAt, nodes, sentenceSheet, sentenceSheetSize}
 use Rattle.rules.specs.Meaning.{bareHeading, bareNode, nodeNumber, meantSentence}
 use Rattle.rules.specs.Tidy.{sentenceText}
 use Rattle.rules.specs.Places.{LiesIn, NodeLies}
-use Rattle.rules.specs.Layout.{NodeLaid, SentenceLaid}
+use Rattle.rules.specs.Layout.{SentenceLaid}
 use Rattle.rules.proofs.EachElement.{each-then, each-both, each-front, each-back, each-joined}
 use Rattle.rules.proofs.Sorting.{Distinct, all-sorted}
 use Rattle.rules.proofs.SentencesKept.{edges-append}
-use Rattle.rules.proofs.ParentsOnSheet.{at-joined, record-wide}
-use Rattle.rules.proofs.Rooms.{behind-at, each-at}
+use Rattle.rules.proofs.FieldsOnSheet.{field-at, FieldsStand, fields-stand}
+use Rattle.rules.proofs.Rooms.{each-at}
 use Rattle.rules.proofs.SentenceNumbers.{sentence-laid}
 use Rattle.rules.proofs.LiesInside.{lies-inside}
 use Rattle.sentence_sheet.specs.FlatEdges.{edgeWidth, edgesAmong, flatEdges}
-use Rattle.printing.specs.Fields.{FieldInside}
 use Rattle.sentence_text.specs.EdgesRead.{edgeRecordAt, edgesFrom, ownEdges}
 use Rattle.sentence_text.specs.SheetRead.{headingOnSheet, wordsCounted, phrasesCounted, edgesCounted, edgesOnSheet, nodeIn, sentenceIn}
-use Rattle.sentence_text.specs.Readable.{NodeInside, EdgeInside, SheetReadable}
+use Rattle.sentence_text.specs.Readable.{TextInside, NodeInside, EdgeInside, SheetReadable}
 use Rattle.sentence_text.specs.Printable.{Apart, Printable, Sheeted}
 use Rattle.sentence_text.proofs.TextsInside.{text-back}
 use Rattle.sentence_text.proofs.OwnEdges.{recordsOf, recordsAmong, each-own}
@@ -42,16 +42,16 @@ apart-distinct (n ∷ ns) a = (a .0, apart-distinct ns (a .1))
 -- ---- texts inside the file
 
 module _ (file : List ℕ) where
-  -- start and length at a place of a node's record
+  -- start and length at a field of a node's record
   abbrev Within : List ℕ → ℕ → Type 0
-  Within r j = getD r j 0 + getD r (j + 1) 0 ≤ length file
+  Within r field = getD r field 0 + getD r (field + 1) 0 ≤ length file
 
   pub record RecordInside (r : List ℕ) : Type 0 where
-    pub word : Within r 0
-    pub tag : Within r 2
-    pub morphology : Within r 4
-    pub edge : Within r 6
-    pub comment : Within r 9
+    pub word : Within r wordStart
+    pub tag : Within r tagStart
+    pub morphology : Within r morphologyStart
+    pub edge : Within r edgeStart
+    pub comment : Within r commentStart
 
   record-inside : (ns : List Node) (k : ℕ) → Each (NodeLies file) ns → RecordInside (recordAt ns k)
   record-inside [] k a = record { word = omega arith; tag = omega arith; morphology = omega arith; edge = omega arith; comment = omega arith }
@@ -69,39 +69,24 @@ module _ (file : List ℕ) where
           }
       by false more = more
 
-module _ (s : Sentence) where
-  abbrev ns : List Node
-  ns = nodes s
-
-  field-at : (k j : ℕ) → k < nodeRoom → j < 11 → getD (sentenceSheet s) (fieldPlace 0 k + j) 0 ≡ getD (recordAt ns k) j 0
-  unfolding sentenceSheet
-  field-at k j h l =
-      let records = joined (map (recordAt ns) (counting 0 nodeRoom)) in
-      let place : fieldPlace 0 k + j ≡ 9 + (11 * k + j) = omega arith in
-      ap (λ (m : ℕ). getD (leading s ++ records) m 0) place
-      ∙ behind-at (leading s) records 9 (11 * k + j) 0 refl
-      ∙ at-joined (recordAt ns) 11 (record-wide ns) 0 nodeRoom k j h l
-      ∙ ap (λ (m : ℕ). getD (recordAt ns m) j 0) (zero-add k)
-
-  field-inside : (file : List ℕ) (k j : ℕ) → length (sentenceSheet s) ≡ 11009 → k < nodeRoom → j < 10 → Within file (recordAt ns k) j
-      → FieldInside file (sentenceSheet s) (fieldPlace 0 k + j)
-  field-inside file k j size h l w =
-      let p : fieldPlace 0 k + j + 1 ≡ fieldPlace 0 k + (j + 1) = omega arith in
-      let start = field-at k j h (omega arith) in
-      let len = ap (λ (m : ℕ). getD (sentenceSheet s) m 0) p ∙ field-at k (j + 1) h (omega arith) in
-      record { room = omega (arith, size); inside = omega (arith, start, len, w) }
-
-  node-inside : (file : List ℕ) (k : ℕ) → length (sentenceSheet s) ≡ 11009 → k < nodeRoom → Each (NodeLies file) ns
-      → NodeInside file (sentenceSheet s) (fieldPlace 0 k)
-  node-inside file k size h lies =
-      let r = record-inside file ns k lies in
-      let p : fieldPlace 0 k + 0 ≡ fieldPlace 0 k = omega arith in
+module _ (file : List ℕ) (s : Sentence) (size : length (sentenceSheet s) ≡ sentenceSheetSize) (k : ℕ) (h : k < nodeRoom) where
+  text-inside : (field : ℕ) → field + 1 < nodeWidth → Within file (recordAt (nodes s) k) field → TextInside file (sentenceSheet s) field k
+  text-inside field low w =
       record {
-        word = rw p at (field-inside file k 0 size h (omega arith) (r .word));
-        tag = field-inside file k 2 size h (omega arith) (r .tag);
-        morphology = field-inside file k 4 size h (omega arith) (r .morphology);
-        edge = field-inside file k 6 size h (omega arith) (r .edge);
-        comment = field-inside file k 9 size h (omega arith) (r .comment);
+        start-room = omega (arith, size);
+        length-room = omega (arith, size);
+        inside = omega (arith, field-at s field k (omega arith) h, field-at s (field + 1) k low h, w);
+      }
+
+  node-inside : Each (NodeLies file) (nodes s) → NodeInside file (sentenceSheet s) k
+  node-inside lies =
+      let r = record-inside file (nodes s) k lies in
+      record {
+        word = text-inside wordStart (omega arith) (r .word);
+        tag = text-inside tagStart (omega arith) (r .tag);
+        morphology = text-inside morphologyStart (omega arith) (r .morphology);
+        edge = text-inside edgeStart (omega arith) (r .edge);
+        comment = text-inside commentStart (omega arith) (r .comment);
       }
 
 -- ---- edges inside the file
@@ -129,11 +114,10 @@ module _ (file : List ℕ) where
       ap (λ (es : List EdgeRecord). getD es i noEdge) (sym (edges-read-back ns)) ∙ edge-at list 0 (length (recordsAmong ns)) i noEdge below in
       let p : 0 + edgeWidth * i ≡ edgeWidth * i = zero-add (edgeWidth * i) in
       let r : RecordSound (edgeRecordAt list (edgeWidth * i)) = rw (is, p) at (each-at RecordSound (recordsAmong ns) i noEdge sound below) in
-      let q : edgeWidth * i + 1 + 1 ≡ edgeWidth * i + 2 = omega arith in
       record {
         child = r .child;
         room = omega (arith, length-flat ns few);
-        label = record { room = omega (arith, length-flat ns few); inside = rw q (r .label) };
+        label = record { start-room = omega (arith, length-flat ns few); length-room = omega (arith, length-flat ns few); inside = r .label };
       }
 
 -- ---- the sentence
@@ -166,10 +150,11 @@ module _ (file : List ℕ) (s : Sentence) (p : Printable file s) where
         room = omega (arith, list-count, length-flat (nodes s) few);
         comment =
             record {
-              room = omega (arith, laid .size);
+              start-room = omega (arith, laid .size);
+              length-room = omega (arith, laid .size);
               inside = omega (arith, laid .comment-start, laid .comment-length, lies-inside file (s .heading .comment) (p .comment));
             };
-        each-node = λ k h. node-inside s file k (laid .size) h (p .each-lies);
+        each-node = λ k h. node-inside file s (laid .size) k h (p .each-lies);
         each-edge =
             λ i h. edge-inside file (nodes s) few (records-sound file (nodes s) (p .each-lies) (p .in-room)) i (omega (arith, list-count));
       }
@@ -182,17 +167,18 @@ module _ (file : List ℕ) (s : Sentence) (p : Printable file s) where
   heading-back =
       let h = s .heading in
       ap (λ (c : Text). record { number = h .number; editor1 = h .editor1; date = h .date; origin = h .origin; comment = c })
-      (text-back file sheet 4 (h .comment) (p .comment) refl refl)
+      (text-back file sheet remarkStart remarkLength (h .comment) (p .comment) refl refl)
 
   abbrev Back : Node → Type 0
   Back n = nodeIn file sheet (edgesOnSheet sheet list) (n .number) ≡ bareNode n
 
   each-node-back : Each Back (nodes s)
   each-node-back =
-      each-then (λ (n : Node). NodeLies file n × (NodeLaid sheet (9 + 11 * n .number) n × (ownEdges (n .number) (recordsAmong (nodes s)) ≡ recordsOf n))) Back
-      (λ n k. ap (λ (es : List EdgeRecord). nodeIn file sheet es (n .number)) edges-back ∙ node-back file sheet (recordsAmong (nodes s)) n (k .0) (k .1 .0) (k .1 .1))
+      each-then (λ (n : Node). NodeLies file n × (FieldsStand sheet n × (ownEdges (n .number) (recordsAmong (nodes s)) ≡ recordsOf n))) Back
+      (λ n k. ap (λ (es : List EdgeRecord). nodeIn file sheet es (n .number)) edges-back ∙ node-back file sheet n (k .0) (k .1 .0) (recordsAmong (nodes s)) (k .1 .1))
       (nodes s)
-      (each-both (NodeLies file) _ (nodes s) (p .each-lies) (each-both (λ (n : Node). NodeLaid sheet (9 + 11 * n .number) n) _ (nodes s) (laid .nodes) (each-own (nodes s) (p .apart))))
+      (each-both (NodeLies file) _ (nodes s) (p .each-lies)
+      (each-both (FieldsStand sheet) _ (nodes s) (fields-stand s (apart-distinct (nodes s) (p .apart)) (p .in-room)) (each-own (nodes s) (p .apart))))
 
   pub read-back : sentenceIn file sheet list ≡ meantSentence s
   unfolding sentenceIn

@@ -1,5 +1,5 @@
 -- Texts that stand in the file where they say are read back from start and length.
-use Prim.Native.Nat.{ℕ, _+_}
+use Prim.Native.Nat.{ℕ}
 use mathlib.Core.Path.{_≡_, refl, ap, ap₂, _∙_}
 use mathlib.Core.List.{List, [], _∷_, map}
 use lib.ListN.{length, getD, take, drop}
@@ -14,9 +14,9 @@ use Rattle.printing.specs.Fields.{fieldText}
 use Rattle.sentence_text.specs.EdgesRead.{edgeIn}
 
 -- start and length as they stand in a sheet
-pub text-back : (file sheet : List ℕ) (place : ℕ) (t : Text) → LiesIn file t → getD sheet place 0 ≡ t .start → getD sheet (place + 1) 0 ≡ length (t .bytes)
-    → textOf (fieldText file sheet place) ≡ bare t
-text-back file sheet place t lies s l =
+pub text-back : (file sheet : List ℕ) (start len : ℕ) (t : Text) → LiesIn file t → getD sheet start 0 ≡ t .start → getD sheet len 0 ≡ length (t .bytes)
+    → textOf (fieldText file sheet start len) ≡ bare t
+text-back file sheet start len t lies s l =
     ap textOf (ap₂ (λ (n at : ℕ). take n (drop at file)) l s ∙ lies .found)
 
 pub edge-back : (file : List ℕ) (child : ℕ) (es : List Edge) → Each (λ (e : Edge). LiesIn file (e .label)) es

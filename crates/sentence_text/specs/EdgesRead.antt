@@ -7,7 +7,8 @@ use lib.ListN.{length, getD, take, drop}
 use lib.Dec.{eqb}
 use Rattle.rules.specs.Lists.{pick, joined}
 use Rattle.rules.specs.Sentences.{Edge}
-use Rattle.rules.specs.Sheets.{EdgeRecord, nodeRoom}
+use Rattle.rules.specs.SheetFields.{nodeRoom}
+use Rattle.rules.specs.Sheets.{EdgeRecord}
 use Rattle.rules.specs.Tidy.{tab, edgeColumns}
 use Rattle.sentence_sheet.specs.FlatEdges.{edgeWidth}
 use Rattle.printing.specs.Further.{further, textOf}

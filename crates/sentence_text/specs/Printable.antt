@@ -9,7 +9,8 @@ use lib.ListN.{length}
 use Rattle.rules.specs.Lists.{counting, sorted, Each}
 use Rattle.rules.specs.Numbers.{phraseNumber, edgeLimit}
 use Rattle.rules.specs.Sentences.{Node, Sentence, edgesOf, listed}
-use Rattle.rules.specs.Sheets.{nodeRoom, nodes, sentenceSheet}
+use Rattle.rules.specs.SheetFields.{nodeRoom}
+use Rattle.rules.specs.Sheets.{nodes, sentenceSheet}
 use Rattle.rules.specs.Meaning.{nodeNumber}
 use Rattle.rules.specs.Places.{LiesIn, NodeLies}
 use Rattle.sentence_sheet.specs.FlatEdges.{edgesAmong, flatEdges}

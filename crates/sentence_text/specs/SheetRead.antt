@@ -4,72 +4,85 @@ use Prim.Native.Nat.{ℕ, _+_}
 use mathlib.Core.List.{List, [], _∷_, _++_, map}
 use lib.ListN.{getD}
 use Rattle.rules.specs.Lists.{bytes, counting}
+use Rattle.rules.specs.Bytes.{newline}
 use Rattle.rules.specs.Numbers.{phraseNumber}
 use Rattle.rules.specs.Sentences.{Edge, Node, Heading, Sentence}
-use Rattle.rules.specs.Sheets.{EdgeRecord, parentOffset, fieldPlace}
-use Rattle.rules.specs.Tidy.{space, tab, digitsOf, idDigits, nodeName}
+use Rattle.rules.specs.SheetFields.{numberPlace, editorPlace, datePlace, originPlace, remarkStart, remarkLength, wordsPlace, phrasesPlace, edgesPlace}
+use Rattle.rules.specs.SheetFields.{wordStart, tagStart, morphologyStart, edgeStart, parentPlace, commentStart, fieldPlace}
+use Rattle.rules.specs.Sheets.{EdgeRecord}
+use Rattle.rules.specs.Tidy.{space, tab, digitsOf, idDigits, commented, nodeName}
 use Rattle.printing.specs.Further.{further, textOf}
 use Rattle.printing.specs.Fields.{fieldText}
 use Rattle.sentence_text.specs.EdgesRead.{edgesFrom, ownEdges, edgeIn}
 
--- the node whose record stands from a place on
-abbrev pub nodeAt : List ℕ → List ℕ → ℕ → ℕ → List Edge → Node
-nodeAt file sheet at k es =
+-- a text of a node, by the field of its start, behind which stands that of its length
+abbrev pub nodeText : List ℕ → List ℕ → ℕ → ℕ → List ℕ
+nodeText file sheet field k = fieldText file sheet (fieldPlace field k) (fieldPlace (field + 1) k)
+
+abbrev pub parentText : List ℕ → ℕ → List ℕ
+parentText sheet k = digitsOf (getD sheet (fieldPlace parentPlace k) 0)
+
+abbrev pub nodeWith : List ℕ → List ℕ → ℕ → List Edge → Node
+nodeWith file sheet k es =
     record {
       number = k;
-      word = textOf (fieldText file sheet at);
-      tag = textOf (fieldText file sheet (at + 2));
-      morphology = textOf (fieldText file sheet (at + 4));
-      edge = textOf (fieldText file sheet (at + 6));
-      parent = getD sheet (at + parentOffset) 0;
+      word = textOf (nodeText file sheet wordStart k);
+      tag = textOf (nodeText file sheet tagStart k);
+      morphology = textOf (nodeText file sheet morphologyStart k);
+      edge = textOf (nodeText file sheet edgeStart k);
+      parent = getD sheet (fieldPlace parentPlace k) 0;
       secondary = es;
-      comment = textOf (fieldText file sheet (at + 9));
+      comment = textOf (nodeText file sheet commentStart k);
     }
 
 unfoldable pub nodeIn : List ℕ → List ℕ → List EdgeRecord → ℕ → Node
-nodeIn file sheet es k = nodeAt file sheet (fieldPlace 0 k) k (map (edgeIn file) (ownEdges k es))
+nodeIn file sheet es k = nodeWith file sheet k (map (edgeIn file) (ownEdges k es))
 
 abbrev pub headingOnSheet : List ℕ → List ℕ → Heading
 headingOnSheet file sheet =
     record {
-      number = getD sheet 0 0;
-      editor1 = getD sheet 1 0;
-      date = getD sheet 2 0;
-      origin = getD sheet 3 0;
-      comment = textOf (fieldText file sheet 4);
+      number = getD sheet numberPlace 0;
+      editor1 = getD sheet editorPlace 0;
+      date = getD sheet datePlace 0;
+      origin = getD sheet originPlace 0;
+      comment = textOf (fieldText file sheet remarkStart remarkLength);
     }
 
 -- ---- parts of lines
 
--- the first column of the line of a node whose record stands from a place on
-unfoldable pub nameText : List ℕ → List ℕ → ℕ → ℕ → List ℕ
-nameText file sheet at k = nodeName (nodeAt file sheet at k [])
+-- the first column of a node's line
+unfoldable pub nameText : List ℕ → List ℕ → ℕ → List ℕ
+nameText file sheet k = nodeName (nodeWith file sheet k [])
 
 -- tag, morphology, edge and parent
 unfoldable pub columnsText : List ℕ → List ℕ → ℕ → List ℕ
-columnsText file sheet at =
+columnsText file sheet k =
     further tab
-    (fieldText file sheet (at + 2) ∷ fieldText file sheet (at + 4) ∷ fieldText file sheet (at + 6)
-    ∷ digitsOf (getD sheet (at + parentOffset) 0) ∷ [])
+    (nodeText file sheet tagStart k ∷ nodeText file sheet morphologyStart k ∷ nodeText file sheet edgeStart k ∷ parentText sheet k ∷ [])
+
+-- the comment, if there is one, and the newline
+unfoldable pub restText : List ℕ → List ℕ → ℕ → List ℕ
+restText file sheet k = further tab (commented (textOf (nodeText file sheet commentStart k))) ++ (newline ∷ [])
 
 -- #BOS and four numbers
 unfoldable pub numbersText : List ℕ → List ℕ
 numbersText sheet =
     bytes "#BOS"
     ++ further space
-    (digitsOf (getD sheet 0 0) ∷ idDigits (getD sheet 1 0) ∷ digitsOf (getD sheet 2 0) ∷ digitsOf (getD sheet 3 0) ∷ [])
+    (digitsOf (getD sheet numberPlace 0) ∷ idDigits (getD sheet editorPlace 0) ∷ digitsOf (getD sheet datePlace 0)
+    ∷ digitsOf (getD sheet originPlace 0) ∷ [])
 
 -- ---- the whole
 
 -- how many words, phrases and secondary edges there are
 abbrev pub wordsCounted : List ℕ → ℕ
-wordsCounted sheet = getD sheet 6 0
+wordsCounted sheet = getD sheet wordsPlace 0
 
 abbrev pub phrasesCounted : List ℕ → ℕ
-phrasesCounted sheet = getD sheet 7 0
+phrasesCounted sheet = getD sheet phrasesPlace 0
 
 abbrev pub edgesCounted : List ℕ → ℕ
-edgesCounted sheet = getD sheet 8 0
+edgesCounted sheet = getD sheet edgesPlace 0
 
 abbrev pub edgesOnSheet : List ℕ → List ℕ → List EdgeRecord
 edgesOnSheet sheet list = edgesFrom list 0 (edgesCounted sheet)

@@ -6,7 +6,7 @@ ghost use mathlib.Core.List.{[], _∷_, map};
 ghost use Prim.Native.Nat.{ℕ, _+_, _-_, _*_, _≤_, _<_};
 ghost use lib.ListN.{length, getD, replicate};
 ghost use Rattle.rules.specs.Numbers.{edgeLimit};
-ghost use Rattle.rules.specs.Sheets.{nodeRoom};
+ghost use Rattle.rules.specs.SheetFields.{nodeRoom};
 ghost use Rattle.sentence_sheet.specs.FlatEdges.{edgeWidth};
 ghost use Rattle.printing.specs.Over.{farthest, Put};
 ghost use Rattle.sentence_text.specs.EdgesRead.{edgeRecordAt, edgesFrom, together, Firsts, edgeIn, edgesText};
@@ -43,7 +43,7 @@ pub fn put_edge(file: &[u8], edges: &[u32], place: usize, out: &mut [u8], at: us
     requires { ⌜ EdgeInside (now file) (now edges) place × (at + edgeMost ≤ farthest) ⌝ }
     ensures { λ r. ⌜ Put edgeMost (edgesText (edgeIn (now (file .entry)) (edgeRecordAt (now (edges .entry)) place) ∷ [])) at (now (out .entry)) r (now (out .exit)) ⌝ }
 {
-    let labelled = printing::fields::put_field(TAB, file, edges, place + 1, out, at);
+    let labelled = printing::fields::put_field(TAB, file, edges, place + 1, place + 2, out, at);
     printing::put_number_column(TAB, edges[place + 3], out, labelled)
 }
 

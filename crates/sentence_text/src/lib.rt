@@ -2,12 +2,22 @@
 mod edges;
 mod nodes;
 
+use sentence_sheet::DATE;
+use sentence_sheet::EDGES;
+use sentence_sheet::EDITOR;
+use sentence_sheet::FIRST_PHRASE;
+use sentence_sheet::NUMBER;
+use sentence_sheet::ORIGIN;
+use sentence_sheet::PHRASES;
+use sentence_sheet::REMARK;
+use sentence_sheet::REMARK_LEN;
+use sentence_sheet::WORDS;
 ghost use mathlib.Core.Path.{_≡_};
 ghost use mathlib.Core.List.{[], _∷_};
 ghost use Prim.Native.Nat.{_+_, _≤_};
 ghost use lib.ListN.{length, replicate};
 ghost use Rattle.rules.specs.Lists.{bytes};
-ghost use Rattle.rules.specs.Sheets.{nodeRoom};
+ghost use Rattle.rules.specs.SheetFields.{remarkStart, remarkLength, leadingCount, nodeRoom};
 ghost use Rattle.rules.specs.Tidy.{keywordLine, digitsOf, headingLine, sentenceText};
 ghost use Rattle.printing.specs.Over.{farthest, Put};
 ghost use Rattle.printing.specs.Fields.{FieldInside};
@@ -21,35 +31,25 @@ const SPACE: u8 = 32;
 
 const NEWLINE: u8 = 10;
 
-// The first phrase's number.
-const PHRASES_FROM: usize = 500;
-
-// The places of the counts in the sheet.
-const WORDS: usize = 6;
-
-const PHRASES: usize = 7;
-
-const EDGES: usize = 8;
-
 // #BOS and the sentence's numbers, without comment and newline.
 fn put_numbers(sheet: &[u32], out: &mut [u8], at: usize) -> usize
-    requires { ⌜ (9 ≤ length (now sheet)) × (at + 48 ≤ farthest) ⌝ }
+    requires { ⌜ (leadingCount ≤ length (now sheet)) × (at + 48 ≤ farthest) ⌝ }
     ensures { λ r. ⌜ Put 48 (numbersText (now (sheet .entry))) at (now (out .entry)) r (now (out .exit)) ⌝ }
 {
     let keyword = printing::put_text(b"#BOS", out, at);
-    let numbered = printing::put_number_column(SPACE, sheet[0], out, keyword);
+    let numbered = printing::put_number_column(SPACE, sheet[NUMBER], out, keyword);
     let parted = printing::put_byte(SPACE, out, numbered);
-    let edited = printing::digits::put_id(sheet[1], out, parted);
-    let dated = printing::put_number_column(SPACE, sheet[2], out, edited);
-    printing::put_number_column(SPACE, sheet[3], out, dated)
+    let edited = printing::digits::put_id(sheet[EDITOR], out, parted);
+    let dated = printing::put_number_column(SPACE, sheet[DATE], out, edited);
+    printing::put_number_column(SPACE, sheet[ORIGIN], out, dated)
 }
 
 fn put_heading(file: &[u8], sheet: &[u32], out: &mut [u8], at: usize) -> usize
-    requires { ⌜ (9 ≤ length (now sheet)) × FieldInside (now file) (now sheet) 4 × (at + headingMost ≤ farthest) ⌝ }
+    requires { ⌜ (leadingCount ≤ length (now sheet)) × FieldInside (now file) (now sheet) remarkStart remarkLength × (at + headingMost ≤ farthest) ⌝ }
     ensures { λ r. ⌜ Put headingMost (headingLine (sentenceIn (now (file .entry)) (now (sheet .entry)) [])) at (now (out .entry)) r (now (out .exit)) ⌝ }
 {
     let numbered = put_numbers(sheet, out, at);
-    let noted = printing::fields::put_note(SPACE, file, sheet, 4, out, numbered);
+    let noted = printing::fields::put_note(SPACE, file, sheet, REMARK, REMARK_LEN, out, numbered);
     printing::put_byte(NEWLINE, out, noted)
 }
 
@@ -85,11 +85,11 @@ pub fn print_sentence(
         sheet,
         list,
         firsts,
-        PHRASES_FROM,
+        FIRST_PHRASE,
         phrases,
         out,
         worded,
     );
     edges::forget_firsts(list, count, firsts);
-    put_end(sheet[0], out, phrased)
+    put_end(sheet[NUMBER], out, phrased)
 }

@@ -2,45 +2,79 @@
 use crate::NEWLINE;
 use crate::TAB;
 use crate::edges;
-ghost use mathlib.Core.List.{map};
+use sentence_sheet::COMMENT;
+use sentence_sheet::EDGE;
+use sentence_sheet::EDGES;
+use sentence_sheet::MORPHOLOGY;
+use sentence_sheet::PARENT;
+use sentence_sheet::TAG;
+use sentence_sheet::WORD;
+ghost use mathlib.Core.Path.{_≡_};
+ghost use mathlib.Core.List.{_∷_, map};
 ghost use Prim.Native.Nat.{_+_, _*_, _≤_, _<_};
+ghost use lib.ListN.{length};
 ghost use Rattle.rules.specs.Lists.{counting, joined};
-ghost use Rattle.rules.specs.Sheets.{nodeRoom};
-ghost use Rattle.rules.specs.Tidy.{nodeLine};
+ghost use Rattle.rules.specs.SheetFields.{wordStart, commentStart, nodeWidth, nodeRoom};
+ghost use Rattle.rules.specs.Sheets.{sentenceSheetSize};
+ghost use Rattle.rules.specs.Tidy.{tab, nodeLine};
 ghost use Rattle.printing.specs.Over.{farthest, Put};
-ghost use Rattle.printing.specs.Fields.{textMost, FieldInside};
+ghost use Rattle.printing.specs.Fields.{textMost};
 ghost use Rattle.sentence_text.specs.EdgesRead.{Firsts};
-ghost use Rattle.sentence_text.specs.SheetRead.{nameText, columnsText, nodeIn, edgesOnSheet};
-ghost use Rattle.sentence_text.specs.Readable.{NodeInside, SheetReadable, nodeMost};
+ghost use Rattle.sentence_text.specs.SheetRead.{nodeText, nameText, columnsText, restText, nodeIn, edgesOnSheet};
+ghost use Rattle.sentence_text.specs.Readable.{TextInside, NodeInside, SheetReadable, nodeMost};
 
-// A word, or # and a phrase's number.
-fn put_first(
+// A text of a node behind a tab, by the field of its start.
+fn put_text(
     file: &[u8],
     sheet: &[u32],
-    place: usize,
-    number: u32,
+    field: usize,
+    node: usize,
     out: &mut [u8],
     at: usize,
 ) -> usize
-    requires { ⌜ FieldInside (now file) (now sheet) place × (at + textMost ≤ farthest) ⌝ }
-    ensures { λ r. ⌜ Put textMost (nameText (now (file .entry)) (now (sheet .entry)) place number) at (now (out .entry)) r (now (out .exit)) ⌝ }
+    requires { ⌜ (field + 1 < nodeWidth) × (node < nodeRoom) × TextInside (now file) (now sheet) field node × (at + (1 + textMost) ≤ farthest) ⌝ }
+    ensures { λ r. ⌜ Put (1 + textMost) (tab ∷ nodeText (now (file .entry)) (now (sheet .entry)) field node) at (now (out .entry)) r (now (out .exit)) ⌝ }
 {
-    if sheet[place + 1] > 0 {
-        return printing::fields::put_name(file, sheet, place, out, at);
+    let start = sentence_sheet::field_place(field, node);
+    let len = sentence_sheet::field_place(field + 1, node);
+    printing::fields::put_field(TAB, file, sheet, start, len, out, at)
+}
+
+// A word, or # and a phrase's number.
+fn put_first(file: &[u8], sheet: &[u32], node: usize, out: &mut [u8], at: usize) -> usize
+    requires { ⌜ (node < nodeRoom) × TextInside (now file) (now sheet) wordStart node × (at + textMost ≤ farthest) ⌝ }
+    ensures { λ r. ⌜ Put textMost (nameText (now (file .entry)) (now (sheet .entry)) node) at (now (out .entry)) r (now (out .exit)) ⌝ }
+{
+    let start = sentence_sheet::field_place(WORD, node);
+    let len = sentence_sheet::field_place(WORD + 1, node);
+    if sheet[len] > 0 {
+        return printing::fields::put_name(file, sheet, start, len, out, at);
     }
     let signed = printing::put_byte(b'#', out, at);
-    printing::digits::put_number(number, out, signed)
+    printing::digits::put_number(node as u32, out, signed)
 }
 
 // Tag, morphology, edge and parent.
-fn put_columns(file: &[u8], sheet: &[u32], place: usize, out: &mut [u8], at: usize) -> usize
-    requires { ⌜ NodeInside (now file) (now sheet) place × (at + (14 + 3 * textMost) ≤ farthest) ⌝ }
-    ensures { λ r. ⌜ Put (14 + 3 * textMost) (columnsText (now (file .entry)) (now (sheet .entry)) place) at (now (out .entry)) r (now (out .exit)) ⌝ }
+fn put_columns(file: &[u8], sheet: &[u32], node: usize, out: &mut [u8], at: usize) -> usize
+    requires { ⌜ (node < nodeRoom) × (length (now sheet) ≡ sentenceSheetSize) × NodeInside (now file) (now sheet) node × (at + (14 + 3 * textMost) ≤ farthest) ⌝ }
+    ensures { λ r. ⌜ Put (14 + 3 * textMost) (columnsText (now (file .entry)) (now (sheet .entry)) node) at (now (out .entry)) r (now (out .exit)) ⌝ }
 {
-    let tagged = printing::fields::put_field(TAB, file, sheet, place + 2, out, at);
-    let formed = printing::fields::put_field(TAB, file, sheet, place + 4, out, tagged);
-    let labelled = printing::fields::put_field(TAB, file, sheet, place + 6, out, formed);
-    printing::put_number_column(TAB, sheet[place + 8], out, labelled)
+    let tagged = put_text(file, sheet, TAG, node, out, at);
+    let formed = put_text(file, sheet, MORPHOLOGY, node, out, tagged);
+    let labelled = put_text(file, sheet, EDGE, node, out, formed);
+    let place = sentence_sheet::field_place(PARENT, node);
+    printing::put_number_column(TAB, sheet[place], out, labelled)
+}
+
+// The comment, if there is one, and the line's end.
+fn put_rest(file: &[u8], sheet: &[u32], node: usize, out: &mut [u8], at: usize) -> usize
+    requires { ⌜ (node < nodeRoom) × TextInside (now file) (now sheet) commentStart node × (at + (5 + textMost) ≤ farthest) ⌝ }
+    ensures { λ r. ⌜ Put (5 + textMost) (restText (now (file .entry)) (now (sheet .entry)) node) at (now (out .entry)) r (now (out .exit)) ⌝ }
+{
+    let start = sentence_sheet::field_place(COMMENT, node);
+    let len = sentence_sheet::field_place(COMMENT + 1, node);
+    let noted = printing::fields::put_note(TAB, file, sheet, start, len, out, at);
+    printing::put_byte(NEWLINE, out, noted)
 }
 
 // A node's line; `firsts` tells where its secondary edges begin.
@@ -56,14 +90,12 @@ fn put_node(
     requires { ⌜ SheetReadable (now file) (now sheet) (now list) × Firsts (edgesOnSheet (now sheet) (now list)) 0 (now firsts) × (node < nodeRoom) × (at + nodeMost ≤ farthest) ⌝ }
     ensures { λ r. ⌜ Put nodeMost (nodeLine (nodeIn (now (file .entry)) (now (sheet .entry)) (edgesOnSheet (now (sheet .entry)) (now (list .entry))) node)) at (now (out .entry)) r (now (out .exit)) ⌝ }
 {
-    let place = sentence_sheet::field_place(0, node);
-    let named = put_first(file, sheet, place, node as u32, out, at);
-    let columned = put_columns(file, sheet, place, out, named);
+    let named = put_first(file, sheet, node, out, at);
+    let columned = put_columns(file, sheet, node, out, named);
     let first = firsts[node] as usize;
-    let count = sheet[8] as usize;
+    let count = sheet[EDGES] as usize;
     let edged = edges::put_edges(file, list, first, count, node as u32, out, columned);
-    let noted = printing::fields::put_note(TAB, file, sheet, place + 9, out, edged);
-    printing::put_byte(NEWLINE, out, noted)
+    put_rest(file, sheet, node, out, edged)
 }
 
 // The lines of as many nodes as count, numbered from one on.

@@ -7,10 +7,10 @@ fn main() {
     let number = input::read_number();
     let mut space = io::large_buffer();
     let length = io::read_full(0, &mut space);
-    let mut tables = [0u32; 10759];
-    let mut seen = [0u8; 8192];
-    let mut sheet = [0u32; 11009];
-    let mut edges = [0u32; 2048];
+    let mut tables = [0u32; table_sheet::SIZE];
+    let mut seen = [0u8; seen::SIZE];
+    let mut sheet = [0u32; sentence_sheet::SIZE];
+    let mut edges = [0u32; sentence_sheet::EDGE_LIST_SIZE];
     let answer = opening::open_flat(
         &space[..length],
         number,

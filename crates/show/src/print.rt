@@ -1,11 +1,23 @@
 // An opened sentence in lines: its heading, then a line for each node.
-ghost use Prim.Native.Nat.{_<_};
-ghost use Rattle.rules.specs.Sheets.{nodeRoom};
+ghost use Prim.Native.Nat.{_+_, _<_};
+ghost use Rattle.rules.specs.SheetFields.{nodeWidth, nodeRoom};
+use sentence_sheet::COMMENT;
+use sentence_sheet::DATE;
+use sentence_sheet::EDGE;
 use sentence_sheet::EDGE_LIMIT;
 use sentence_sheet::EDGE_LIST_SIZE;
 use sentence_sheet::EDGE_WIDTH;
+use sentence_sheet::EDITOR;
+use sentence_sheet::MORPHOLOGY;
 use sentence_sheet::NODE_ROOM;
+use sentence_sheet::NUMBER;
+use sentence_sheet::ORIGIN;
+use sentence_sheet::PARENT;
+use sentence_sheet::REMARK;
+use sentence_sheet::REMARK_LEN;
 use sentence_sheet::SIZE;
+use sentence_sheet::TAG;
+use sentence_sheet::WORD;
 
 fn number(before: &[u8], n: u32) {
     io::write_all(1, before);
@@ -38,11 +50,11 @@ fn editor(editor1: u32) {
 }
 
 fn heading(file: &[u8], sheet: &[u32; SIZE]) {
-    number(b"sentence ", sheet[0]);
-    editor(sheet[1]);
-    number(b"\tdate ", sheet[2]);
-    number(b"\torigin ", sheet[3]);
-    comment(file, sheet[4], sheet[5]);
+    number(b"sentence ", sheet[NUMBER]);
+    editor(sheet[EDITOR]);
+    number(b"\tdate ", sheet[DATE]);
+    number(b"\torigin ", sheet[ORIGIN]);
+    comment(file, sheet[REMARK], sheet[REMARK_LEN]);
     io::write_all(1, b"\n");
 }
 
@@ -78,17 +90,35 @@ fn name(file: &[u8], node: u32, start: u32, length: u32) {
     }
 }
 
+// A number of a node.
+fn field(sheet: &[u32; SIZE], its: usize, n: usize) -> u32
+    requires { ⌜ (its < nodeWidth) × (n < nodeRoom) ⌝ }
+{
+    sheet[sentence_sheet::field_place(its, n)]
+}
+
+// A text of a node behind a tab, by the field of its start.
+fn column(file: &[u8], sheet: &[u32; SIZE], its: usize, n: usize)
+    requires { ⌜ (its + 1 < nodeWidth) × (n < nodeRoom) ⌝ }
+{
+    text(b"\t", file, field(sheet, its, n), field(sheet, its + 1, n));
+}
+
 fn node(file: &[u8], sheet: &[u32; SIZE], edges: &[u32; EDGE_LIST_SIZE], n: usize)
     requires { ⌜ n < nodeRoom ⌝ }
 {
-    let at = sentence_sheet::field_place(0, n);
-    name(file, n as u32, sheet[at], sheet[at + 1]);
-    text(b"\t", file, sheet[at + 2], sheet[at + 3]);
-    text(b"\t", file, sheet[at + 4], sheet[at + 5]);
-    text(b"\t", file, sheet[at + 6], sheet[at + 7]);
-    number(b"\t", sheet[at + 8]);
+    name(
+        file,
+        n as u32,
+        field(sheet, WORD, n),
+        field(sheet, WORD + 1, n),
+    );
+    column(file, sheet, TAG, n);
+    column(file, sheet, MORPHOLOGY, n);
+    column(file, sheet, EDGE, n);
+    number(b"\t", field(sheet, PARENT, n));
     edges_of(file, edges, n as u32);
-    comment(file, sheet[at + 9], sheet[at + 10]);
+    comment(file, field(sheet, COMMENT, n), field(sheet, COMMENT + 1, n));
     io::write_all(1, b"\n");
 }
 
@@ -96,7 +126,7 @@ fn node(file: &[u8], sheet: &[u32; SIZE], edges: &[u32; EDGE_LIST_SIZE], n: usiz
 fn is_there(sheet: &[u32; SIZE], n: usize) -> bool
     requires { ⌜ n < nodeRoom ⌝ }
 {
-    sheet[sentence_sheet::field_place(3, n)] != 0
+    field(sheet, TAG + 1, n) != 0
 }
 
 pub fn sentence(file: &[u8], sheet: &[u32; SIZE], edges: &[u32; EDGE_LIST_SIZE]) {

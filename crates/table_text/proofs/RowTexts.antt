@@ -16,7 +16,7 @@ use Rattle.table_sheet.specs.Standing.{RowInside}
 use Rattle.rules.specs.Tidy.{tab, idDigits, commented, flagged, secondText, rowLine}
 use Rattle.rules.proofs.Rooms.{each-at}
 use Rattle.printing.specs.Further.{further, textOf}
-use Rattle.printing.specs.Fields.{fieldText, FieldInside}
+use Rattle.printing.specs.Fields.{FieldInside}
 use Rattle.printing.proofs.LinesMore.{lines-more}
 use Rattle.printing.proofs.LineLaws.{parted-is, further-append}
 
@@ -59,23 +59,9 @@ listed-low order rows i h room low =
 
 -- ---- a row's texts by their places in the sheet
 
-module _ (file sheet : List ℕ) (place : ℕ) where
-  pub first-inside : place + rowWidth ≤ length sheet → RowInside file sheet place → FieldInside file sheet (place + 1)
-  first-inside h r =
-      let p : place + 1 + 1 ≡ place + 2 = omega arith in
-      record { room = omega arith; inside = rw p (r .first) }
+module _ (file sheet : List ℕ) (place : ℕ) (room : place + rowWidth ≤ length sheet) (r : RowInside file sheet place) where
+  pub first-inside : FieldInside file sheet (place + 1) (place + 2)
+  first-inside = record { start-room = omega arith; length-room = omega arith; inside = r .first }
 
-  pub second-inside : place + rowWidth ≤ length sheet → RowInside file sheet place → FieldInside file sheet (place + 3)
-  second-inside h r =
-      let p : place + 3 + 1 ≡ place + 4 = omega arith in
-      record { room = omega arith; inside = rw p (r .second) }
-
-  pub first-bytes : fieldText file sheet (place + 1) ≡ rowAt file sheet place .first .bytes
-  first-bytes =
-      let p : place + 1 + 1 ≡ place + 2 = omega arith in
-      ap (λ (k : ℕ). take (getD sheet k 0) (drop (getD sheet (place + 1) 0) file)) p
-
-  pub second-bytes : fieldText file sheet (place + 3) ≡ rowAt file sheet place .second .bytes
-  second-bytes =
-      let p : place + 3 + 1 ≡ place + 4 = omega arith in
-      ap (λ (k : ℕ). take (getD sheet k 0) (drop (getD sheet (place + 3) 0) file)) p
+  pub second-inside : FieldInside file sheet (place + 3) (place + 4)
+  second-inside = record { start-room = omega arith; length-room = omega arith; inside = r .second }

@@ -43,9 +43,9 @@ fn put_second(
     ensures { λ r. ⌜ Put (4 + textMost) (further tab (secondText table (rowAt (now (file .entry)) (now (sheet .entry)) place))) at (now (out .entry)) r (now (out .exit)) ⌝ }
 {
     if table == table_sheet::ORIGINS {
-        return printing::fields::put_note(TAB, file, sheet, place + 3, out, at);
+        return printing::fields::put_note(TAB, file, sheet, place + 3, place + 4, out, at);
     }
-    printing::fields::put_field(TAB, file, sheet, place + 3, out, at)
+    printing::fields::put_field(TAB, file, sheet, place + 3, place + 4, out, at)
 }
 
 fn put_row(
@@ -60,7 +60,7 @@ fn put_row(
     ensures { λ r. ⌜ Put rowMost (rowLine table (rowAt (now (file .entry)) (now (sheet .entry)) place)) at (now (out .entry)) r (now (out .exit)) ⌝ }
 {
     let numbered = printing::digits::put_id(sheet[place], out, at);
-    let named = printing::fields::put_field(TAB, file, sheet, place + 1, out, numbered);
+    let named = printing::fields::put_field(TAB, file, sheet, place + 1, place + 2, out, numbered);
     let flagged = put_flag(sheet, table, place, out, named);
     let described = put_second(file, sheet, table, place, out, flagged);
     printing::put_byte(b'\n', out, described)

@@ -14,7 +14,8 @@ use Rattle.rules.specs.Lists.{pick, member, counting, sorted, Each}
 use Rattle.rules.specs.Numbers.{edgeLimit}
 use Rattle.rules.specs.Sentences.{Node, Sentence, edgeCount, edgesOf, listed}
 use Rattle.rules.specs.Reading.{Handed}
-use Rattle.rules.specs.Sheets.{nodeRoom, nodeWidth, fieldPlace, nodes, sentenceSheet}
+use Rattle.rules.specs.SheetFields.{edgesPlace, nodeRoom}
+use Rattle.rules.specs.Sheets.{nodes, sentenceSheet}
 use Rattle.rules.specs.Survey.{surveyOf}
 use Rattle.rules.specs.Index.{beginning, beginnings, indexSize}
 use Rattle.rules.specs.SentenceFrom.{sentenceFrom}
@@ -25,6 +26,7 @@ use Rattle.rules.proofs.EachElement.{each-then, each-both, each-of, each-map}
 use Rattle.rules.proofs.Sorting.{any-sorted}
 use Rattle.rules.proofs.NoGap.{listed-member}
 use Rattle.rules.proofs.SentencesKept.{edges-append}
+use Rattle.rules.proofs.FieldsOnSheet.{no-field}
 use Rattle.rules.proofs.LaidOut.{laid-out}
 use Rattle.rules.proofs.FromThere.{from-there}
 use Rattle.sentence_sheet.specs.FlatEdges.{edgeWidth, edgesAmong, flatEdges}
@@ -72,11 +74,9 @@ module _ (file : List ℕ) (s : Sentence) (p : Printable file s) (laid : Sentenc
       ∙ not-listed (sorted nodeNumber (s .phrases)) k 500 (length (s .phrases)) (p .no-gap) b)
 
   unused : (k : ℕ) → k < nodeRoom → listed (nodes s) k ≡ false → Unused sheet k
-  unused k h e field l =
-      let place : fieldPlace field k ≡ 9 + 11 * k + field = omega arith in
-      ap (λ (i : ℕ). getD sheet i 0) place ∙ laid .no-node k field h l e
+  unused k h e field l = no-field s field k l h e
 
-  edge-count : getD sheet 8 0 ≡ edgeCount (nodes s)
+  edge-count : getD sheet edgesPlace 0 ≡ edgeCount (nodes s)
   unfolding sentenceSheet
   edge-count = sym (edges-append (s .words) (s .phrases))
 

@@ -11,15 +11,14 @@ use Rattle.printing.proofs.fields.text_at.Tie as tie
 returns : tie.Need-returns
 returns c =
     let a = c .before .before .before .args in
-    let start = getD (a .sheet .now) (a .place) 0 in
-    let len = getD (a .sheet .now) (a .place + 1) 0 in
-    (part-is (a .file .now) start len, omega (arith, take-most (start + len - start) (drop start (a .file .now)), c .before .shared-slice-known2 .given (a .place + 1)))
+    let start = getD (a .sheet .now) (a .start) 0 in
+    let len = getD (a .sheet .now) (a .len) 0 in
+    (part-is (a .file .now) start len, omega (arith, take-most (start + len - start) (drop start (a .file .now)), c .before .shared-slice-known2 .given (a .len)))
 
 pub text-at-spec : {M : Type 1} → statement M
 text-at-spec =
     tie.close
     (tie.spec
-    (λ c. search needs)
     (λ c. search needs)
     (λ c. search needs)
     (λ c. search needs)

@@ -10,6 +10,9 @@ use Rattle.sentence_text.proofs.edges.put_edge.Tie as tie
 add-put-field : tie.Need-add-put-field
 add-put-field c = search needs
 
+add-put-field-2 : tie.Need-add-put-field-2
+add-put-field-2 c = search needs
+
 put-field-requires : tie.Need-put-field-requires
 put-field-requires c κs = search needs
 
@@ -37,6 +40,7 @@ put-edge-spec =
     tie.close
     (tie.spec
     add-put-field
+    add-put-field-2
     put-field-requires
     add-put-number-column
     mul-put-number-column

@@ -10,7 +10,7 @@ use Rattle.rules.specs.Tidy.{tab, idDigits, flagged, secondText}
 use Rattle.printing.specs.Further.{further}
 use Rattle.printing.proofs.PutLaws.{put-then, put-as}
 use Rattle.table_sheet.specs.SheetRows.{rowAt}
-use Rattle.table_text.proofs.RowTexts.{row-line, first-inside, first-bytes}
+use Rattle.table_text.proofs.RowTexts.{row-line, first-inside}
 use Rattle.table_text.proofs.rows.put_row.Statement.{statement}
 use Rattle.table_text.proofs.rows.put_row.Tie as tie
 
@@ -25,6 +25,9 @@ put-id-requires c κs = search needs
 
 add-put-field : tie.Need-add-put-field
 add-put-field c = search needs
+
+add-put-field-2 : tie.Need-add-put-field-2
+add-put-field-2 c = search needs
 
 put-field-requires : tie.Need-put-field-requires
 put-field-requires c κs =
@@ -48,8 +51,7 @@ returns c =
     let a = c .before .before .before .before .before .before .before .before .before .before .before .before .before .before .before .before .before .before .before .before .before .before .before .before .args in
     let r = rowAt (a .file .now) (a .sheet .now) (a .place) in
     put-as
-    (ap (λ (x : List ℕ). idDigits (r .id1) ++ (tab ∷ x) ++ further tab (flagged (a .table) r) ++ further tab (secondText (a .table) r) ++ (newline ∷ [])) (first-bytes (a .file .now) (a .sheet .now) (a .place))
-    ∙ row-line (a .table) r)
+    (row-line (a .table) r)
     (put-then
     (put-then (put-then (put-then (c .before .before .before .before .before .before .before .before .before .before .before .before .before .before .before .before .before .before .put-id .ensures) (c .before .before .before .before .before .before .before .before .before .before .before .before .before .before .put-field .ensures)) (c .before .before .before .before .before .before .before .before .before .before .put-flag .ensures)) (c .before .before .before .before .before .before .put-second .ensures))
     (c .before .before .put-byte .ensures))
@@ -62,6 +64,7 @@ put-row-spec =
     shared-slice-read-put-id
     put-id-requires
     add-put-field
+    add-put-field-2
     put-field-requires
     put-flag-requires
     put-second-requires

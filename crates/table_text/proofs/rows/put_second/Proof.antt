@@ -9,12 +9,15 @@ use Rattle.rules.specs.Tidy.{tab, commented}
 use Rattle.printing.specs.Further.{further, textOf}
 use Rattle.printing.proofs.PutLaws.{put-as, put-wider}
 use Rattle.table_sheet.specs.SheetRows.{rowAt}
-use Rattle.table_text.proofs.RowTexts.{note-second, text-second, second-inside, second-bytes}
+use Rattle.table_text.proofs.RowTexts.{note-second, text-second, second-inside}
 use Rattle.table_text.proofs.rows.put_second.Statement.{statement}
 use Rattle.table_text.proofs.rows.put_second.Tie as tie
 
 add-put-note : tie.Need-add-put-note
 add-put-note c = search needs
+
+add-put-note-2 : tie.Need-add-put-note-2
+add-put-note-2 c = search needs
 
 put-note-requires : tie.Need-put-note-requires
 put-note-requires c κs =
@@ -27,10 +30,13 @@ same-length c = search needs
 returns : tie.Need-returns
 returns c =
     let a = c .before .before .before .before .before .before .before .before .args in
-    put-as (ap (λ (x : List ℕ). further tab (commented (textOf x))) (second-bytes (a .file .now) (a .sheet .now) (a .place)) ∙ note-second (a .table) (rowAt (a .file .now) (a .sheet .now) (a .place)) (omega arith)) (c .before .before .put-note .ensures)
+    put-as (note-second (a .table) (rowAt (a .file .now) (a .sheet .now) (a .place)) (omega arith)) (c .before .before .put-note .ensures)
 
 add-put-field : tie.Need-add-put-field
 add-put-field c = search needs
+
+add-put-field-2 : tie.Need-add-put-field-2
+add-put-field-2 c = search needs
 
 put-field-requires : tie.Need-put-field-requires
 put-field-requires c κs =
@@ -44,17 +50,19 @@ returns-2 : tie.Need-returns-2
 returns-2 c =
     let a = c .before .before .before .before .before .before .before .before .args in
     put-wider (omega arith)
-    (put-as (ap (λ (x : List ℕ). tab ∷ x) (second-bytes (a .file .now) (a .sheet .now) (a .place)) ∙ text-second (a .table) (rowAt (a .file .now) (a .sheet .now) (a .place)) (λ z. omega (arith, z))) (c .before .before .put-field .ensures))
+    (put-as (text-second (a .table) (rowAt (a .file .now) (a .sheet .now) (a .place)) (λ z. omega (arith, z))) (c .before .before .put-field .ensures))
 
 pub put-second-spec : {M : Type 1} → statement M
 put-second-spec =
     tie.close
     (tie.spec
     add-put-note
+    add-put-note-2
     put-note-requires
     same-length
     returns
     add-put-field
+    add-put-field-2
     put-field-requires
     same-length-2
     returns-2)

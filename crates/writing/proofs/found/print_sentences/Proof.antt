@@ -7,7 +7,8 @@ use mathlib.Core.Path.{_≡_, refl, sym, ap, _∙_}
 use mathlib.Core.List.{List}
 use lib.ListN.{length, replicate, take, length-replicate}
 use Rattle.rules.specs.Numbers.{edgeLimit}
-use Rattle.rules.specs.Sheets.{nodeRoom, sentenceSheetSize}
+use Rattle.rules.specs.SheetFields.{nodeRoom}
+use Rattle.rules.specs.Sheets.{sentenceSheetSize}
 use Rattle.rules.proofs.Rooms.{each-at}
 use Rattle.sentence_sheet.specs.FlatEdges.{edgeWidth}
 use Rattle.sentences.specs.Keeping.{MarkedUpTo}
