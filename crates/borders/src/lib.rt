@@ -4,7 +4,7 @@ ghost use mathlib.Core.Path.{_≡_};
 ghost use Rattle.survey.specs.Promise.{outcome, indexed};
 ghost use Rattle.opening.specs.Promise as flat;
 ghost use Rattle.writing.specs.Promise as tidy;
-ghost use Rattle.explaining.specs.Promise.{placeOutcome};
+ghost use Rattle.explained_demands.specs.ExplainedAs.{SameAnswer};
 use explaining::Explained;
 use survey::Surveyed;
 use writing::Written;
@@ -185,7 +185,7 @@ pub fn explain_across(
     seen2: &mut [u8],
 ) -> Explanations
     ensures { λ r. ⌜ (now (tables .entry) ≡ now (tables2 .entry) → now (seen .entry) ≡ now (seen2 .entry)
-        → placeOutcome (r .first) (now (tables .exit)) (now (seen .exit)) ≡ placeOutcome (r .second) (now (tables2 .exit)) (now (seen2 .exit))) ⌝ }
+        → SameAnswer (r .first) (r .second) × (now (tables .exit) ≡ now (tables2 .exit)) × (now (seen .exit) ≡ now (seen2 .exit))) ⌝ }
 {
     let first = explaining::explain_place(file, list, table, tag, tables, seen);
     let mut of = 0u32;

@@ -10,6 +10,7 @@ use Rattle.rules.specs.LentBuffers.{SheetsSized, WithinLimit}
 use Rattle.rules.proofs.Same.{eq-same}
 use Rattle.rules.proofs.ExplainedExactly.{explaining-call}
 use Rattle.explaining.specs.Promise.{Placed, placed, PartTold, partTold, partOutcome}
+use Rattle.explained_demands.specs.ExplainedAs.{SameAnswer}
 
 module _ (file list : List ℕ) (place : ℕ) (tag tables seen tables2 seen2 : List ℕ) where
   abbrev o : ExplainingOutcome
@@ -27,11 +28,27 @@ module _ (file list : List ℕ) (place : ℕ) (tag tables seen tables2 seen2 : L
 
   -- by place and length
   module _ (left left2 : Placed) (p : left ≡ placed o) (q : left2 ≡ placed o2) where
-    pub placed-only : tables ≡ tables2 → seen ≡ seen2 → left ≡ left2
-    placed-only t s = p ∙ ap placed (same-lent t s) ∙ sym q
+    abbrev SameLeft : Type 0
+    SameLeft = SameAnswer (left .answer) (left2 .answer) × (left .tables ≡ left2 .tables) × (left .seen ≡ left2 .seen)
 
-    pub placed-fresh : WithinLimit file → WithinLimit list → SheetsSized tables seen → SheetsSized tables2 seen2 → left ≡ left2
-    placed-fresh w v k l = p ∙ ap placed (never-shows w v k l) ∙ sym q
+    same-left : o ≡ o2 → SameLeft
+    same-left e =
+        let z : left ≡ left2 = p ∙ ap placed e ∙ sym q in (
+          record {
+            refusal = ap (λ (x : Placed). x .answer .refusal) z;
+            of = ap (λ (x : Placed). x .answer .of) z;
+            start = ap (λ (x : Placed). x .answer .start) z;
+            len = ap (λ (x : Placed). x .answer .len) z;
+          },
+          ap (λ (x : Placed). x .tables) z,
+          ap (λ (x : Placed). x .seen) z,
+        )
+
+    pub placed-only : tables ≡ tables2 → seen ≡ seen2 → SameLeft
+    placed-only t s = same-left (same-lent t s)
+
+    pub placed-fresh : WithinLimit file → WithinLimit list → SheetsSized tables seen → SheetsSized tables2 seen2 → SameLeft
+    placed-fresh w v k l = same-left (never-shows w v k l)
 
   -- as parts: whether they have the same bytes, and what else is left
   module _ (refusal : ℕ) (bytes tables′ seen′ : List ℕ) (refusal2 : ℕ) (bytes2 tables2′ seen2′ : List ℕ) (r : Bool) (compared : r ≡ same bytes bytes2)

@@ -1,10 +1,41 @@
-// Demand 1, of explaining a tag: each the promise of a function that makes two calls and is proved from their contracts alone.
-// Nothing is required of what is lent.
+// Explaining a tag as document 02 says it, and demand 1: each the promise of a function that makes the calls and is proved from
+// their contracts alone. No contract here names what `explaining` defines. Nothing is required of what is lent.
 ghost use mathlib.Core.Path.{_≡_};
 ghost use mathlib.Core.Bool.{true};
 ghost use Rattle.rules.specs.LentBuffers.{SheetsSized, WithinLimit};
-ghost use Rattle.explaining.specs.Promise.{placeOutcome};
+ghost use Rattle.explained_demands.specs.ExplainedAs.{ExplainedAs, PlacedPart, GivenPart, SameAnswer};
 use explaining::Explained;
+
+// What a call answers and leaves, with the part told by its place and length.
+pub fn explains_place(
+    file: &[u8],
+    list: &[u8],
+    table: u32,
+    tag: &[u8],
+    tables: &mut [u32],
+    seen: &mut [u8],
+) -> Explained
+    ensures { λ r. ⌜ ExplainedAs (now (file .entry)) (now (list .entry)) table (now (tag .entry)) (now (tables .entry)) (now (seen .entry))
+        (r .refusal) (PlacedPart r) (now (tables .exit)) (now (seen .exit)) ⌝ }
+{
+    explaining::explain_place(file, list, table, tag, tables, seen)
+}
+
+// The same with the part itself.
+pub fn explains<'a>(
+    file: &'a [u8],
+    list: &'a [u8],
+    table: u32,
+    tag: &[u8],
+    refusal: &mut u32,
+    tables: &mut [u32],
+    seen: &mut [u8],
+) -> &'a [u8]
+    ensures { λ r. ⌜ ExplainedAs (now (file .entry)) (now (list .entry)) table (now (tag .entry)) (now (tables .entry)) (now (seen .entry))
+        (now (refusal .exit)) (GivenPart (now r)) (now (tables .exit)) (now (seen .exit)) ⌝ }
+{
+    explaining::explain(file, list, table, tag, refusal, tables, seen)
+}
 
 // The answers of two calls.
 pub struct Two {
@@ -24,9 +55,9 @@ pub fn placed_twice(
     seen2: &mut [u8],
 ) -> Two
     ensures only { λ r. ⌜ (now (tables .entry) ≡ now (tables2 .entry) → now (seen .entry) ≡ now (seen2 .entry)
-        → placeOutcome (r .first) (now (tables .exit)) (now (seen .exit)) ≡ placeOutcome (r .second) (now (tables2 .exit)) (now (seen2 .exit))) ⌝ }
+        → SameAnswer (r .first) (r .second) × (now (tables .exit) ≡ now (tables2 .exit)) × (now (seen .exit) ≡ now (seen2 .exit))) ⌝ }
     ensures fresh { λ r. ⌜ (WithinLimit (now (file .entry)) → WithinLimit (now (list .entry)) → SheetsSized (now (tables .entry)) (now (seen .entry)) → SheetsSized (now (tables2 .entry)) (now (seen2 .entry))
-        → placeOutcome (r .first) (now (tables .exit)) (now (seen .exit)) ≡ placeOutcome (r .second) (now (tables2 .exit)) (now (seen2 .exit))) ⌝ }
+        → SameAnswer (r .first) (r .second) × (now (tables .exit) ≡ now (tables2 .exit)) × (now (seen .exit) ≡ now (seen2 .exit))) ⌝ }
 {
     let first = explaining::explain_place(file, list, table, tag, tables, seen);
     let second = explaining::explain_place(file, list, table, tag, tables2, seen2);
