@@ -6,3 +6,5 @@ pub mod OpenSheets
 pub mod Standing
 pub mod ReadBack
 pub mod NotedOutlines
+mod TagNumbers
+mod TagOrder

@@ -3,3 +3,5 @@ pub mod LookUps
 pub mod OpenSheets
 pub mod Standing
 pub mod Outlines
+pub mod Hints
+pub mod TagOrders
