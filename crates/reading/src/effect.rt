@@ -6,7 +6,7 @@ ghost use lib.ListN.{length, set};
 ghost use Rattle.rules.specs.Numbers.{fileLimit};
 ghost use Rattle.judging.specs.States.{tallyIn};
 ghost use Rattle.reading.specs.Effects.{kept, formatRead, handedOut, noted, effect, notedBy, bareSaid, plainStep, Applicable};
-ghost use Rattle.reading.specs.NotedTags.{outlinesBy, TagApplies};
+ghost use Rattle.reading.specs.NotedTags.{outlinesBy, TagApplies, hintsBy};
 use crate::rows::end_table;
 use crate::rows::take_row;
 use columns::listing::Line;
@@ -147,7 +147,8 @@ pub fn apply(
     hints: &mut [u8; table_sheet::HINTS],
 ) -> State
     requires { ⌜ (line .start ≤ fileLimit) × (line .end ≤ fileLimit) × Applicable step (length (now file)) (kept s (now sheet) (now seen) (now marks) []) ⌝ }
-    ensures { λ r. ⌜ ((from : ℕ) (begins : List ℕ) → kept r (now (sheet .exit)) (now (seen .exit)) (now (marks .exit)) (notedBy from step s begins) ≡ effect from step (line .start) (line .end + 1) (kept s (now (sheet .entry)) (now (seen .entry)) (now (marks .entry)) begins)) ⌝ }
+    ensures { λ r. ⌜ ((from : ℕ) (begins : List ℕ) → kept r (now (sheet .exit)) (now (seen .exit)) (now (marks .exit)) (notedBy from step s begins) ≡ effect from step (line .start) (line .end + 1) (kept s (now (sheet .entry)) (now (seen .entry)) (now (marks .entry)) begins))
+        × (now (hints .exit) ≡ hintsBy step s (now (file .entry)) (now (sheet .exit)) (now (hints .entry))) ⌝ }
 {
     let phase = s.phase;
     match step {

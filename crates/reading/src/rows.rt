@@ -7,6 +7,7 @@ ghost use Rattle.rules.specs.Sheets.{tableCount, rowPlace, tableSheetSize};
 ghost use Rattle.columns.specs.Splices.{splice};
 ghost use Rattle.judging.specs.States.{tableOpen, rowsOpen};
 ghost use Rattle.reading.specs.Effects.{sixOf, rowCounted, tableLeft};
+ghost use Rattle.reading.specs.NotedTags.{hintsWith};
 use judging::state::Phase;
 use judging::state::State;
 use judging::state::moved;
@@ -24,7 +25,8 @@ fn put_row(
     hints: &mut [u8; table_sheet::HINTS],
 )
     requires { ⌜ (table < tableCount) × (rows < rowLimit) × (row .first .start + row .first .len ≤ length (now file)) × (length (now sheet) ≡ tableSheetSize) ⌝ }
-    ensures { λ _. ⌜ now (sheet .exit) ≡ splice (rowPlace table rows) (sixOf row) (now (sheet .entry)) ⌝ }
+    ensures { λ _. ⌜ (now (sheet .exit) ≡ splice (rowPlace table rows) (sixOf row) (now (sheet .entry)))
+        × (now (hints .exit) ≡ hintsWith row table rows (now (file .entry)) (now (sheet .exit)) (now (hints .entry))) ⌝ }
 {
     let first = row.first;
     let second = row.second;
@@ -54,7 +56,8 @@ pub fn take_row(
     hints: &mut [u8; table_sheet::HINTS],
 ) -> State
     requires { ⌜ (tableOpen (s .phase) < tableCount) × (rowsOpen (s .phase) < rowLimit) × (row .first .start + row .first .len ≤ length (now file)) × (length (now sheet) ≡ tableSheetSize) ⌝ }
-    ensures { λ r. ⌜ (r ≡ rowCounted s) × (now (sheet .exit) ≡ splice (rowPlace (tableOpen (s .phase)) (rowsOpen (s .phase))) (sixOf row) (now (sheet .entry))) ⌝ }
+    ensures { λ r. ⌜ (r ≡ rowCounted s) × (now (sheet .exit) ≡ splice (rowPlace (tableOpen (s .phase)) (rowsOpen (s .phase))) (sixOf row) (now (sheet .entry)))
+        × (now (hints .exit) ≡ hintsWith row (tableOpen (s .phase)) (rowsOpen (s .phase)) (now (file .entry)) (now (sheet .exit)) (now (hints .entry))) ⌝ }
 {
     let phase = s.phase;
     let table = table_in(phase);

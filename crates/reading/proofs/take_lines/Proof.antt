@@ -231,10 +231,10 @@ loop-again-2 c =
     let l = here k in
     let h = line-here k in
     let o = m .match3 .keys2 in (
-      goes-on-noted h _ (j .judge .ensures) o _ _ _ _ _ (n .note-end .ensures) (a .apply .ensures _ _),
+      goes-on-noted h _ (j .judge .ensures) o _ _ _ _ _ (n .note-end .ensures) (a .apply .ensures .0 _ _),
       rw (tagged a .note-tag .ensures)
           (stay-outlined (l .loop .outlines) (file l) (low l) (line k .start) (end k + 1) (length (file l)) (kept (held l .state) (held l .sheet) (held l .seen) (held l .marks) [])
-          (outlined l) (j .judge .result) (applies h _ (j .judge .ensures) o .2) _ (a .apply .ensures (low l) [])),
+          (outlined l) (j .judge .result) (applies h _ (j .judge .ensures) o .2) _ (a .apply .ensures .0 (low l) [])),
     )
 
 closing-requires : tie.Need-closing-requires Inv-loop μ-loop

@@ -1,6 +1,6 @@
 -- `reading::effect::apply` meets its contract: each arm does what `effect` says of its step.
 use borrow.Author.Needs.{needs}
-use mathlib.Core.Path.{_≡_, subst}
+use mathlib.Core.Path.{_≡_, refl, subst, _∙_}
 use mathlib.Core.List.{[]}
 use lib.ListN.{length}
 use Rattle.steps.specs.declared.Step.{Step}
@@ -85,55 +85,55 @@ hand-out-requires c κs =
 
 returns : tie.Need-returns
 unfolding effect
-returns c = λ from begins. rw (c .enum-told .given .1)
+returns c = (λ from begins. rw (c .enum-told .given .1), rw (c .enum-told .given .1) refl)
 
 returns-2 : tie.Need-returns-2
 unfolding effect
-returns-2 c = λ from begins. rw (c .before .before .step .given .1, c .format-read .ensures)
+returns-2 c = (λ from begins. rw (c .before .before .step .given .1, c .format-read .ensures), rw (c .before .before .step .given .1) refl)
 
 returns-3 : tie.Need-returns-3
 unfolding effect
-returns-3 c = λ from begins. rw (c .before .before .step2 .given .1, c .moved .ensures)
+returns-3 c = (λ from begins. rw (c .before .before .step2 .given .1, c .moved .ensures), rw (c .before .before .step2 .given .1) refl)
 
 returns-4 : tie.Need-returns-4
 unfolding effect
 returns-4 c =
     let p = c .before .before in
     let r = p .before .before .before in
-    λ from begins. rw (r .before .step3 .given .1, p .take-row .ensures .0, p .take-row .ensures .1)
+    (λ from begins. rw (r .before .step3 .given .1, p .take-row .ensures .0, p .take-row .ensures .1), p .take-row .ensures .2 ∙ rw (r .before .step3 .given .1) refl)
 
 returns-5 : tie.Need-returns-5
 unfolding effect
 returns-5 c =
     let p = c .before .before in
-    λ from begins. rw (p .before .before .enum-told2 .given .1, p .end-table .ensures .0, p .end-table .ensures .1)
+    (λ from begins. rw (p .before .before .enum-told2 .given .1, p .end-table .ensures .0, p .end-table .ensures .1), rw (p .before .before .enum-told2 .given .1) refl)
 
 returns-6 : tie.Need-returns-6
 unfolding effect
-returns-6 c = λ from begins. rw (c .before .before .before .before .step4 .given .1, c .moved2 .ensures, c .before .first-tally .ensures)
+returns-6 c = (λ from begins. rw (c .before .before .before .before .step4 .given .1, c .moved2 .ensures, c .before .first-tally .ensures), rw (c .before .before .before .before .step4 .given .1) refl)
 
 returns-7 : tie.Need-returns-7
 unfolding effect
 returns-7 c =
     let t = c .before .before in
-    λ from begins. rw (t .before .before .step5 .given .1, c .moved3 .ensures, c .before .with-word .ensures, t .tally-in .ensures)
+    (λ from begins. rw (t .before .before .step5 .given .1, c .moved3 .ensures, c .before .with-word .ensures, t .tally-in .ensures), rw (t .before .before .step5 .given .1) refl)
 
 returns-8 : tie.Need-returns-8
 unfolding effect
 returns-8 c =
     let t = c .before .before in
-    λ from begins. rw (t .before .before .before .before .before .step6 .given .1, c .moved4 .ensures, c .before .with-phrase .ensures, t .tally-in2 .ensures, t .before .mark .ensures)
+    (λ from begins. rw (t .before .before .before .before .before .step6 .given .1, c .moved4 .ensures, c .before .with-phrase .ensures, t .tally-in2 .ensures, t .before .mark .ensures), rw (t .before .before .before .before .before .step6 .given .1) refl)
 
 returns-9 : tie.Need-returns-9
 unfolding effect
 returns-9 c =
     let a = c .before .before .before .before in
     let t = a .before .before in
-    λ from begins. rw (t .before .enum-told3 .given .1, c .hand-out .ensures, a .add .ensures, t .tally-in3 .ensures)
+    (λ from begins. rw (t .before .enum-told3 .given .1, c .hand-out .ensures, a .add .ensures, t .tally-in3 .ensures), rw (t .before .enum-told3 .given .1) refl)
 
 returns-10 : tie.Need-returns-10
 unfolding effect
-returns-10 c = λ from begins. rw (c .enum-told4 .given .1)
+returns-10 c = (λ from begins. rw (c .enum-told4 .given .1), rw (c .enum-told4 .given .1) refl)
 
 pub apply-spec : {M : Type 1} → statement M
 apply-spec =

@@ -1,6 +1,8 @@
 -- `reading::rows::take_row` meets its contract.
 use borrow.Author.Needs.{needs}
-use mathlib.Core.Path.{refl}
+use Prim.Native.Nat.{ℕ}
+use mathlib.Core.Path.{refl, ap₂, _∙_}
+use Rattle.reading.specs.NotedTags.{hintsWith}
 use Rattle.reading.proofs.rows.take_row.Statement.{statement}
 use Rattle.reading.proofs.rows.take_row.Tie as tie
 
@@ -8,7 +10,12 @@ returns : tie.Need-returns
 returns c =
     let p = c .before .before .before in
     let r = p .before .before .before in
-    rw (c .moved .ensures, p .put-row .ensures, r .rows-in .ensures, r .before .table-in .ensures) (refl, refl)
+    let a = r .before .before .before .before .args in (
+      rw (c .moved .ensures, r .rows-in .ensures, r .before .table-in .ensures) refl,
+      rw (p .put-row .ensures .0, r .rows-in .ensures, r .before .table-in .ensures) refl,
+      p .put-row .ensures .1
+          ∙ ap₂ (λ (t n : ℕ). hintsWith (a .row) t n (a .file .now) (p .put-row .last .1 .1 .1 .1 .0) (a .hints .now)) (r .before .table-in .ensures) (r .rows-in .ensures),
+    )
 
 pub take-row-spec : {M : Type 1} → statement M
 take-row-spec =
