@@ -20,16 +20,20 @@ module _ (file list : List ℕ) (place : ℕ) (tag tables seen : List ℕ) where
   abbrev o : ExplainingOutcome
   o = afterExplaining file list place tag tables seen
 
-  module _ (refusal : ℕ) (Part : Telling) (tables′ seen′ : List ℕ) (number : refusal ≡ o .answer .refusal) (left : tables′ ≡ o .tables) (left-seen : seen′ ≡ o .seen)
+  module _ (refusal : ℕ) (Part : Telling) (tables′ seen′ : List ℕ) (number : refusal ≡ o .answer .refusal) (left : tables′ ≡ o .tables)
+      (left-seen : seen′ ≡ o .seen)
       (told : (whole : List ℕ) → LiesIn whole (o .answer .part) → Part (o .answer .of) whole (o .answer .part)) where
     as-answered : (a : Explanation) → o .answer ≡ a → (whole : List ℕ) → LiesIn whole (a .part) → Part (a .of) whole (a .part)
     as-answered a e whole l =
-        subst (λ (x : Explanation). Part (x .of) whole (x .part)) e (told whole (subst (λ (x : Explanation). LiesIn whole (x .part)) (sym e) l))
+        subst (λ (x : Explanation). Part (x .of) whole (x .part)) e
+        (told whole (subst (λ (x : Explanation). LiesIn whole (x .part)) (sym e) l))
 
     refused-by : (n : ℕ) → o .answer ≡ refusedBy n → Refused refusal Part n
-    refused-by n e = record { number = number ∙ ap (λ (x : Explanation). x .refusal) e; empty = as-answered (refusedBy n) e [] (nothing-lies []) }
+    refused-by n e =
+        record { number = number ∙ ap (λ (x : Explanation). x .refusal) e; empty = as-answered (refusedBy n) e [] (nothing-lies []) }
 
-    untouched : (n : ℕ) → o ≡ record { answer = refusedBy n; tables = tables; seen = seen } → Refused refusal Part n × (tables′ ≡ tables) × (seen′ ≡ seen)
+    untouched : (n : ℕ) → o ≡ record { answer = refusedBy n; tables = tables; seen = seen } → Refused refusal Part n × (tables′ ≡ tables)
+        × (seen′ ≡ seen)
     untouched n e = (
       refused-by n (ap (λ (x : ExplainingOutcome). x .answer) e),
       left ∙ ap (λ (x : ExplainingOutcome). x .tables) e,
@@ -37,7 +41,9 @@ module _ (file list : List ℕ) (place : ℕ) (tag tables seen : List ℕ) where
     )
 
     read : Readable file list tables seen → o .answer ≡ explained (surveyOf file) (surveyOf list) place tag
-    read k = ap (λ (x : ExplainingOutcome). x .answer) (explaining-call file list place tag tables seen .told (k .sized) (k .file-within) (k .list-within))
+    read k =
+        ap (λ (x : ExplainingOutcome). x .answer)
+        (explaining-call file list place tag tables seen .told (k .sized) (k .file-within) (k .list-within))
 
     of-file : (t : Text) → o .answer ≡ record { refusal = 0; of = 1; part = t } → Granted refusal Part 1 file t
     of-file t e =
@@ -99,7 +105,8 @@ module _ (file list : List ℕ) (place : ℕ) (tag tables seen : List ℕ) where
       → ExplainedAs file list place tag tables seen (answer .refusal) (PlacedPart answer) tables′ seen′
   placed-as answer tables′ seen′ e =
       let a : answer ≡ placed o .answer = ap (λ (x : Placed). x .answer) e in
-      explained-as (answer .refusal) (PlacedPart answer) tables′ seen′ (ap (λ (x : Explained). x .refusal) a) (ap (λ (x : Placed). x .tables) e)
+      explained-as (answer .refusal) (PlacedPart answer) tables′ seen′ (ap (λ (x : Explained). x .refusal) a)
+      (ap (λ (x : Placed). x .tables) e)
       (ap (λ (x : Placed). x .seen) e)
       (λ whole l.
       record {

@@ -51,18 +51,22 @@ pub record Readable (file list tables seen : List ℕ) : Type 0 where
   pub file-within : WithinLimit file
   pub list-within : WithinLimit list
 
-pub record ExplainedAs (file list : List ℕ) (place : ℕ) (tag tables seen : List ℕ) (refusal : ℕ) (Part : Telling) (tables′ seen′ : List ℕ) : Type 0 where
+pub record ExplainedAs (file list : List ℕ) (place : ℕ) (tag tables seen : List ℕ) (refusal : ℕ) (Part : Telling)
+    (tables′ seen′ : List ℕ) : Type 0 where
   pub wrong-size : (SheetsSized tables seen → ⊥) → Refused refusal Part 1 × (tables′ ≡ tables) × (seen′ ≡ seen)
   pub file-too-long : SheetsSized tables seen → TooLong file → Refused refusal Part 2 × (tables′ ≡ tables) × (seen′ ≡ seen)
-  pub list-too-long : SheetsSized tables seen → WithinLimit file → TooLong list → Refused refusal Part 2 × (tables′ ≡ tables) × (seen′ ≡ seen)
+  pub list-too-long : SheetsSized tables seen → WithinLimit file → TooLong list
+      → Refused refusal Part 2 × (tables′ ≡ tables) × (seen′ ≡ seen)
   pub zeros : Readable file list tables seen → (tables′ ≡ replicate 10759 0) × (seen′ ≡ replicate 8192 0)
   pub file-first : Readable file list tables seen → surveyOf file .refusal ≢ 0 → Refused refusal Part (surveyOf file .refusal)
-  pub then-list : Readable file list tables seen → Accepted file → surveyOf list .refusal ≢ 0 → Refused refusal Part (surveyOf list .refusal)
+  pub then-list : Readable file list tables seen → Accepted file → surveyOf list .refusal ≢ 0
+      → Refused refusal Part (surveyOf list .refusal)
   -- the table decides, not the tag
   pub by-file : Readable file list tables seen → Accepted file → Accepted list → (n : ℕ) (rs : List Row) (t : Text) → TagTablePlace n place
       → table n (surveyOf file .tables) ≡ some rs → RowsTell tag rs t → Granted refusal Part 1 file t
   pub by-list : Readable file list tables seen → Accepted file → Accepted list → (n : ℕ) (rs : List Row) (t : Text) → TagTablePlace n place
-      → table n (surveyOf file .tables) ≡ none → table n (surveyOf list .tables) ≡ some rs → RowsTell tag rs t → Granted refusal Part 2 list t
+      → table n (surveyOf file .tables) ≡ none → table n (surveyOf list .tables) ≡ some rs
+      → RowsTell tag rs t → Granted refusal Part 2 list t
   pub exactly : Readable file list tables seen → Accepted file → Accepted list
       → (refusal ≡ 26) ↔ Unexplained (surveyOf file .tables) (surveyOf list .tables) place tag
   pub refused : refusal ≢ 0 → Part 0 [] noText

@@ -56,7 +56,8 @@ pub fn placed_twice(
 ) -> Two
     ensures only { λ r. ⌜ (now (tables .entry) ≡ now (tables2 .entry) → now (seen .entry) ≡ now (seen2 .entry)
         → SameAnswer (r .first) (r .second) × (now (tables .exit) ≡ now (tables2 .exit)) × (now (seen .exit) ≡ now (seen2 .exit))) ⌝ }
-    ensures fresh { λ r. ⌜ (WithinLimit (now (file .entry)) → WithinLimit (now (list .entry)) → SheetsSized (now (tables .entry)) (now (seen .entry)) → SheetsSized (now (tables2 .entry)) (now (seen2 .entry))
+    ensures fresh { λ r. ⌜ (WithinLimit (now (file .entry)) → WithinLimit (now (list .entry))
+        → SheetsSized (now (tables .entry)) (now (seen .entry)) → SheetsSized (now (tables2 .entry)) (now (seen2 .entry))
         → SameAnswer (r .first) (r .second) × (now (tables .exit) ≡ now (tables2 .exit)) × (now (seen .exit) ≡ now (seen2 .exit))) ⌝ }
 {
     let first = explaining::explain_place(file, list, table, tag, tables, seen);
@@ -78,9 +79,12 @@ pub fn explained_twice<'a>(
     seen2: &mut [u8],
 ) -> bool
     ensures only { λ r. ⌜ (now (tables .entry) ≡ now (tables2 .entry) → now (seen .entry) ≡ now (seen2 .entry)
-        → (r ≡ true) × (now (refusal .exit) ≡ now (refusal2 .exit)) × (now (tables .exit) ≡ now (tables2 .exit)) × (now (seen .exit) ≡ now (seen2 .exit))) ⌝ }
-    ensures fresh { λ r. ⌜ (WithinLimit (now (file .entry)) → WithinLimit (now (list .entry)) → SheetsSized (now (tables .entry)) (now (seen .entry)) → SheetsSized (now (tables2 .entry)) (now (seen2 .entry))
-        → (r ≡ true) × (now (refusal .exit) ≡ now (refusal2 .exit)) × (now (tables .exit) ≡ now (tables2 .exit)) × (now (seen .exit) ≡ now (seen2 .exit))) ⌝ }
+        → (r ≡ true) × (now (refusal .exit) ≡ now (refusal2 .exit))
+        × (now (tables .exit) ≡ now (tables2 .exit)) × (now (seen .exit) ≡ now (seen2 .exit))) ⌝ }
+    ensures fresh { λ r. ⌜ (WithinLimit (now (file .entry)) → WithinLimit (now (list .entry))
+        → SheetsSized (now (tables .entry)) (now (seen .entry)) → SheetsSized (now (tables2 .entry)) (now (seen2 .entry))
+        → (r ≡ true) × (now (refusal .exit) ≡ now (refusal2 .exit))
+        × (now (tables .exit) ≡ now (tables2 .exit)) × (now (seen .exit) ≡ now (seen2 .exit))) ⌝ }
 {
     let first = explaining::explain(file, list, table, tag, refusal, tables, seen);
     let second = explaining::explain(file, list, table, tag, refusal2, tables2, seen2);

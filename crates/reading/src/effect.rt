@@ -147,7 +147,8 @@ pub fn apply(
     hints: &mut [u8; table_sheet::HINTS],
 ) -> State
     requires { ⌜ (line .start ≤ fileLimit) × (line .end ≤ fileLimit) × Applicable step (length (now file)) (kept s (now sheet) (now seen) (now marks) []) ⌝ }
-    ensures { λ r. ⌜ ((from : ℕ) (begins : List ℕ) → kept r (now (sheet .exit)) (now (seen .exit)) (now (marks .exit)) (notedBy from step s begins) ≡ effect from step (line .start) (line .end + 1) (kept s (now (sheet .entry)) (now (seen .entry)) (now (marks .entry)) begins))
+    ensures { λ r. ⌜ ((from : ℕ) (begins : List ℕ) → kept r (now (sheet .exit)) (now (seen .exit)) (now (marks .exit)) (notedBy from step s begins)
+        ≡ effect from step (line .start) (line .end + 1) (kept s (now (sheet .entry)) (now (seen .entry)) (now (marks .entry)) begins))
         × (now (hints .exit) ≡ hintsBy step s (now (file .entry)) (now (sheet .exit)) (now (hints .entry))) ⌝ }
 {
     let phase = s.phase;

@@ -56,8 +56,10 @@ pub fn take_row(
     hints: &mut [u8; table_sheet::HINTS],
 ) -> State
     requires { ⌜ (tableOpen (s .phase) < tableCount) × (rowsOpen (s .phase) < rowLimit) × (row .first .start + row .first .len ≤ length (now file)) × (length (now sheet) ≡ tableSheetSize) ⌝ }
-    ensures { λ r. ⌜ (r ≡ rowCounted s) × (now (sheet .exit) ≡ splice (rowPlace (tableOpen (s .phase)) (rowsOpen (s .phase))) (sixOf row) (now (sheet .entry)))
-        × (now (hints .exit) ≡ hintsWith row (tableOpen (s .phase)) (rowsOpen (s .phase)) (now (file .entry)) (now (sheet .exit)) (now (hints .entry))) ⌝ }
+    ensures { λ r. ⌜ (r ≡ rowCounted s)
+        × (now (sheet .exit) ≡ splice (rowPlace (tableOpen (s .phase)) (rowsOpen (s .phase))) (sixOf row) (now (sheet .entry)))
+        × (now (hints .exit) ≡ hintsWith row (tableOpen (s .phase)) (rowsOpen (s .phase))
+        (now (file .entry)) (now (sheet .exit)) (now (hints .entry))) ⌝ }
 {
     let phase = s.phase;
     let table = table_in(phase);

@@ -16,7 +16,8 @@ moved x bits = x * 2 ^ bits % 2 ^ 64
 unfoldable pub fewBytes : List ℕ → ℕ
 fewBytes tag =
     let n = length tag in
-    bitOr (bitOr (moved (getD tag 0 0) (64 - 8 * n)) (moved (getD tag (n / 2) 0) (64 - 8 * n + 8 * (n / 2)))) (moved (getD tag (n - 1) 0) 56)
+    bitOr (bitOr (moved (getD tag 0 0) (64 - 8 * n)) (moved (getD tag (n / 2) 0) (64 - 8 * n + 8 * (n / 2))))
+    (moved (getD tag (n - 1) 0) 56)
 
 unfoldable pub someBytes : List ℕ → ℕ
 someBytes tag = let n = length tag in bitOr (moved (fourAt tag 0) (64 - 8 * n)) (moved (fourAt tag (n - 4)) 32)

@@ -99,37 +99,56 @@ returns-4 : tie.Need-returns-4
 unfolding effect
 returns-4 c =
     let p = c .before .before in
-    let r = p .before .before .before in
-    (λ from begins. rw (r .before .step3 .given .1, p .take-row .ensures .0, p .take-row .ensures .1), p .take-row .ensures .2 ∙ rw (r .before .step3 .given .1) refl)
+    let r = p .before .before .before in (
+      λ from begins. rw (r .before .step3 .given .1, p .take-row .ensures .0, p .take-row .ensures .1),
+      p .take-row .ensures .2 ∙ rw (r .before .step3 .given .1) refl,
+    )
 
 returns-5 : tie.Need-returns-5
 unfolding effect
 returns-5 c =
-    let p = c .before .before in
-    (λ from begins. rw (p .before .before .enum-told2 .given .1, p .end-table .ensures .0, p .end-table .ensures .1), rw (p .before .before .enum-told2 .given .1) refl)
+    let p = c .before .before in (
+      λ from begins. rw (p .before .before .enum-told2 .given .1, p .end-table .ensures .0, p .end-table .ensures .1),
+      rw (p .before .before .enum-told2 .given .1) refl,
+    )
 
 returns-6 : tie.Need-returns-6
 unfolding effect
-returns-6 c = (λ from begins. rw (c .before .before .before .before .step4 .given .1, c .moved2 .ensures, c .before .first-tally .ensures), rw (c .before .before .before .before .step4 .given .1) refl)
+returns-6 c = (
+  λ from begins. rw (c .before .before .before .before .step4 .given .1, c .moved2 .ensures, c .before .first-tally .ensures),
+  rw (c .before .before .before .before .step4 .given .1) refl,
+)
 
 returns-7 : tie.Need-returns-7
 unfolding effect
 returns-7 c =
-    let t = c .before .before in
-    (λ from begins. rw (t .before .before .step5 .given .1, c .moved3 .ensures, c .before .with-word .ensures, t .tally-in .ensures), rw (t .before .before .step5 .given .1) refl)
+    let t = c .before .before in (
+      λ from begins. rw (t .before .before .step5 .given .1, c .moved3 .ensures, c .before .with-word .ensures, t .tally-in .ensures),
+      rw (t .before .before .step5 .given .1) refl,
+    )
 
 returns-8 : tie.Need-returns-8
 unfolding effect
 returns-8 c =
-    let t = c .before .before in
-    (λ from begins. rw (t .before .before .before .before .before .step6 .given .1, c .moved4 .ensures, c .before .with-phrase .ensures, t .tally-in2 .ensures, t .before .mark .ensures), rw (t .before .before .before .before .before .step6 .given .1) refl)
+    let t = c .before .before in (
+      λ from begins. rw (
+        t .before .before .before .before .before .step6 .given .1,
+        c .moved4 .ensures,
+        c .before .with-phrase .ensures,
+        t .tally-in2 .ensures,
+        t .before .mark .ensures,
+      ),
+      rw (t .before .before .before .before .before .step6 .given .1) refl,
+    )
 
 returns-9 : tie.Need-returns-9
 unfolding effect
 returns-9 c =
     let a = c .before .before .before .before in
-    let t = a .before .before in
-    (λ from begins. rw (t .before .enum-told3 .given .1, c .hand-out .ensures, a .add .ensures, t .tally-in3 .ensures), rw (t .before .enum-told3 .given .1) refl)
+    let t = a .before .before in (
+      λ from begins. rw (t .before .enum-told3 .given .1, c .hand-out .ensures, a .add .ensures, t .tally-in3 .ensures),
+      rw (t .before .enum-told3 .given .1) refl,
+    )
 
 returns-10 : tie.Need-returns-10
 unfolding effect

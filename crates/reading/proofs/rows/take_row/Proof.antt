@@ -14,7 +14,8 @@ returns c =
       rw (c .moved .ensures, r .rows-in .ensures, r .before .table-in .ensures) refl,
       rw (p .put-row .ensures .0, r .rows-in .ensures, r .before .table-in .ensures) refl,
       p .put-row .ensures .1
-          ∙ ap₂ (λ (t n : ℕ). hintsWith (a .row) t n (a .file .now) (p .put-row .last .1 .1 .1 .1 .0) (a .hints .now)) (r .before .table-in .ensures) (r .rows-in .ensures),
+          ∙ ap₂ (λ (t n : ℕ). hintsWith (a .row) t n (a .file .now) (p .put-row .last .1 .1 .1 .1 .0) (a .hints .now))
+          (r .before .table-in .ensures) (r .rows-in .ensures),
     )
 
 pub take-row-spec : {M : Type 1} → statement M

@@ -12,7 +12,8 @@ use Rattle.table_sheet.proofs.hints.place_of.Tie as tie
 returns : tie.Need-returns
 unfolding hintPlace
 returns c =
-    let below : bitXor (c .args .number) (c .args .number / 4294967296) % 4294967296 * 1150506051 / 8388608 % 512 < 512 = mod-lt _ (omega arith) in
+    let below : bitXor (c .args .number) (c .args .number / 4294967296) % 4294967296 * 1150506051 / 8388608 % 512 < 512 = mod-lt _
+    (omega arith) in
     (refl, omega (arith, below, c .pre))
 
 pub place-of-spec : {M : Type 1} → statement M

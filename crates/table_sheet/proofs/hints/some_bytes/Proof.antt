@@ -10,7 +10,9 @@ use Rattle.table_sheet.proofs.hints.some_bytes.Tie as tie
 
 returns : tie.Need-returns
 unfolding someBytes
-returns c = ap₂ (λ (x y : ℕ). bitOr (moved x (64 - 8 * length (c .before .before .before .args .tag .now))) (moved y 32)) (c .before .four-at .ensures .0) (c .four-at2 .ensures .0)
+returns c =
+    ap₂ (λ (x y : ℕ). bitOr (moved x (64 - 8 * length (c .before .before .before .args .tag .now))) (moved y 32))
+    (c .before .four-at .ensures .0) (c .four-at2 .ensures .0)
 
 pub some-bytes-spec : {M : Type 1} → statement M
 some-bytes-spec =
