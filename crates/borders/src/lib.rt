@@ -1,9 +1,9 @@
 // Demand 1 at the border to other languages: each function of hraunlik called beside the one that it stands for, with any two
 // sets of buffers. If the same was lent, the same is answered and left, so hraunlik has no second outcome either.
 ghost use mathlib.Core.Path.{_≡_};
-ghost use Rattle.survey.specs.Promise.{outcome, indexed};
-ghost use Rattle.opening.specs.Promise as flat;
-ghost use Rattle.writing.specs.Promise as tidy;
+ghost use Rattle.opened_demands.specs.Calls.{left, leftThere};
+ghost use Rattle.indexed_demands.specs.Entries.{surveyLeft, indexLeft};
+ghost use Rattle.written_demands.specs.Writings.{textLeft};
 ghost use Rattle.explained_demands.specs.ExplainedAs.{SameAnswer};
 use explaining::Explained;
 use survey::Surveyed;
@@ -35,7 +35,8 @@ pub fn survey_across(
     seen2: &mut [u8],
 ) -> Surveys
     ensures { λ r. ⌜ (now (tables .entry) ≡ now (tables2 .entry) → now (seen .entry) ≡ now (seen2 .entry)
-        → outcome (r .first) (now (tables .exit)) (now (seen .exit)) ≡ outcome (r .second) (now (tables2 .exit)) (now (seen2 .exit))) ⌝ }
+        → surveyLeft (r .first) (now (tables .exit)) (now (seen .exit))
+        ≡ surveyLeft (r .second) (now (tables2 .exit)) (now (seen2 .exit))) ⌝ }
 {
     let first = survey::survey(file, tables, seen);
     let mut place = 0u32;
@@ -62,7 +63,8 @@ pub fn index_across(
     places2: &mut [u32],
 ) -> Surveys
     ensures { λ r. ⌜ (now (tables .entry) ≡ now (tables2 .entry) → now (seen .entry) ≡ now (seen2 .entry) → now (places .entry) ≡ now (places2 .entry)
-        → indexed (r .first) (now (tables .exit)) (now (seen .exit)) (now (places .exit)) ≡ indexed (r .second) (now (tables2 .exit)) (now (seen2 .exit)) (now (places2 .exit))) ⌝ }
+        → indexLeft (r .first) (now (tables .exit)) (now (seen .exit)) (now (places .exit))
+        ≡ indexLeft (r .second) (now (tables2 .exit)) (now (seen2 .exit)) (now (places2 .exit))) ⌝ }
 {
     let first = survey::index(file, tables, seen, places);
     let mut place = 0u32;
@@ -99,8 +101,8 @@ pub fn open_across(
     edges2: &mut [u32],
 ) -> Openings
     ensures { λ r. ⌜ (now (tables .entry) ≡ now (tables2 .entry) → now (seen .entry) ≡ now (seen2 .entry) → now (sheet .entry) ≡ now (sheet2 .entry) → now (edges .entry) ≡ now (edges2 .entry)
-        → flat.outcome (r .first) (now (tables .exit)) (now (seen .exit)) (now (sheet .exit)) (now (edges .exit))
-        ≡ flat.outcome (r .second) (now (tables2 .exit)) (now (seen2 .exit)) (now (sheet2 .exit)) (now (edges2 .exit))) ⌝ }
+        → left (r .first) (now (tables .exit)) (now (seen .exit)) (now (sheet .exit)) (now (edges .exit))
+        ≡ left (r .second) (now (tables2 .exit)) (now (seen2 .exit)) (now (sheet2 .exit)) (now (edges2 .exit))) ⌝ }
 {
     let first = opening::open_flat(file, number, tables, seen, sheet, edges);
     let second = hraunlik::hraunlik_open(file, number, tables2, seen2, sheet2, edges2);
@@ -116,7 +118,8 @@ pub fn open_at_across(
     edges2: &mut [u32],
 ) -> Openings
     ensures { λ r. ⌜ (now (sheet .entry) ≡ now (sheet2 .entry) → now (edges .entry) ≡ now (edges2 .entry)
-        → flat.outcomeAt (r .first) (now (sheet .exit)) (now (edges .exit)) ≡ flat.outcomeAt (r .second) (now (sheet2 .exit)) (now (edges2 .exit))) ⌝ }
+        → leftThere (r .first) (now (sheet .exit)) (now (edges .exit))
+        ≡ leftThere (r .second) (now (sheet2 .exit)) (now (edges2 .exit))) ⌝ }
 {
     let first = opening::open_flat_at(file, place, sheet, edges);
     let second = hraunlik::hraunlik_open_at(file, place, sheet2, edges2);
@@ -144,8 +147,8 @@ pub fn write_across(
 ) -> Writings
     ensures { λ r. ⌜ (now (output .entry) ≡ now (output2 .entry) → now (tables .entry) ≡ now (tables2 .entry) → now (seen .entry) ≡ now (seen2 .entry)
         → now (sheet .entry) ≡ now (sheet2 .entry) → now (edges .entry) ≡ now (edges2 .entry)
-        → tidy.outcome (r .first) (now (tables .exit)) (now (seen .exit)) (now (sheet .exit)) (now (edges .exit)) (now (output .exit))
-        ≡ tidy.outcome (r .second) (now (tables2 .exit)) (now (seen2 .exit)) (now (sheet2 .exit)) (now (edges2 .exit)) (now (output2 .exit))) ⌝ }
+        → textLeft (r .first) (now (tables .exit)) (now (seen .exit)) (now (sheet .exit)) (now (edges .exit)) (now (output .exit))
+        ≡ textLeft (r .second) (now (tables2 .exit)) (now (seen2 .exit)) (now (sheet2 .exit)) (now (edges2 .exit)) (now (output2 .exit))) ⌝ }
 {
     let first = writing::write_flat(file, output, tables, seen, sheet, edges);
     let mut place = 0u32;

@@ -13,9 +13,8 @@ use Rattle.rules.specs.Sheets.{sentenceSheet, EdgeRecord, edgeList}
 use Rattle.rules.specs.Survey.{surveyOf}
 use Rattle.rules.specs.Opening.{sentenceOf, Opened, allFit, afterOpening}
 use Rattle.rules.specs.Cutting.{endedWithin}
-use Rattle.opening.specs.Promise.{OpenedFlatAt}
 use Rattle.demands.specs.Surveying.{numberOf}
-use Rattle.opened_demands.specs.Calls.{nothing, openedWith}
+use Rattle.opened_demands.specs.Calls.{LeftThere, nothing, openedWith}
 
 -- this outcome gives the sentence s
 pub record Gives (s : Sentence) (o : Opened) : Type 0 where
@@ -35,7 +34,7 @@ Unchanged f n x =
     Each (λ (h : Handed). Opens f (numberOf h) (h .sentence) × Opens (take n f ++ x) (numberOf h) (h .sentence)) (endedWithin n (surveyOf f .handed))
 
 -- a sentence opened in its file, and in the file's first n bytes with x behind them
-pub record CutAlike (h : Handed) (n : ℕ) (x : List ℕ) (before after : OpenedFlatAt) : Type 0 where
+pub record CutAlike (h : Handed) (n : ℕ) (x : List ℕ) (before after : LeftThere) : Type 0 where
   pub whole : before ≡ openedWith (h .sentence)
   pub kept : h .end ≤ n → after ≡ before
   pub lost : x ≡ [] → n < h .end → after ≡ nothing

@@ -8,9 +8,9 @@ ghost use Rattle.rules.specs.Numbers.{fileLimit};
 ghost use Rattle.rules.specs.Reading.{Handed};
 ghost use Rattle.rules.specs.Survey.{surveyOf};
 ghost use Rattle.rules.specs.LentBuffers.{WithinLimit};
-ghost use Rattle.opening.specs.Promise.{outcome, afterOpeningFlat, outcomeAt, afterOpeningFlatAt};
 ghost use Rattle.demands.specs.Surveying.{surveying, Readable, Promised};
-ghost use Rattle.opened_demands.specs.Calls.{FlatSized, AllFlatSized};
+ghost use Rattle.opened_demands.specs.Calls.{FlatSized, AllFlatSized, left, leftThere};
+ghost use Rattle.opened_demands.specs.OpenedRules.{OpenedByNumber, OpenedAtPlace};
 ghost use Rattle.cut_demands.specs.Cutting.{Restored, SoundAlone};
 ghost use Rattle.cut_demands.specs.Opening.{CutAlike};
 use survey::Surveyed;
@@ -80,13 +80,18 @@ pub fn cut_opened(
     sheet2: &mut [u32],
     edges2: &mut [u32],
 ) -> Openings
-    ensures alike { λ r. ⌜ ((n : ℕ) (x : List ℕ) (front : List Handed) (h : Handed) (back : List Handed) → n ≤ length (now (file .entry)) → WithinLimit (now (file .entry))
+    ensures alike { λ r. ⌜ ((n : ℕ) (x : List ℕ) (front : List Handed) (h : Handed) (back : List Handed)
+        → n ≤ length (now (file .entry)) → WithinLimit (now (file .entry))
         → now (restored .entry) ≡ take n (now (file .entry)) ++ x → WithinLimit (now (restored .entry))
         → surveyOf (now (file .entry)) .handed ≡ front ++ (h ∷ back) → h .sentence .heading .number ≡ number
-        → AllFlatSized (now (tables .entry)) (now (seen .entry)) (now (sheet .entry)) (now (edges .entry)) → AllFlatSized (now (tables2 .entry)) (now (seen2 .entry)) (now (sheet2 .entry)) (now (edges2 .entry))
-        → CutAlike h n x (outcomeAt (r .first) (now (sheet .exit)) (now (edges .exit))) (outcomeAt (r .second) (now (sheet2 .exit)) (now (edges2 .exit)))) ⌝ }
-    ensures whole { λ r. ⌜ outcome (r .first) (now (tables .exit)) (now (seen .exit)) (now (sheet .exit)) (now (edges .exit)) ≡ afterOpeningFlat (now (file .entry)) number (now (tables .entry)) (now (seen .entry)) (now (sheet .entry)) (now (edges .entry)) ⌝ }
-    ensures after { λ r. ⌜ outcome (r .second) (now (tables2 .exit)) (now (seen2 .exit)) (now (sheet2 .exit)) (now (edges2 .exit)) ≡ afterOpeningFlat (now (restored .entry)) number (now (tables2 .entry)) (now (seen2 .entry)) (now (sheet2 .entry)) (now (edges2 .entry)) ⌝ }
+        → AllFlatSized (now (tables .entry)) (now (seen .entry)) (now (sheet .entry)) (now (edges .entry))
+        → AllFlatSized (now (tables2 .entry)) (now (seen2 .entry)) (now (sheet2 .entry)) (now (edges2 .entry))
+        → CutAlike h n x (leftThere (r .first) (now (sheet .exit)) (now (edges .exit)))
+        (leftThere (r .second) (now (sheet2 .exit)) (now (edges2 .exit)))) ⌝ }
+    ensures whole { λ r. ⌜ OpenedByNumber (now (file .entry)) number (now (tables .entry)) (now (seen .entry)) (now (sheet .entry)) (now (edges .entry))
+        (left (r .first) (now (tables .exit)) (now (seen .exit)) (now (sheet .exit)) (now (edges .exit))) ⌝ }
+    ensures after { λ r. ⌜ OpenedByNumber (now (restored .entry)) number (now (tables2 .entry)) (now (seen2 .entry)) (now (sheet2 .entry)) (now (edges2 .entry))
+        (left (r .second) (now (tables2 .exit)) (now (seen2 .exit)) (now (sheet2 .exit)) (now (edges2 .exit))) ⌝ }
 {
     let first = opening::open_flat(file, number, tables, seen, sheet, edges);
     let second = opening::open_flat(restored, number, tables2, seen2, sheet2, edges2);
@@ -107,9 +112,12 @@ pub fn cut_opened_at(
         → now (restored .entry) ≡ take n (now (file .entry)) ++ x → WithinLimit (now (restored .entry))
         → surveyOf (now (file .entry)) .handed ≡ front ++ (h ∷ back) → h .sentence .start ≡ place
         → FlatSized (now (sheet .entry)) (now (edges .entry)) → FlatSized (now (sheet2 .entry)) (now (edges2 .entry))
-        → CutAlike h n x (outcomeAt (r .first) (now (sheet .exit)) (now (edges .exit))) (outcomeAt (r .second) (now (sheet2 .exit)) (now (edges2 .exit)))) ⌝ }
-    ensures whole { λ r. ⌜ outcomeAt (r .first) (now (sheet .exit)) (now (edges .exit)) ≡ afterOpeningFlatAt (now (file .entry)) place (now (sheet .entry)) (now (edges .entry)) ⌝ }
-    ensures after { λ r. ⌜ outcomeAt (r .second) (now (sheet2 .exit)) (now (edges2 .exit)) ≡ afterOpeningFlatAt (now (restored .entry)) place (now (sheet2 .entry)) (now (edges2 .entry)) ⌝ }
+        → CutAlike h n x (leftThere (r .first) (now (sheet .exit)) (now (edges .exit)))
+        (leftThere (r .second) (now (sheet2 .exit)) (now (edges2 .exit)))) ⌝ }
+    ensures whole { λ r. ⌜ OpenedAtPlace (now (file .entry)) place (now (sheet .entry)) (now (edges .entry))
+        (leftThere (r .first) (now (sheet .exit)) (now (edges .exit))) ⌝ }
+    ensures after { λ r. ⌜ OpenedAtPlace (now (restored .entry)) place (now (sheet2 .entry)) (now (edges2 .entry))
+        (leftThere (r .second) (now (sheet2 .exit)) (now (edges2 .exit))) ⌝ }
 {
     let first = opening::open_flat_at(file, place, sheet, edges);
     let second = opening::open_flat_at(restored, place, sheet2, edges2);

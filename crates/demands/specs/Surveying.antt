@@ -8,10 +8,9 @@ use Rattle.rules.specs.Lists.{Each}
 use Rattle.rules.specs.Numbers.{fileLimit}
 use Rattle.rules.specs.Reading.{Handed, numbers}
 use Rattle.rules.specs.Sheets.{tableSheet, seenSet, sentenceSheet}
-use Rattle.rules.specs.Survey.{lastEnd, surveyOf, told, nothingRead, sheetsFit, afterSurvey}
+use Rattle.rules.specs.Survey.{lastEnd, surveyOf, Told, sheetsFit, afterSurvey}
 use Rattle.rules.specs.Climbing.{Resolves, parentIn, parentOn, EveryChainClimbs}
 use Rattle.seen.specs.Bits.{bitAt}
-use Rattle.survey.specs.Promise.{outcome, asSurveyed}
 use Rattle.survey.specs.declared.Surveyed.{Surveyed}
 
 -- the number of a sentence handed out
@@ -31,9 +30,13 @@ abbrev pub surveying : List ℕ → List ℕ → List ℕ → Surveyed → List 
 surveying file tables seen answer tablesLeft seenLeft =
     record { file = file; tables = tables; seen = seen; answer = answer; tablesLeft = tablesLeft; seenLeft = seenLeft }
 
+-- an answer as the rules have it
+abbrev pub toldBy : Surveyed → Told
+toldBy r = record { refusal = r .refusal; place = r .place; sentences = r .sentences; soundEnd = r .«sound_end» }
+
 -- the outcome is the one that the rules define; there is no other
 abbrev pub Promised : Surveying → Type 0
-Promised c = outcome (c .answer) (c .tablesLeft) (c .seenLeft) ≡ afterSurvey (c .file) (c .tables) (c .seen)
+Promised c = record { answer = toldBy (c .answer); tables = c .tablesLeft; seen = c .seenLeft } ≡ afterSurvey (c .file) (c .tables) (c .seen)
 
 -- both buffers lent have their fixed sizes, and the file is no longer than the limit
 pub record Readable (file tables seen : List ℕ) : Type 0 where
@@ -52,7 +55,7 @@ pub record SameOutcome (c d : Surveying) : Type 0 where
 
 -- refused by a number before anything was read: place, sentences and sound end are 0, and no buffer has changed
 pub record Untouched (c : Surveying) (n : ℕ) : Type 0 where
-  pub answer : c .answer ≡ asSurveyed (told (nothingRead n))
+  pub answer : c .answer ≡ record { refusal = n; place = 0; sentences = 0; «sound_end» = 0 }
   pub tables : c .tablesLeft ≡ c .tables
   pub seen : c .seenLeft ≡ c .seen
 

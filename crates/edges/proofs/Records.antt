@@ -10,9 +10,10 @@ use lib.ListN.{length, drop, getD, drop-of-length-le}
 use lib.Seq.{getD-drop, drop-drop}
 use Rattle.rules.specs.Lists.{pick, counting}
 use Rattle.rules.specs.Sheets.{EdgeRecord}
+use Rattle.rules.specs.Layout.{flatList}
 use Rattle.rules.proofs.Elements.{map-map}
 use Rattle.opening.proofs.Flattened.{length-flat}
-use Rattle.opening.specs.FlatLists.{flat, firstRecord, edgeRecords}
+use Rattle.opening.specs.FlatLists.{firstRecord, edgeRecords}
 use Rattle.edges.specs.declared.Edge.{Edge}
 use Rattle.edges.specs.Edges.{edgeAt, firstEdges, filledBy}
 use Rattle.edges.specs.Promise.{asRecord, asRecords}
@@ -57,8 +58,8 @@ records-made : (count : ℕ) (ns : List ℕ) → asRecords (firstEdges ns count)
 unfolding asRecords firstEdges
 records-made count ns = map-map asRecord (edgeAt ns) (counting 0 count) ∙ made count 0 ns
 
-pub records-back : (es : List EdgeRecord) → edgeRecords (length es) (flat es) ≡ es
-unfolding edgeRecords flat
+pub records-back : (es : List EdgeRecord) → edgeRecords (length es) (flatList es) ≡ es
+unfolding edgeRecords flatList
 records-back [] = refl
 records-back (e ∷ es) = ap (λ (l : List EdgeRecord). e ∷ l) (records-back es)
 
@@ -68,11 +69,11 @@ none-filled : (ns : List ℕ) (ys zs : List Edge) (k : ℕ) → k ≡ 0 → zs �
 unfolding firstEdges
 none-filled ns ys zs k e full = ap asRecords (full ∙ ap (λ (m : ℕ). firstEdges ns m ++ drop m ys) e)
 
-all-filled : (es : List EdgeRecord) (ns : List ℕ) (ys zs : List Edge) (k : ℕ) → k ≡ 512 → length ys ≡ 512 → ns ≡ flat es → length es ≡ 512
+all-filled : (es : List EdgeRecord) (ns : List ℕ) (ys zs : List Edge) (k : ℕ) → k ≡ 512 → length ys ≡ 512 → ns ≡ flatList es → length es ≡ 512
     → zs ≡ firstEdges ns k ++ drop k ys → asRecords zs ≡ es
 all-filled es ns ys zs k e l q m full =
     ap asRecords (full ∙ ap (λ (j : ℕ). firstEdges ns j ++ drop j ys) e ∙ ap (λ (r : List Edge). firstEdges ns 512 ++ r) (drop-of-length-le ys {i = 512} (omega (arith, l))) ∙ append-nil (firstEdges ns 512))
-    ∙ records-made 512 ns ∙ ap (edgeRecords 512) q ∙ ap (λ (j : ℕ). edgeRecords j (flat es)) (sym m) ∙ records-back es
+    ∙ records-made 512 ns ∙ ap (edgeRecords 512) q ∙ ap (λ (j : ℕ). edgeRecords j (flatList es)) (sym m) ∙ records-back es
 
 twice-tested : (b c : Bool) → (_≡_ {A = ℕ} (pick b 0 (pick c 0 512)) 0) ⊎ (_≡_ {A = ℕ} (pick b 0 (pick c 0 512)) 512)
 twice-tested true c = inl refl
@@ -80,11 +81,11 @@ twice-tested false true = inl refl
 twice-tested false false = inr refl
 
 -- after 1 and 2 the list is as it was, after every other answer it is that of the numbers
-pub filled-list : (r k : ℕ) (es : List EdgeRecord) (ns : List ℕ) (ys zs : List Edge) → k ≡ filledBy r → length ys ≡ 512 → ns ≡ flat es → length ns ≡ 2048
+pub filled-list : (r k : ℕ) (es : List EdgeRecord) (ns : List ℕ) (ys zs : List Edge) → k ≡ filledBy r → length ys ≡ 512 → ns ≡ flatList es → length ns ≡ 2048
     → zs ≡ firstEdges ns k ++ drop k ys → asRecords zs ≡ pick (eqb (filledBy r) 0) (asRecords ys) es
 filled-list r k es ns ys zs ck l q m full = elim (twice-tested (eqb r 1) (eqb r 2)) [
   | inl e ↦ none-filled ns ys zs k (ck ∙ e) full ∙ ap (λ (j : ℕ). pick (eqb j 0) (asRecords ys) es) (sym e)
   | inr e ↦
-      (let n : length es ≡ 512 = (let h : length (flat es) ≡ 4 * length es = length-flat es in let g : length ns ≡ length (flat es) = ap length q in omega (arith, h, g, m)) in
+      (let n : length es ≡ 512 = (let h : length (flatList es) ≡ 4 * length es = length-flat es in let g : length ns ≡ length (flatList es) = ap length q in omega (arith, h, g, m)) in
       all-filled es ns ys zs k (ck ∙ e) l q n full) ∙ ap (λ (j : ℕ). pick (eqb j 0) (asRecords ys) es) (sym e)
 ]

@@ -5,11 +5,10 @@ ghost use lib.ListN.{getD};
 ghost use Rattle.rules.specs.Index.{afterIndexing};
 ghost use Rattle.rules.specs.LentBuffers.{WithinLimit};
 ghost use Rattle.rules.specs.IndexRules.{IndexSized};
-ghost use Rattle.survey.specs.Promise.{indexed};
 ghost use Rattle.demands.specs.Surveying.{surveying, Readable, SameOutcome};
-ghost use Rattle.opening.specs.Promise.{outcome, afterOpeningFlat, outcomeAt};
-ghost use Rattle.opened_demands.specs.Calls.{FlatSized, AllFlatSized};
-ghost use Rattle.indexed_demands.specs.Entries.{afterEntry, SameThere};
+ghost use Rattle.opened_demands.specs.Calls.{FlatSized, AllFlatSized, left, leftThere};
+ghost use Rattle.opened_demands.specs.OpenedRules.{OpenedByNumber};
+ghost use Rattle.indexed_demands.specs.Entries.{indexLeft, OpenedAtEntry, SameThere};
 use survey::Surveyed;
 
 // The answers of two surveys, or of two indexes.
@@ -49,9 +48,12 @@ pub fn indexed_twice(
     places2: &mut [u32],
 ) -> Two
     ensures only { λ r. ⌜ (now (tables .entry) ≡ now (tables2 .entry) → now (seen .entry) ≡ now (seen2 .entry) → now (places .entry) ≡ now (places2 .entry)
-        → indexed (r .first) (now (tables .exit)) (now (seen .exit)) (now (places .exit)) ≡ indexed (r .second) (now (tables2 .exit)) (now (seen2 .exit)) (now (places2 .exit))) ⌝ }
-    ensures fresh { λ r. ⌜ (WithinLimit (now (file .entry)) → IndexSized (now (tables .entry)) (now (seen .entry)) (now (places .entry)) → IndexSized (now (tables2 .entry)) (now (seen2 .entry)) (now (places2 .entry))
-        → indexed (r .first) (now (tables .exit)) (now (seen .exit)) (now (places .exit)) ≡ indexed (r .second) (now (tables2 .exit)) (now (seen2 .exit)) (now (places2 .exit))) ⌝ }
+        → indexLeft (r .first) (now (tables .exit)) (now (seen .exit)) (now (places .exit))
+        ≡ indexLeft (r .second) (now (tables2 .exit)) (now (seen2 .exit)) (now (places2 .exit))) ⌝ }
+    ensures fresh { λ r. ⌜ (WithinLimit (now (file .entry)) → IndexSized (now (tables .entry)) (now (seen .entry)) (now (places .entry))
+        → IndexSized (now (tables2 .entry)) (now (seen2 .entry)) (now (places2 .entry))
+        → indexLeft (r .first) (now (tables .exit)) (now (seen .exit)) (now (places .exit))
+        ≡ indexLeft (r .second) (now (tables2 .exit)) (now (seen2 .exit)) (now (places2 .exit))) ⌝ }
 {
     let first = survey::index(file, tables, seen, places);
     let second = survey::index(file, tables2, seen2, places2);
@@ -69,7 +71,7 @@ fn entry_of(places: &[u32], number: u32) -> u32
 }
 
 fn open_entry(file: &[u8], entry: u32, sheet: &mut [u32], edges: &mut [u32]) -> u32
-    ensures { λ r. ⌜ outcomeAt r (now (sheet .exit)) (now (edges .exit)) ≡ afterEntry (now (file .entry)) entry (now (sheet .entry)) (now (edges .entry)) ⌝ }
+    ensures { λ r. ⌜ OpenedAtEntry (now (file .entry)) entry (now (sheet .entry)) (now (edges .entry)) (leftThere r (now (sheet .exit)) (now (edges .exit))) ⌝ }
 {
     if entry == 0 {
         return 24;
@@ -101,11 +103,15 @@ pub fn by_index(
 ) -> There
     ensures same { λ r. ⌜ (WithinLimit (now (file .entry)) → IndexSized (now (tables .entry)) (now (seen .entry)) (now (places .entry))
         → AllFlatSized (now (tables2 .entry)) (now (seen2 .entry)) (now (sheet .entry)) (now (edges .entry)) → FlatSized (now (sheet2 .entry)) (now (edges2 .entry))
-        → SameThere (r .entry) (outcomeAt (r .«by_number») (now (sheet .exit)) (now (edges .exit))) (outcomeAt (r .«at_entry») (now (sheet2 .exit)) (now (edges2 .exit)))) ⌝ }
-    ensures index { λ r. ⌜ indexed (r .told) (now (tables .exit)) (now (seen .exit)) (now (places .exit)) ≡ afterIndexing (now (file .entry)) (now (tables .entry)) (now (seen .entry)) (now (places .entry)) ⌝ }
+        → SameThere (r .entry) (leftThere (r .«by_number») (now (sheet .exit)) (now (edges .exit)))
+        (leftThere (r .«at_entry») (now (sheet2 .exit)) (now (edges2 .exit)))) ⌝ }
+    ensures index { λ r. ⌜ indexLeft (r .told) (now (tables .exit)) (now (seen .exit)) (now (places .exit))
+        ≡ afterIndexing (now (file .entry)) (now (tables .entry)) (now (seen .entry)) (now (places .entry)) ⌝ }
     ensures entry { λ r. ⌜ r .entry ≡ getD (now (places .exit)) number 0 ⌝ }
-    ensures number { λ r. ⌜ outcome (r .«by_number») (now (tables2 .exit)) (now (seen2 .exit)) (now (sheet .exit)) (now (edges .exit)) ≡ afterOpeningFlat (now (file .entry)) number (now (tables2 .entry)) (now (seen2 .entry)) (now (sheet .entry)) (now (edges .entry)) ⌝ }
-    ensures there { λ r. ⌜ outcomeAt (r .«at_entry») (now (sheet2 .exit)) (now (edges2 .exit)) ≡ afterEntry (now (file .entry)) (r .entry) (now (sheet2 .entry)) (now (edges2 .entry)) ⌝ }
+    ensures number { λ r. ⌜ OpenedByNumber (now (file .entry)) number (now (tables2 .entry)) (now (seen2 .entry)) (now (sheet .entry)) (now (edges .entry))
+        (left (r .«by_number») (now (tables2 .exit)) (now (seen2 .exit)) (now (sheet .exit)) (now (edges .exit))) ⌝ }
+    ensures there { λ r. ⌜ OpenedAtEntry (now (file .entry)) (r .entry) (now (sheet2 .entry)) (now (edges2 .entry))
+        (leftThere (r .«at_entry») (now (sheet2 .exit)) (now (edges2 .exit))) ⌝ }
 {
     let told = survey::index(file, tables, seen, places);
     let entry = entry_of(places, number);

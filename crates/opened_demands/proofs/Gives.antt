@@ -15,15 +15,16 @@ use Rattle.rules.specs.Survey.{Survey, surveyOf, fileFits}
 use Rattle.rules.specs.Index.{beginning}
 use Rattle.rules.specs.SentenceFrom.{sentenceFrom}
 use Rattle.rules.specs.Opening.{Opened, OpenedAt, sentenceOf, allFit, sentenceFits, opened, openedAs, afterOpening, afterOpeningAt}
+use Rattle.rules.specs.Layout.{flatList}
 use Rattle.rules.proofs.AtIndex.{at-index, not-at-index}
-use Rattle.opening.specs.FlatLists.{flat, edgeRecords, flatSize}
+use Rattle.opening.specs.FlatLists.{edgeRecords, flatSize}
 use Rattle.opening.specs.Promise.{OpenedFlat, flattened, afterOpeningFlat, OpenedFlatAt, flattenedAt, afterOpeningFlatAt}
 
 pub record Given (o : Option Sentence) (sheet edges : List ℕ) : Type 0 where
   pub s : Sentence
   pub its : o ≡ some s
   pub sheet-is : sheet ≡ sentenceSheet s
-  pub edges-are : edges ≡ flat (edgeList s)
+  pub edges-are : edges ≡ flatList (edgeList s)
 
 -- ---- by the sentence's number
 

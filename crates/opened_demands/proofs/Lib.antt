@@ -1,3 +1,4 @@
 pub mod Gives
-pub mod SheetsClimb
 pub mod Outcomes
+pub mod SheetsClimb
+pub mod AsRules

@@ -1,12 +1,12 @@
 -- Of every sentence that begins at a place, of any file: parents and chains on its sheet, and the parents in its list of edges.
-use Prim.Native.Nat.{ℕ, zero, suc, _+_, _-_, _<_}
+use Prim.Native.Nat.{ℕ, zero, suc, _+_, _-_, _*_, _≤_, _<_}
 use native.Mathlib.Omega.{arith}
 use mathlib.Core.Path.{_≡_, refl, sym, ap, _∙_, subst}
 use mathlib.Core.Logic.{_⊎_, inl, inr}
 use mathlib.Core.Bool.{true, _&&_}
 use mathlib.Core.Option.{some}
 use mathlib.Core.List.{List, [], _∷_, map}
-use lib.ListN.{length, replicate}
+use lib.ListN.{length, getD, replicate, length-append, length-replicate}
 use lib.Dec.{leb}
 use borrow.Author.Tests.{leb-true}
 use Rattle.rules.specs.Lists.{joined, Each}
@@ -17,6 +17,7 @@ use Rattle.rules.specs.Sheets.{nodes, sentenceSheet, EdgeRecord, noEdge, edgeRe
 use Rattle.rules.specs.Climbing.{parentIn, parentOn, Climbs}
 use Rattle.rules.specs.SentenceFrom.{sentenceFrom}
 use Rattle.rules.specs.BeginsThere.{OtherPhrase, ParentsStand}
+use Rattle.rules.specs.Layout.{zeroRecord, flatList, RecordLaid}
 use Rattle.rules.proofs.Conjunctions.{and-left, and-right}
 use Rattle.rules.proofs.EachElement.{each-then, each-joined, each-map}
 use Rattle.rules.proofs.NoGap.{listed-is}
@@ -25,19 +26,19 @@ use Rattle.rules.proofs.Climbable.{Climbable}
 use Rattle.rules.proofs.Chains.{ZeroOrAbove, climbed-same, climbs-same}
 use Rattle.rules.proofs.ParentsClimb.{parent-above, sentence-climbs}
 use Rattle.rules.proofs.ParentsOnSheet.{parent-in-room, parent-on-sheet}
+use Rattle.rules.proofs.FlatLaid.{flat-laid}
 use Rattle.rules.proofs.BeginsThere.{its-climbing, stands-there}
-use Rattle.opening.specs.FlatLists.{flat, edgeRecords}
-use Rattle.opening.specs.Promise.{OpenedFlat, afterOpeningFlat, OpenedFlatAt, afterOpeningFlatAt}
 use Rattle.opened_demands.specs.ClimbingSheets.{phrasesOn, PhraseAboveOn, OtherPhraseOn, SheetClimbs}
 use Rattle.opened_demands.proofs.Gives.{Given, zero-gives, begins-somewhere, zero-gives-at}
+use Rattle.opened_demands.specs.Calls.{Left, LeftThere}
+use Rattle.opened_demands.proofs.Outcomes.{afterFlat, afterFlatAt}
 
--- ---- records lent as numbers, zeros behind them
+-- ---- each record of a list
 
-each-record : (P : EdgeRecord → Type 0) → P noEdge → (count : ℕ) (es : List EdgeRecord) → Each P es → Each P (edgeRecords count (flat es))
-unfolding edgeRecords flat
-each-record P z zero es a = tt
-each-record P z (suc count) [] a = (z, each-record P z count [] tt)
-each-record P z (suc count) (e ∷ es) a = (a .0, each-record P z count es (a .1))
+each-at : (P : EdgeRecord → Type 0) (es : List EdgeRecord) (k : ℕ) → k < length es → Each P es → P (getD es k zeroRecord)
+each-at P [] k h a = absurd (omega (arith, h))
+each-at P (e ∷ es) zero h a = a .0
+each-at P (e ∷ es) (suc k) h a = each-at P es k (omega (arith, h)) (a .1)
 
 each-same : (P : EdgeRecord → Type 0) (e : EdgeRecord) → P e → (count : ℕ) → Each P (replicate count e)
 each-same P e p zero = tt
@@ -107,22 +108,40 @@ module _ (file : List ℕ) (at : ℕ) (s : Sentence) (e : sentenceFrom file at �
       let zeros = edgeLimit - length theirs in
       each-joined EdgeThere theirs (replicate zeros noEdge) (edges-there (nodes s) (stands-there file at s e .parents)) (each-same EdgeThere noEdge (inl refl) zeros)
 
-  pub sheet-climbs : SheetClimbs sheet (flat (edgeList s))
-  sheet-climbs = record { parents = zero-or-above; chains = climbs-from; secondary = each-record EdgeThere (inl refl) edgeLimit (edgeList s) list-there }
+  list-long : edgeLimit ≤ length (edgeList s)
+  unfolding edgeList
+  list-long =
+      let zeros = edgeLimit - length theirs in
+      omega (arith, length-append theirs (replicate zeros noEdge), length-replicate zeros noEdge)
+
+  -- of the four numbers of a record
+  four-there : (k : ℕ) (e : EdgeRecord) → RecordLaid (flatList (edgeList s)) k e → EdgeThere e
+      → RecordLaid (flatList (edgeList s)) k zeroRecord ⊎ OtherPhraseOn sheet (getD (flatList (edgeList s)) (4 * k + 0) 0) (getD (flatList (edgeList s)) (4 * k + 3) 0)
+  four-there k e laid (inl z) = inl (subst (RecordLaid (flatList (edgeList s)) k) z laid)
+  four-there k e laid (inr o) = inr (rw (laid .child, laid .parent) o)
+
+  secondary-there : (k : ℕ) → k < 512
+      → RecordLaid (flatList (edgeList s)) k zeroRecord ⊎ OtherPhraseOn sheet (getD (flatList (edgeList s)) (4 * k + 0) 0) (getD (flatList (edgeList s)) (4 * k + 3) 0)
+  secondary-there k h =
+      let inside : k < length (edgeList s) = omega (arith, h, list-long) in
+      four-there k (getD (edgeList s) k zeroRecord) (flat-laid (edgeList s) .each k inside) (each-at EdgeThere (edgeList s) k inside list-there)
+
+  pub sheet-climbs : SheetClimbs sheet (flatList (edgeList s))
+  sheet-climbs = record { parents = zero-or-above; chains = climbs-from; secondary = secondary-there }
 
 -- ---- as opened
 
 pub climbs-as-given : (file : List ℕ) (at : ℕ) (sheet edges : List ℕ) → Given (sentenceFrom file at) sheet edges → SheetClimbs sheet edges
 climbs-as-given file at sheet edges g = rw (g .sheet-is, g .edges-are) (sheet-climbs file at (g .s) (g .its))
 
-pub climbs-by-number : (file : List ℕ) (n : ℕ) (tables seen sheet edges : List ℕ) (left : OpenedFlat)
-    → left ≡ afterOpeningFlat file n tables seen sheet edges → left .answer ≡ 0 → SheetClimbs (left .sheet) (left .edges)
+pub climbs-by-number : (file : List ℕ) (n : ℕ) (tables seen sheet edges : List ℕ) (left : Left)
+    → left ≡ afterFlat file n tables seen sheet edges → left .answer ≡ 0 → SheetClimbs (left .sheet) (left .edges)
 climbs-by-number file n tables seen sheet edges left p z =
-    let g = zero-gives file n tables seen sheet edges (sym (ap (λ (o : OpenedFlat). o .answer) p) ∙ z) in
+    let g = zero-gives file n tables seen sheet edges (sym (ap (λ (o : Left). o .answer) p) ∙ z) in
     let b = begins-somewhere file n (g .s) (g .its) in
     rw (p) (climbs-as-given file (b .0) _ _ (record { s = g .s; its = b .1; sheet-is = g .sheet-is; edges-are = g .edges-are }))
 
-pub climbs-at-place : (file : List ℕ) (at : ℕ) (sheet edges : List ℕ) (left : OpenedFlatAt)
-    → left ≡ afterOpeningFlatAt file at sheet edges → left .answer ≡ 0 → SheetClimbs (left .sheet) (left .edges)
+pub climbs-at-place : (file : List ℕ) (at : ℕ) (sheet edges : List ℕ) (left : LeftThere)
+    → left ≡ afterFlatAt file at sheet edges → left .answer ≡ 0 → SheetClimbs (left .sheet) (left .edges)
 climbs-at-place file at sheet edges left p z =
-    rw (p) (climbs-as-given file at _ _ (zero-gives-at file at sheet edges (sym (ap (λ (o : OpenedFlatAt). o .answer) p) ∙ z)))
+    rw (p) (climbs-as-given file at _ _ (zero-gives-at file at sheet edges (sym (ap (λ (o : LeftThere). o .answer) p) ∙ z)))

@@ -1,2 +1,3 @@
 pub mod ClimbingSheets
 pub mod Calls
+pub mod OpenedRules

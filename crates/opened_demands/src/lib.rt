@@ -2,9 +2,9 @@
 // is required of what is lent.
 ghost use mathlib.Core.Path.{_≡_};
 ghost use Rattle.rules.specs.LentBuffers.{WithinLimit};
-ghost use Rattle.opening.specs.Promise.{outcome, afterOpeningFlat, outcomeAt, afterOpeningFlatAt};
 ghost use Rattle.opened_demands.specs.ClimbingSheets.{SheetClimbs};
-ghost use Rattle.opened_demands.specs.Calls.{FlatSized, AllFlatSized};
+ghost use Rattle.opened_demands.specs.Calls.{FlatSized, AllFlatSized, left, leftThere};
+ghost use Rattle.opened_demands.specs.OpenedRules.{OpenedByNumber, OpenedAtPlace};
 
 // The answers of two openings.
 pub struct Two {
@@ -26,10 +26,12 @@ pub fn opened_twice(
     edges2: &mut [u32],
 ) -> Two
     ensures only { λ r. ⌜ (now (tables .entry) ≡ now (tables2 .entry) → now (seen .entry) ≡ now (seen2 .entry) → now (sheet .entry) ≡ now (sheet2 .entry) → now (edges .entry) ≡ now (edges2 .entry)
-        → outcome (r .first) (now (tables .exit)) (now (seen .exit)) (now (sheet .exit)) (now (edges .exit)) ≡ outcome (r .second) (now (tables2 .exit)) (now (seen2 .exit)) (now (sheet2 .exit)) (now (edges2 .exit))) ⌝ }
+        → left (r .first) (now (tables .exit)) (now (seen .exit)) (now (sheet .exit)) (now (edges .exit))
+        ≡ left (r .second) (now (tables2 .exit)) (now (seen2 .exit)) (now (sheet2 .exit)) (now (edges2 .exit))) ⌝ }
     ensures fresh { λ r. ⌜ (WithinLimit (now (file .entry)) → AllFlatSized (now (tables .entry)) (now (seen .entry)) (now (sheet .entry)) (now (edges .entry))
         → AllFlatSized (now (tables2 .entry)) (now (seen2 .entry)) (now (sheet2 .entry)) (now (edges2 .entry))
-        → outcome (r .first) (now (tables .exit)) (now (seen .exit)) (now (sheet .exit)) (now (edges .exit)) ≡ outcome (r .second) (now (tables2 .exit)) (now (seen2 .exit)) (now (sheet2 .exit)) (now (edges2 .exit))) ⌝ }
+        → left (r .first) (now (tables .exit)) (now (seen .exit)) (now (sheet .exit)) (now (edges .exit))
+        ≡ left (r .second) (now (tables2 .exit)) (now (seen2 .exit)) (now (sheet2 .exit)) (now (edges2 .exit))) ⌝ }
 {
     let first = opening::open_flat(file, number, tables, seen, sheet, edges);
     let second = opening::open_flat(file, number, tables2, seen2, sheet2, edges2);
@@ -46,9 +48,9 @@ pub fn opened_at_twice(
     edges2: &mut [u32],
 ) -> Two
     ensures only { λ r. ⌜ (now (sheet .entry) ≡ now (sheet2 .entry) → now (edges .entry) ≡ now (edges2 .entry)
-        → outcomeAt (r .first) (now (sheet .exit)) (now (edges .exit)) ≡ outcomeAt (r .second) (now (sheet2 .exit)) (now (edges2 .exit))) ⌝ }
+        → leftThere (r .first) (now (sheet .exit)) (now (edges .exit)) ≡ leftThere (r .second) (now (sheet2 .exit)) (now (edges2 .exit))) ⌝ }
     ensures fresh { λ r. ⌜ (WithinLimit (now (file .entry)) → FlatSized (now (sheet .entry)) (now (edges .entry)) → FlatSized (now (sheet2 .entry)) (now (edges2 .entry))
-        → outcomeAt (r .first) (now (sheet .exit)) (now (edges .exit)) ≡ outcomeAt (r .second) (now (sheet2 .exit)) (now (edges2 .exit))) ⌝ }
+        → leftThere (r .first) (now (sheet .exit)) (now (edges .exit)) ≡ leftThere (r .second) (now (sheet2 .exit)) (now (edges2 .exit))) ⌝ }
 {
     let first = opening::open_flat_at(file, place, sheet, edges);
     let second = opening::open_flat_at(file, place, sheet2, edges2);
@@ -65,7 +67,8 @@ pub fn climbing(
     edges: &mut [u32],
 ) -> u32
     ensures climbs { λ r. ⌜ (r ≡ 0 → SheetClimbs (now (sheet .exit)) (now (edges .exit))) ⌝ }
-    ensures whole { λ r. ⌜ outcome r (now (tables .exit)) (now (seen .exit)) (now (sheet .exit)) (now (edges .exit)) ≡ afterOpeningFlat (now (file .entry)) number (now (tables .entry)) (now (seen .entry)) (now (sheet .entry)) (now (edges .entry)) ⌝ }
+    ensures whole { λ r. ⌜ OpenedByNumber (now (file .entry)) number (now (tables .entry)) (now (seen .entry)) (now (sheet .entry)) (now (edges .entry))
+        (left r (now (tables .exit)) (now (seen .exit)) (now (sheet .exit)) (now (edges .exit))) ⌝ }
 {
     opening::open_flat(file, number, tables, seen, sheet, edges)
 }
@@ -73,7 +76,7 @@ pub fn climbing(
 // Demand 2: the same at any place of any file.
 pub fn climbing_at(file: &[u8], place: u32, sheet: &mut [u32], edges: &mut [u32]) -> u32
     ensures climbs { λ r. ⌜ (r ≡ 0 → SheetClimbs (now (sheet .exit)) (now (edges .exit))) ⌝ }
-    ensures whole { λ r. ⌜ outcomeAt r (now (sheet .exit)) (now (edges .exit)) ≡ afterOpeningFlatAt (now (file .entry)) place (now (sheet .entry)) (now (edges .entry)) ⌝ }
+    ensures whole { λ r. ⌜ OpenedAtPlace (now (file .entry)) place (now (sheet .entry)) (now (edges .entry)) (leftThere r (now (sheet .exit)) (now (edges .exit))) ⌝ }
 {
     opening::open_flat_at(file, place, sheet, edges)
 }

@@ -9,9 +9,10 @@ use Rattle.rules.specs.Lists.{joined}
 use Rattle.rules.specs.Numbers.{edgeLimit}
 use Rattle.rules.specs.Sentences.{Node, Sentence}
 use Rattle.rules.specs.Sheets.{filledUp, nodes, EdgeRecord, noEdge, edgeRecord, edgeList}
+use Rattle.rules.specs.Layout.{recordNumbers, flatList}
 use Rattle.rules.proofs.Elements.{map-append, map-map, joined-append}
 use Rattle.sentence_sheet.specs.FlatEdges.{edgeWidth, edgeNumbers, edgesAmong, flatEdges}
-use Rattle.opening.specs.FlatLists.{edgeFields, flat, firstRecord, edgeRecords, flatSize}
+use Rattle.opening.specs.FlatLists.{firstRecord, edgeRecords, flatSize}
 
 -- ---- numbers taken for records, and back
 
@@ -20,28 +21,28 @@ unfolding edgeRecords
 length-records zero ns = refl
 length-records (suc count) ns = ap suc (length-records count (drop edgeWidth ns))
 
-first-four : (ns : List ℕ) → edgeWidth ≤ length ns → edgeFields (firstRecord ns) ++ drop edgeWidth ns ≡ ns
+first-four : (ns : List ℕ) → edgeWidth ≤ length ns → recordNumbers (firstRecord ns) ++ drop edgeWidth ns ≡ ns
 first-four [] h = absurd (omega arith)
 first-four (a ∷ []) h = absurd (omega arith)
 first-four (a ∷ b ∷ []) h = absurd (omega arith)
 first-four (a ∷ b ∷ c ∷ []) h = absurd (omega arith)
 first-four (a ∷ b ∷ c ∷ d ∷ ns) h = refl
 
-pub flat-records : (count : ℕ) (ns : List ℕ) → length ns ≡ edgeWidth * count → flat (edgeRecords count ns) ≡ ns
-unfolding edgeRecords flat
+pub flat-records : (count : ℕ) (ns : List ℕ) → length ns ≡ edgeWidth * count → flatList (edgeRecords count ns) ≡ ns
+unfolding edgeRecords flatList
 flat-records zero [] e = refl
 flat-records zero (n ∷ ns) e = absurd (omega arith)
 flat-records (suc count) ns e =
     let m : edgeWidth * suc count ≡ edgeWidth * count + edgeWidth = mul-suc edgeWidth count in
     let four : edgeWidth ≤ length ns = omega arith in
     let l : length (drop edgeWidth ns) ≡ edgeWidth * count = length-drop edgeWidth ns ∙ (let z : length ns - edgeWidth ≡ edgeWidth * count = omega arith in z) in
-    ap (λ (rest : List ℕ). edgeFields (firstRecord ns) ++ rest) (flat-records count (drop edgeWidth ns) l)
+    ap (λ (rest : List ℕ). recordNumbers (firstRecord ns) ++ rest) (flat-records count (drop edgeWidth ns) l)
     ∙ first-four ns four
 
 -- ---- zeros stay zeros
 
-pub flat-none : (count : ℕ) → flat (replicate count noEdge) ≡ replicate (edgeWidth * count) 0
-unfolding flat
+pub flat-none : (count : ℕ) → flatList (replicate count noEdge) ≡ replicate (edgeWidth * count) 0
+unfolding flatList
 flat-none zero = refl
 flat-none (suc count) =
     ap (λ (rest : List ℕ). 0 ∷ 0 ∷ 0 ∷ 0 ∷ rest) (flat-none count)
@@ -49,35 +50,35 @@ flat-none (suc count) =
 
 -- ---- the edges of a sentence
 
-pub length-flat : (es : List EdgeRecord) → length (flat es) ≡ edgeWidth * length es
-unfolding flat
+pub length-flat : (es : List EdgeRecord) → length (flatList es) ≡ edgeWidth * length es
+unfolding flatList
 length-flat [] = refl
 length-flat (e ∷ es) =
     ap (λ (k : ℕ). suc (suc (suc (suc k)))) (length-flat es)
     ∙ (let m : suc (suc (suc (suc (edgeWidth * length es)))) ≡ edgeWidth * suc (length es) = omega arith in m)
 
-flat-filled : (es : List EdgeRecord) → flat (filledUp edgeLimit noEdge es) ≡ filledUp flatSize 0 (flat es)
-unfolding flat
+flat-filled : (es : List EdgeRecord) → flatList (filledUp edgeLimit noEdge es) ≡ filledUp flatSize 0 (flatList es)
+unfolding flatList
 flat-filled es =
-    ap joined (map-append edgeFields es (replicate (edgeLimit - length es) noEdge))
-    ∙ joined-append (map edgeFields es) (map edgeFields (replicate (edgeLimit - length es) noEdge))
-    ∙ ap (λ (rest : List ℕ). flat es ++ rest) (flat-none (edgeLimit - length es))
-    ∙ ap (λ (k : ℕ). flat es ++ replicate k 0)
-    (let l : length (flat es) ≡ edgeWidth * length es = length-flat es in
-    let m : edgeWidth * (edgeLimit - length es) ≡ flatSize - length (flat es) = omega arith in
+    ap joined (map-append recordNumbers es (replicate (edgeLimit - length es) noEdge))
+    ∙ joined-append (map recordNumbers es) (map recordNumbers (replicate (edgeLimit - length es) noEdge))
+    ∙ ap (λ (rest : List ℕ). flatList es ++ rest) (flat-none (edgeLimit - length es))
+    ∙ ap (λ (k : ℕ). flatList es ++ replicate k 0)
+    (let l : length (flatList es) ≡ edgeWidth * length es = length-flat es in
+    let m : edgeWidth * (edgeLimit - length es) ≡ flatSize - length (flatList es) = omega arith in
     m)
 
-flat-among : (ns : List Node) → flat (joined (map (λ (n : Node). map (edgeRecord (n .number)) (n .secondary)) ns)) ≡ joined (edgesAmong ns)
-unfolding flat
+flat-among : (ns : List Node) → flatList (joined (map (λ (n : Node). map (edgeRecord (n .number)) (n .secondary)) ns)) ≡ joined (edgesAmong ns)
+unfolding flatList
 flat-among [] = refl
 flat-among (n ∷ ns) =
     let es : List EdgeRecord = map (edgeRecord (n .number)) (n .secondary) in
     let rest : List EdgeRecord = joined (map (λ (n : Node). map (edgeRecord (n .number)) (n .secondary)) ns) in
-    ap joined (map-append edgeFields es rest)
-    ∙ joined-append (map edgeFields es) (map edgeFields rest)
-    ∙ ap₂ (λ (a b : List ℕ). a ++ b) (ap joined (map-map edgeFields (edgeRecord (n .number)) (n .secondary))) (flat-among ns)
+    ap joined (map-append recordNumbers es rest)
+    ∙ joined-append (map recordNumbers es) (map recordNumbers rest)
+    ∙ ap₂ (λ (a b : List ℕ). a ++ b) (ap joined (map-map recordNumbers (edgeRecord (n .number)) (n .secondary))) (flat-among ns)
     ∙ sym (joined-append (map (edgeNumbers (n .number)) (n .secondary)) (edgesAmong ns))
 
-pub flat-list : (s : Sentence) → flat (edgeList s) ≡ flatEdges (edgesAmong (nodes s))
+pub flat-list : (s : Sentence) → flatList (edgeList s) ≡ flatEdges (edgesAmong (nodes s))
 unfolding edgeList flatEdges
 flat-list s = flat-filled _ ∙ ap (filledUp flatSize 0) (flat-among (nodes s))

@@ -15,8 +15,9 @@ use Rattle.rules.specs.Sheets.{tableSheet, seenSet, sentenceSheetSize, EdgeReco
 use Rattle.rules.specs.Survey.{Survey, surveyOf, sheetsFit, fileFits}
 use Rattle.rules.specs.SentenceFrom.{sentenceFrom}
 use Rattle.rules.specs.Opening.{sentenceOf, opened, openedAs, afterOpening, afterOpeningAt}
+use Rattle.rules.specs.Layout.{flatList}
 use Rattle.rules.proofs.Conjunctions.{and-right}
-use Rattle.opening.specs.FlatLists.{flat, edgeRecords, flatSize}
+use Rattle.opening.specs.FlatLists.{edgeRecords, flatSize}
 use Rattle.opening.specs.Promise.{allFlatFit, flatFits, OpenedFlat, flattened, afterOpeningFlat, outcome, OpenedFlatAt, flattenedAt, afterOpeningFlatAt, outcomeAt}
 use Rattle.opening.proofs.Flattened.{length-records, flat-records}
 
@@ -25,7 +26,7 @@ module _ (front : Bool) (edges : List ℕ) where
   pub records-fit : eqb (length edges) flatSize ≡ true → (front && eqb (length (edgeRecords edgeLimit edges)) edgeLimit) ≡ (front && eqb (length edges) flatSize)
   records-fit e = rw (length-records edgeLimit edges, e)
 
-back-flat : (edges : List ℕ) → eqb (length edges) flatSize ≡ true → flat (edgeRecords edgeLimit edges) ≡ edges
+back-flat : (edges : List ℕ) → eqb (length edges) flatSize ≡ true → flatList (edgeRecords edgeLimit edges) ≡ edges
 back-flat edges e = flat-records edgeLimit edges (eqb-true (length edges) flatSize e)
 
 -- ---- by the sentence's number

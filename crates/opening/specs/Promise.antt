@@ -13,7 +13,8 @@ use Rattle.rules.specs.SentenceFrom.{sentenceFrom}
 use Rattle.rules.specs.Sheets.{sentenceSheetSize}
 use Rattle.rules.specs.Survey.{sheetsFit}
 use Rattle.rules.specs.Opening.{Opened, OpenedAt, afterOpening, afterOpeningAt}
-use Rattle.opening.specs.FlatLists.{flat, edgeRecords, flatSize}
+use Rattle.rules.specs.Layout.{flatList}
+use Rattle.opening.specs.FlatLists.{edgeRecords, flatSize}
 
 -- ---- by the sentence's number
 
@@ -29,7 +30,7 @@ pub record OpenedFlat : Type 0 where
   pub edges : List ℕ
 
 abbrev pub flattened : Opened → OpenedFlat
-flattened o = record { answer = o .answer; tables = o .tables; seen = o .seen; sheet = o .sheet; edges = flat (o .edges) }
+flattened o = record { answer = o .answer; tables = o .tables; seen = o .seen; sheet = o .sheet; edges = flatList (o .edges) }
 
 unfoldable pub afterOpeningFlat : List ℕ → ℕ → List ℕ → List ℕ → List ℕ → List ℕ → OpenedFlat
 afterOpeningFlat file n tables seen sheet edges =
@@ -56,7 +57,7 @@ pub record OpenedFlatAt : Type 0 where
   pub edges : List ℕ
 
 abbrev pub flattenedAt : OpenedAt → OpenedFlatAt
-flattenedAt o = record { answer = o .answer; sheet = o .sheet; edges = flat (o .edges) }
+flattenedAt o = record { answer = o .answer; sheet = o .sheet; edges = flatList (o .edges) }
 
 unfoldable pub afterOpeningFlatAt : List ℕ → ℕ → List ℕ → List ℕ → OpenedFlatAt
 afterOpeningFlatAt file at sheet edges =

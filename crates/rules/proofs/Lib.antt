@@ -119,6 +119,7 @@ pub mod TableNumbers
 pub mod SeenBits
 pub mod SentenceNumbers
 pub mod LaidOut
+pub mod FlatLaid
 pub mod NoFault
 pub mod ByLines
 pub mod TextPlaces

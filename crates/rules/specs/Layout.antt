@@ -4,7 +4,7 @@ use Prim.Native.Nat.{ℕ, _+_, _*_, _/_, _%_, _^_, _≤_, _<_}
 use mathlib.Core.Path.{_≡_}
 use mathlib.Core.Bool.{false}
 use mathlib.Core.Option.{Option, none, some}
-use mathlib.Core.List.{List, _∷_, _++_, map}
+use mathlib.Core.List.{List, [], _∷_, _++_, map}
 use lib.ListN.{length, getD}
 use Rattle.rules.specs.Lists.{pick, member, joined, Each}
 use Rattle.rules.specs.Tables.{Tables, Row, table, rowsOf}
@@ -91,6 +91,25 @@ pub record SentenceLaid (s : Sentence) : Type 0 where
       → s .words ++ s .phrases ≡ front ++ (n ∷ back) → n .secondary ≡ before ++ (e ∷ behind)
       → EdgeLaid (getD (edgeList s) (length (edgesIn front) + length before) zeroRecord) (n .number) e
   pub no-edge : (k : ℕ) → length (edgesIn (s .words ++ s .phrases)) ≤ k → getD (edgeList s) k zeroRecord ≡ zeroRecord
+
+-- ---- the list of secondary edges lent as plain numbers: record k stands at 4k to 4k + 3
+
+-- child, label start, label length, parent
+abbrev pub recordNumbers : EdgeRecord → List ℕ
+recordNumbers r = r .child ∷ r .labelStart ∷ r .labelLength ∷ r .parent ∷ []
+
+unfoldable pub flatList : List EdgeRecord → List ℕ
+flatList rs = joined (map recordNumbers rs)
+
+pub record RecordLaid (ns : List ℕ) (k : ℕ) (r : EdgeRecord) : Type 0 where
+  pub child : getD ns (4 * k + 0) 0 ≡ r .child
+  pub label-start : getD ns (4 * k + 1) 0 ≡ r .labelStart
+  pub label-length : getD ns (4 * k + 2) 0 ≡ r .labelLength
+  pub parent : getD ns (4 * k + 3) 0 ≡ r .parent
+
+pub record FlatLaid (rs : List EdgeRecord) : Type 0 where
+  pub size : length (flatList rs) ≡ 4 * length rs
+  pub each : (k : ℕ) → k < length rs → RecordLaid (flatList rs) k (getD rs k zeroRecord)
 
 -- ---- all that a survey says
 

@@ -15,10 +15,11 @@ use Rattle.rules.specs.Reading.{numbers}
 use Rattle.rules.specs.Sheets.{tableSheet, seenSet, sentenceSheetSize, EdgeRecord}
 use Rattle.rules.specs.Survey.{surveyOf, sheetsFit, fileFits}
 use Rattle.rules.specs.Writing as rules
+use Rattle.rules.specs.Layout.{flatList}
 use Rattle.rules.proofs.Conjunctions.{and-both, and-left, and-right}
 use Rattle.printing.specs.Over.{over, Put}
 use Rattle.printing.proofs.OverLaws.{over-fits}
-use Rattle.opening.specs.FlatLists.{flat, edgeRecords, flatSize}
+use Rattle.opening.specs.FlatLists.{edgeRecords, flatSize}
 use Rattle.opening.specs.Promise.{allFlatFit}
 use Rattle.opening.proofs.Flattened.{length-records, flat-records, flat-none}
 use Rattle.writing.specs.declared.Written.{Written}
@@ -96,7 +97,7 @@ module _ (file tables seen sheet edges output : List ℕ) (r : Written) where
   records-fit : eqb (length edges) flatSize ≡ true → (front && eqb (length es) edgeLimit) ≡ allFlatFit tables seen sheet edges
   records-fit e = rw (length-records edgeLimit edges, e)
 
-  back-flat : eqb (length edges) flatSize ≡ true → flat es ≡ edges
+  back-flat : eqb (length edges) flatSize ≡ true → flatList es ≡ edges
   back-flat e = flat-records edgeLimit edges (eqb-true (length edges) flatSize e)
 
   pub unfit : allFlatFit tables seen sheet edges ≡ false → answerOf r ≡ record { refusal = 1; place = 0; written = 0 } → Promised tables seen sheet edges output

@@ -9,7 +9,8 @@ use lib.Dec.{leb, eqb}
 use Rattle.rules.specs.Lists.{pick}
 use Rattle.rules.specs.Numbers.{fileLimit, edgeLimit}
 use Rattle.rules.specs.Writing as rules
-use Rattle.opening.specs.FlatLists.{flat, edgeRecords, flatSize}
+use Rattle.rules.specs.Layout.{flatList}
+use Rattle.opening.specs.FlatLists.{edgeRecords, flatSize}
 use Rattle.writing.specs.declared.Written.{Written}
 
 -- ---- with lent buffers
@@ -23,7 +24,7 @@ pub record WrittenFlat : Type 0 where
   pub output : List ℕ
 
 abbrev pub flattened : rules.WritingOutcome → WrittenFlat
-flattened o = record { answer = o .answer; tables = o .tables; seen = o .seen; sheet = o .sheet; edges = flat (o .edges); output = o .output }
+flattened o = record { answer = o .answer; tables = o .tables; seen = o .seen; sheet = o .sheet; edges = flatList (o .edges); output = o .output }
 
 unfoldable pub afterWritingFlat : List ℕ → List ℕ → List ℕ → List ℕ → List ℕ → List ℕ → WrittenFlat
 afterWritingFlat file tables seen sheet edges output =

@@ -17,12 +17,31 @@ use Rattle.rules.specs.Survey.{surveyOf}
 use Rattle.rules.specs.Opening.{noSheet, noEdges}
 use Rattle.rules.specs.Writing.{tidyOf, Written, writingAnswer, writtenOver, outputAfter, afterWriting}
 use Rattle.rules.specs.LentBuffers.{WithinLimit}
+use Rattle.rules.specs.Layout.{flatList}
 use Rattle.rules.proofs.Sizes.{all-fit, within-fits}
-use Rattle.opening.specs.FlatLists.{flat, edgeRecords}
+use Rattle.opening.specs.FlatLists.{edgeRecords}
 use Rattle.writing.specs.Promise.{WrittenFlat, afterWritingFlat}
 use Rattle.opened_demands.specs.Calls.{AllFlatSized}
 use Rattle.opened_demands.proofs.Outcomes.{as-records}
-use Rattle.written_demands.specs.Writings.{SameWritten}
+use Rattle.written_demands.specs.Writings.{TextLeft, SameWritten}
+
+-- ---- the outcome as the contract of the writing says it, and as it is said here
+
+abbrev pub asText : WrittenFlat → TextLeft
+asText o =
+    record {
+      refusal = o .answer .refusal;
+      place = o .answer .place;
+      written = o .answer .written;
+      tables = o .tables;
+      seen = o .seen;
+      sheet = o .sheet;
+      edges = o .edges;
+      output = o .output;
+    }
+
+abbrev pub afterText : List ℕ → List ℕ → List ℕ → List ℕ → List ℕ → List ℕ → TextLeft
+afterText file tables seen sheet edges output = asText (afterWritingFlat file tables seen sheet edges output)
 
 -- ---- what is answered and written, with room or without
 
@@ -66,21 +85,22 @@ filled file output =
       tables = tableSheet (surveyOf file .tables);
       seen = seenSet (numbers (surveyOf file .handed));
       sheet = noSheet;
-      edges = flat noEdges;
+      edges = flatList noEdges;
       output = outputAfter file output;
     }
 
-written-as : (file tables seen sheet edges output : List ℕ) → WithinLimit file → AllFlatSized tables seen sheet edges → afterWritingFlat file tables seen sheet edges output ≡ filled file output
+written-as : (file tables seen sheet edges output : List ℕ) → WithinLimit file → AllFlatSized tables seen sheet edges
+    → afterWritingFlat file tables seen sheet edges output ≡ filled file output
 unfolding afterWritingFlat afterWriting
 written-as file tables seen sheet edges output fits sized =
     rw (eq-eqb (length edges) 2048 (sized .sentence .edge-list), all-fit tables seen sheet (edgeRecords edgeLimit edges) (as-records tables seen sheet edges sized), within-fits file fits)
 
-module _ (file tables seen sheet edges output tables2 seen2 sheet2 edges2 output2 : List ℕ) (left left2 : WrittenFlat)
-    (p : left ≡ afterWritingFlat file tables seen sheet edges output) (q : left2 ≡ afterWritingFlat file tables2 seen2 sheet2 edges2 output2) where
+module _ (file tables seen sheet edges output tables2 seen2 sheet2 edges2 output2 : List ℕ) (left left2 : TextLeft)
+    (p : left ≡ afterText file tables seen sheet edges output) (q : left2 ≡ afterText file tables2 seen2 sheet2 edges2 output2) where
   pub written-only : output ≡ output2 → tables ≡ tables2 → seen ≡ seen2 → sheet ≡ sheet2 → edges ≡ edges2 → left ≡ left2
   written-only o t s h e =
-      p ∙ ap₂ (λ (a b : List ℕ). afterWritingFlat file a b sheet edges output) t s ∙ ap₂ (λ (a b : List ℕ). afterWritingFlat file tables2 seen2 a b output) h e
-      ∙ ap (afterWritingFlat file tables2 seen2 sheet2 edges2) o ∙ sym q
+      p ∙ ap₂ (λ (a b : List ℕ). afterText file a b sheet edges output) t s ∙ ap₂ (λ (a b : List ℕ). afterText file tables2 seen2 a b output) h e
+      ∙ ap (afterText file tables2 seen2 sheet2 edges2) o ∙ sym q
 
   pub written-fresh : WithinLimit file → AllFlatSized tables seen sheet edges → AllFlatSized tables2 seen2 sheet2 edges2 → length output ≡ length output2
       → SameWritten output output2 left left2
@@ -88,9 +108,11 @@ module _ (file tables seen sheet edges output tables2 seen2 sheet2 edges2 output
       let answer : writingAnswer file output ≡ writingAnswer file output2 = rw e in
       let part = parts file output in
       let part2 = parts file output2 in
-      rw (p ∙ written-as file tables seen sheet edges output fits sized, q ∙ written-as file tables2 seen2 sheet2 edges2 output2 fits sized2)
+      rw (p ∙ ap asText (written-as file tables seen sheet edges output fits sized), q ∙ ap asText (written-as file tables2 seen2 sheet2 edges2 output2 fits sized2))
       (record {
-        answer = answer;
+        refusal = ap (λ (a : Written). a .refusal) answer;
+        place = ap (λ (a : Written). a .place) answer;
+        written = ap (λ (a : Written). a .written) answer;
         tables = refl;
         seen = refl;
         sheet = refl;

@@ -23,7 +23,8 @@ use Rattle.opening.specs.FlatLists.{edgeRecords, flatSize}
 use Rattle.writing.specs.Promise.{WrittenFlat, flattened, afterWritingFlat}
 use Rattle.demands.specs.Surveying.{Surveying, Promised}
 use Rattle.written_demands.proofs.TidySurveyed.{tidy-by-survey}
-use Rattle.written_demands.specs.Writings.{ReadBack}
+use Rattle.written_demands.specs.Writings.{TextLeft, ReadBack}
+use Rattle.written_demands.proofs.Alike.{asText, afterText}
 
 -- ---- the list as records
 
@@ -61,7 +62,7 @@ module _ (file tables seen sheet edges output : List ℕ) where
   abbrev left : WrittenFlat
   left = afterWritingFlat file tables seen sheet edges output
 
-  by-records : left .answer .refusal ≡ 0 → left ≡ flattened (afterWriting file tables seen sheet es output)
+  pub by-records : left .answer .refusal ≡ 0 → left ≡ flattened (afterWriting file tables seen sheet es output)
   unfolding afterWritingFlat
   by-records z = by (eqb (length edges) flatSize) refl
     where
@@ -78,24 +79,24 @@ module _ (file tables seen sheet edges output : List ℕ) where
       by false e = rw e
 
   -- as both calls are promised
-  module _ (o : WrittenFlat) (p : o ≡ left) where
-    pub output-as-lent : o .answer .refusal ≢ 0 → o .output ≡ output
-    output-as-lent ne = ap (λ (i : WrittenFlat). i .output) p ∙ untouched (subst (λ (i : WrittenFlat). i .answer .refusal ≢ 0) p ne)
+  module _ (o : TextLeft) (p : o ≡ afterText file tables seen sheet edges output) where
+    pub output-as-lent : o .refusal ≢ 0 → o .output ≡ output
+    output-as-lent ne = ap (λ (i : TextLeft). i .output) p ∙ untouched (subst (λ (i : TextLeft). i .refusal ≢ 0) p ne)
 
-    pub read-back : o .answer .refusal ≡ 0 → (again : Surveying) → Promised again → again .file ≡ take (o .answer .written) (o .output)
+    pub read-back : o .refusal ≡ 0 → (again : Surveying) → Promised again → again .file ≡ take (o .written) (o .output)
         → SheetsSized (again .tables) (again .seen) → ReadBack file output o again
     read-back z again q same sized =
-        let zero : left .answer .refusal ≡ 0 = sym (ap (λ (i : WrittenFlat). i .answer .refusal) p) ∙ z in
-        let flat : o ≡ flattened (afterWriting file tables seen sheet es output) = p ∙ by-records zero in
-        let granted : afterWriting file tables seen sheet es output .answer .refusal ≡ 0 = sym (ap (λ (i : WrittenFlat). i .answer .refusal) flat) ∙ z in
+        let zero : left .answer .refusal ≡ 0 = sym (ap (λ (i : TextLeft). i .refusal) p) ∙ z in
+        let flat : o ≡ asText (flattened (afterWriting file tables seen sheet es output)) = p ∙ ap asText (by-records zero) in
+        let granted : afterWriting file tables seen sheet es output .answer .refusal ≡ 0 = sym (ap (λ (i : TextLeft). i .refusal) flat) ∙ z in
         let rule = written-exactly file tables seen sheet es output .granted granted in
         let whole = granted-accepted file tables seen sheet es output granted in
-        let text : take (o .answer .written) (o .output) ≡ tidyOf file = ap (λ (i : WrittenFlat). take (i .answer .written) (i .output)) flat ∙ rule .text in
+        let text : take (o .written) (o .output) ≡ tidyOf file = ap (λ (i : TextLeft). take (i .written) (i .output)) flat ∙ rule .text in
         let fits = accepted-exactly (again .file) .0 (ap (λ (l : List ℕ). surveyOf l .refusal) (same ∙ text ∙ sym (rule .text)) ∙ rule .accepted) in
         let alike = tidy-by-survey file again q (whole .refusal) (same ∙ text) (record { sized = sheets-fit (again .tables) (again .seen) sized; short = fits .1 .short }) in
         record {
           text = text;
-          rest = subst (λ (i : WrittenFlat). drop (i .answer .written) (i .output) ≡ drop (i .answer .written) output) (sym flat) (rule .rest);
+          rest = subst (λ (i : TextLeft). drop (i .written) (i .output) ≡ drop (i .written) output) (sym flat) (rule .rest);
           alike = alike;
-          seen = alike .seen ∙ sym (ap (λ (i : WrittenFlat). i .seen) flat ∙ whole .seen-set);
+          seen = alike .seen ∙ sym (ap (λ (i : TextLeft). i .seen) flat ∙ whole .seen-set);
         }

@@ -1,3 +1,4 @@
 pub mod TidySurveyed
-pub mod Granted
 pub mod Alike
+pub mod Granted
+pub mod AsRules

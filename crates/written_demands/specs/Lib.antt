@@ -1,2 +1,3 @@
 pub mod Tidying
 pub mod Writings
+pub mod WrittenRules

@@ -10,9 +10,9 @@ ghost use Rattle.rules.specs.Writing.{tidyOf};
 ghost use Rattle.rules.specs.LentBuffers.{SheetsSized, WithinLimit};
 ghost use Rattle.demands.specs.Surveying.{surveying, Readable, Promised};
 ghost use Rattle.opened_demands.specs.Calls.{AllFlatSized};
-ghost use Rattle.writing.specs.Promise.{outcome, afterWritingFlat};
 ghost use Rattle.written_demands.specs.Tidying.{TidyAlike};
-ghost use Rattle.written_demands.specs.Writings.{ReadBack, SameWritten};
+ghost use Rattle.written_demands.specs.Writings.{textLeft, ReadBack, SameWritten};
+ghost use Rattle.written_demands.specs.WrittenRules.{WrittenAsCalled};
 use survey::Surveyed;
 use writing::Written;
 
@@ -43,10 +43,12 @@ pub fn rewritten(
     seen2: &mut [u8],
 ) -> ReadAgain
     ensures back { λ r. ⌜ (r .written .refusal ≡ 0 → SheetsSized (now (tables2 .entry)) (now (seen2 .entry))
-        → ReadBack (now (file .entry)) (now (output .entry)) (outcome (r .written) (now (tables .exit)) (now (seen .exit)) (now (sheet .exit)) (now (edges .exit)) (now (output .exit)))
+        → ReadBack (now (file .entry)) (now (output .entry))
+        (textLeft (r .written) (now (tables .exit)) (now (seen .exit)) (now (sheet .exit)) (now (edges .exit)) (now (output .exit)))
         (surveying (take (r .written .length) (now (output .exit))) (now (tables2 .entry)) (now (seen2 .entry)) (r .again) (now (tables2 .exit)) (now (seen2 .exit)))) ⌝ }
     ensures refused { λ r. ⌜ (r .written .refusal ≢ 0 → now (output .exit) ≡ now (output .entry)) ⌝ }
-    ensures whole { λ r. ⌜ outcome (r .written) (now (tables .exit)) (now (seen .exit)) (now (sheet .exit)) (now (edges .exit)) (now (output .exit)) ≡ afterWritingFlat (now (file .entry)) (now (tables .entry)) (now (seen .entry)) (now (sheet .entry)) (now (edges .entry)) (now (output .entry)) ⌝ }
+    ensures whole { λ r. ⌜ WrittenAsCalled (now (file .entry)) (now (tables .entry)) (now (seen .entry)) (now (sheet .entry)) (now (edges .entry)) (now (output .entry))
+        (textLeft (r .written) (now (tables .exit)) (now (seen .exit)) (now (sheet .exit)) (now (edges .exit)) (now (output .exit))) ⌝ }
     ensures again { λ r. ⌜ Promised (surveying (take (r .written .length) (now (output .exit))) (now (tables2 .entry)) (now (seen2 .entry)) (r .again) (now (tables2 .exit)) (now (seen2 .exit))) ⌝ }
 {
     let written = writing::write_flat(file, output, tables, seen, sheet, edges);
@@ -77,13 +79,13 @@ pub fn written_twice(
 ) -> Two
     ensures only { λ r. ⌜ (now (output .entry) ≡ now (output2 .entry) → now (tables .entry) ≡ now (tables2 .entry) → now (seen .entry) ≡ now (seen2 .entry)
         → now (sheet .entry) ≡ now (sheet2 .entry) → now (edges .entry) ≡ now (edges2 .entry)
-        → outcome (r .first) (now (tables .exit)) (now (seen .exit)) (now (sheet .exit)) (now (edges .exit)) (now (output .exit))
-        ≡ outcome (r .second) (now (tables2 .exit)) (now (seen2 .exit)) (now (sheet2 .exit)) (now (edges2 .exit)) (now (output2 .exit))) ⌝ }
+        → textLeft (r .first) (now (tables .exit)) (now (seen .exit)) (now (sheet .exit)) (now (edges .exit)) (now (output .exit))
+        ≡ textLeft (r .second) (now (tables2 .exit)) (now (seen2 .exit)) (now (sheet2 .exit)) (now (edges2 .exit)) (now (output2 .exit))) ⌝ }
     ensures fresh { λ r. ⌜ (WithinLimit (now (file .entry)) → AllFlatSized (now (tables .entry)) (now (seen .entry)) (now (sheet .entry)) (now (edges .entry))
         → AllFlatSized (now (tables2 .entry)) (now (seen2 .entry)) (now (sheet2 .entry)) (now (edges2 .entry)) → length (now (output .entry)) ≡ length (now (output2 .entry))
         → SameWritten (now (output .entry)) (now (output2 .entry))
-        (outcome (r .first) (now (tables .exit)) (now (seen .exit)) (now (sheet .exit)) (now (edges .exit)) (now (output .exit)))
-        (outcome (r .second) (now (tables2 .exit)) (now (seen2 .exit)) (now (sheet2 .exit)) (now (edges2 .exit)) (now (output2 .exit)))) ⌝ }
+        (textLeft (r .first) (now (tables .exit)) (now (seen .exit)) (now (sheet .exit)) (now (edges .exit)) (now (output .exit)))
+        (textLeft (r .second) (now (tables2 .exit)) (now (seen2 .exit)) (now (sheet2 .exit)) (now (edges2 .exit)) (now (output2 .exit)))) ⌝ }
 {
     let first = writing::write_flat(file, output, tables, seen, sheet, edges);
     let second = writing::write_flat(file, output2, tables2, seen2, sheet2, edges2);

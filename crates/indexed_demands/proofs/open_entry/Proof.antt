@@ -1,21 +1,23 @@
 -- `indexed_demands::open_entry` meets its contract.
 use borrow.Author.Needs.{needs}
-use mathlib.Core.Path.{_∙_}
-use Rattle.indexed_demands.proofs.Entries.{at-entry, no-entry}
+use mathlib.Core.Path.{refl, ap}
+use Rattle.opened_demands.proofs.Outcomes.{asThere}
+use Rattle.opened_demands.proofs.AsRules.{at-place}
+use Rattle.indexed_demands.proofs.Entries.{at-entry, no-place}
 use Rattle.indexed_demands.proofs.open_entry.Statement.{statement}
 use Rattle.indexed_demands.proofs.open_entry.Tie as tie
 
 returns : tie.Need-returns
 returns c =
     let x = c .before .before .before .before .args in
-    no-entry (x .file .now) (x .entry) (x .sheet .now) (x .edges .now) (c .if1 .taken)
+    no-place (x .file .now) (x .entry) (x .sheet .now) (x .edges .now) _ (c .if1 .taken) refl
 
 returns-2 : tie.Need-returns-2
 returns-2 c =
     let d = c .before .before .before .before in
     let e = d .before .before .before in
     let x = e .before .before .before .before .args in
-    d .open-flat-at .ensures .0 ∙ at-entry (x .file .now) (x .entry) (x .sheet .now) (x .edges .now) (e .if1 .left)
+    at-entry (x .file .now) (x .entry) (x .sheet .now) (x .edges .now) _ (e .if1 .left) (at-place _ _ _ _ _ (ap asThere (d .open-flat-at .ensures .0)))
 
 pub open-entry-spec : {M : Type 1} → statement M
 open-entry-spec =

@@ -1,4 +1,7 @@
 -- `opened_demands::climbing` meets its contract, by what the opening's says.
+use mathlib.Core.Path.{ap}
+use Rattle.opened_demands.proofs.Outcomes.{asLeft}
+use Rattle.opened_demands.proofs.AsRules.{by-number}
 use Rattle.opened_demands.proofs.SheetsClimb.{climbs-by-number}
 use Rattle.opened_demands.proofs.climbing.Statement.{statement}
 use Rattle.opened_demands.proofs.climbing.Tie as tie
@@ -6,8 +9,8 @@ use Rattle.opened_demands.proofs.climbing.Tie as tie
 returns : tie.Need-returns
 returns c =
     let o = c .before .before .before .before .before .before .before .before in
-    let p = o .open-flat .ensures .0 in
-    (λ z. climbs-by-number _ _ _ _ _ _ _ p z, p)
+    let p = ap asLeft (o .open-flat .ensures .0) in
+    (λ z. climbs-by-number _ _ _ _ _ _ _ p z, by-number _ _ _ _ _ _ _ p)
 
 pub climbing-spec : {M : Type 1} → statement M
 climbing-spec =

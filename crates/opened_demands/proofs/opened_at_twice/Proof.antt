@@ -1,5 +1,6 @@
 -- `opened_demands::opened_at_twice` meets its contract: both outcomes are what the opening's contract says, which is one.
-use Rattle.opened_demands.proofs.Outcomes.{opened-at-only, opened-at-fresh}
+use mathlib.Core.Path.{ap}
+use Rattle.opened_demands.proofs.Outcomes.{asThere, opened-at-only, opened-at-fresh}
 use Rattle.opened_demands.proofs.opened_at_twice.Statement.{statement}
 use Rattle.opened_demands.proofs.opened_at_twice.Tie as tie
 
@@ -11,8 +12,8 @@ first c = second c .before .before .before .before .before .before .before
 
 returns : tie.Need-returns
 returns c =
-    let p = first c .open-flat-at .ensures .0 in
-    let q = second c .open-flat-at2 .ensures .0 in
+    let p = ap asThere (first c .open-flat-at .ensures .0) in
+    let q = ap asThere (second c .open-flat-at2 .ensures .0) in
     (λ h e. opened-at-only _ _ _ _ _ _ _ _ p q h e, λ fits k l. opened-at-fresh _ _ _ _ _ _ _ _ p q fits k l)
 
 pub opened-at-twice-spec : {M : Type 1} → statement M

@@ -1,5 +1,6 @@
 -- `written_demands::written_twice` meets its contract: both outcomes are what the writing's contract says, which is one.
-use Rattle.written_demands.proofs.Alike.{written-only, written-fresh}
+use mathlib.Core.Path.{ap}
+use Rattle.written_demands.proofs.Alike.{asText, written-only, written-fresh}
 use Rattle.written_demands.proofs.written_twice.Statement.{statement}
 use Rattle.written_demands.proofs.written_twice.Tie as tie
 
@@ -11,8 +12,8 @@ first c = second c .before .before .before .before .before .before .before .befo
 
 returns : tie.Need-returns
 returns c =
-    let p = first c .write-flat .ensures in
-    let q = second c .write-flat2 .ensures in
+    let p = ap asText (first c .write-flat .ensures) in
+    let q = ap asText (second c .write-flat2 .ensures) in
     (λ o t s h e. written-only _ _ _ _ _ _ _ _ _ _ _ _ _ p q o t s h e, λ fits k l e. written-fresh _ _ _ _ _ _ _ _ _ _ _ _ _ p q fits k l e)
 
 pub written-twice-spec : {M : Type 1} → statement M

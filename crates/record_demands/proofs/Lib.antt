@@ -1,0 +1,4 @@
+pub mod Told
+pub mod AsRules
+pub mod TextAsRules
+pub mod AsTold
