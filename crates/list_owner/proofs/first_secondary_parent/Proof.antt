@@ -85,8 +85,8 @@ made = LL.owes T.the-type T′.the-laws emptyEdge ((refl, lit< tt), ((refl, lit<
 
 module _ {M : Type 1} (𝓤 : URA M) (H : Heap 𝓤) (A : Atoms 𝓤) (mem : Memory → SProp 𝓤) (run : Routine → Fun 𝓤) where
   -- the contract that the proof cites
-  abbrev Opening : Contract 𝓤
-  Opening = tripleOf 𝓤 H A g.signature (g.spec 𝓤 H A mem run)
+  abbrev Called : Contract 𝓤
+  Called = tripleOf 𝓤 H A g.signature (g.spec 𝓤 H A mem run)
 
 module _ {M : Type 1} (𝓤 : URA M) (H : Heap 𝓤) (A : Atoms 𝓤) (W : Given 𝓤 H A) (mem : Memory → SProp 𝓤) (run : Routine → Fun 𝓤) (κ₀ κ₁ κ₂ κ₃ : Lft) (q₀ q₁ q₂ q₃ : Share)
     (fileᵣ : RefT (List ℕ)) (number : ℕ) (tablesᵣ : RefT (List ℕ)) (seenᵣ : RefT (List ℕ)) (sheetᵣ : RefT (List ℕ)) where
@@ -120,7 +120,8 @@ module _ {M : Type 1} (𝓤 : URA M) (H : Heap 𝓤) (A : Atoms 𝓤) (W : Given
   abbrev File : Fml
   File = FileT κ₀ .own fileᵣ (v-file ∷ [])
 
-  exits : number < 2 ^ 32 → (r : ℕ) → r < 2 ^ 32 → (tables′ : List ℕ) (seen′ : List ℕ) (sheet′ : List ℕ) → length tables′ ≡ length (tablesᵣ .now) → length seen′ ≡ length (seenᵣ .now) → length sheet′ ≡ length (sheetᵣ .now) → outcome r tables′ seen′ sheet′ ≡ firstParentOf (afterOpening (fileᵣ .now) number (tablesᵣ .now) (seenᵣ .now) (sheetᵣ .now) noEdges)
+  exits : number < 2 ^ 32 → (r : ℕ) → r < 2 ^ 32 → (tables′ : List ℕ) (seen′ : List ℕ) (sheet′ : List ℕ) → length tables′ ≡ length (tablesᵣ .now) → length seen′ ≡ length (seenᵣ .now) → length sheet′ ≡ length (sheetᵣ .now)
+      → outcome r tables′ seen′ sheet′ ≡ firstParentOf (afterOpening (fileᵣ .now) number (tablesᵣ .now) (seenᵣ .now) (sheetᵣ .now) noEdges)
       → ent 𝓤 (⋆ 𝓤 H A (‵ (flft κ₀ q₀) ∷ ‵ (flft κ₁ q₁) ∷ ‵ (flft κ₂ q₂) ∷ ‵ (flft κ₃ q₃) ∷ ‵ File ∷ ‵ (finally u32 (tablesᵣ .name) tables′) ∷ ‵ (finally u8 (seenᵣ .name) seen′) ∷ ‵ (finally u32 (sheetᵣ .name) sheet′) ∷ [])) (Post (vint w32 r))
   exits bound r fits tables′ seen′ sheet′ l-tables l-seen l-sheet e =
       qed W (‵ (flft κ₀ q₀) ∷ ‵ (flft κ₁ q₁) ∷ ‵ (flft κ₂ q₂) ∷ ‵ (flft κ₃ q₃) ∷ ‵ File ∷ ‵ (finally u32 (tablesᵣ .name) tables′) ∷ ‵ (finally u8 (seenᵣ .name) seen′) ∷ ‵ (finally u32 (sheetᵣ .name) sheet′) ∷ []) ∵
@@ -157,14 +158,13 @@ module _ {M : Type 1} (𝓤 : URA M) (H : Heap 𝓤) (A : Atoms 𝓤) (W : Given
     abbrev v-list : Val
     v-list = sliceVal (l₆, 0) (length emptyList)
 
-    abbrev to-opening : ℕ → GName → Opening 𝓤 H A mem run .Ghost
-    to-opening α δ = (((κ₀, (κ₁, (κ₂, (κ₃, (α ∷ [], tt))))), (q₀, (q₁, (q₂, (q₃, (fullShare, tt))))), tt, (fileᵣ, (number, (tablesᵣ, (seenᵣ, (sheetᵣ, (listᵣ δ, tt)))))), (v-file ∷ [], (v-number ∷ [], (v-tables ∷ [], (v-seen ∷ [], (v-sheet ∷ [], (v-list ∷ [], tt))))))), tt)
+    abbrev to-called : ℕ → GName → Called 𝓤 H A mem run .Ghost
+    to-called α δ = (((κ₀, (κ₁, (κ₂, (κ₃, (α ∷ [], tt))))), (q₀, (q₁, (q₂, (q₃, (fullShare, tt))))), tt, (fileᵣ, (number, (tablesᵣ, (seenᵣ, (sheetᵣ, (listᵣ δ, tt)))))), (v-file ∷ [], (v-number ∷ [], (v-tables ∷ [], (v-seen ∷ [], (v-sheet ∷ [], (v-list ∷ [], tt))))))), tt)
 
-    goes-opening : (α : ℕ) (δ : GName) → ent 𝓤 (⋆ 𝓤 H A ((‵ (flft κ₀ q₀) ⊛ ‵ (flft κ₁ q₁) ⊛ ‵ (flft κ₂ q₂) ⊛ ‵ (flft κ₃ q₃) ⊛ ‵ (flft (α ∷ []) fullShare) ⊛ ‵ ftrue) ∷ ‵ (owns (FileT κ₀ ∷ u32 ∷ MutSlice (named 1) κ₁ u32 ∷ MutSlice (named 2) κ₂ u8 ∷ MutSlice (named 3) κ₃ u32 ∷ MutSlice (named 4) (α ∷ []) T.the-row ∷ []) (fileᵣ, (number, (tablesᵣ, (seenᵣ, (sheetᵣ, (listᵣ δ, tt)))))) (v-file ∷ [], (v-number ∷ [], (v-tables ∷ [], (v-seen ∷ [], (v-sheet ∷ [], (v-list ∷ [], tt))))))) ∷ [])) (Opening 𝓤 H A mem run .pre (to-opening α δ))
-    goes-opening α δ =
-        qed W ((‵ (flft κ₀ q₀) ⊛ ‵ (flft κ₁ q₁) ⊛ ‵ (flft κ₂ q₂) ⊛ ‵ (flft κ₃ q₃) ⊛ ‵ (flft (α ∷ []) fullShare) ⊛ ‵ ftrue) ∷ ‵ (owns (FileT κ₀ ∷ u32 ∷ MutSlice (named 1) κ₁ u32 ∷ MutSlice (named 2) κ₂ u8 ∷ MutSlice (named 3) κ₃ u32 ∷ MutSlice (named 4) (α ∷ []) T.the-row ∷ []) (fileᵣ, (number, (tablesᵣ, (seenᵣ, (sheetᵣ, (listᵣ δ, tt)))))) (v-file ∷ [], (v-number ∷ [], (v-tables ∷ [], (v-seen ∷ [], (v-sheet ∷ [], (v-list ∷ [], tt))))))) ∷ []) ∵ join ! $ frame ! $ done !
+    goes-called : (α : ℕ) (δ : GName) → ent 𝓤 (⋆ 𝓤 H A ((‵ (flft κ₀ q₀) ⊛ ‵ (flft κ₁ q₁) ⊛ ‵ (flft κ₂ q₂) ⊛ ‵ (flft κ₃ q₃) ⊛ ‵ (flft (α ∷ []) fullShare) ⊛ ‵ ftrue) ∷ ‵ (owns (FileT κ₀ ∷ u32 ∷ MutSlice (named 1) κ₁ u32 ∷ MutSlice (named 2) κ₂ u8 ∷ MutSlice (named 3) κ₃ u32 ∷ MutSlice (named 4) (α ∷ []) T.the-row ∷ []) (fileᵣ, (number, (tablesᵣ, (seenᵣ, (sheetᵣ, (listᵣ δ, tt)))))) (v-file ∷ [], (v-number ∷ [], (v-tables ∷ [], (v-seen ∷ [], (v-sheet ∷ [], (v-list ∷ [], tt))))))) ∷ [])) (Called 𝓤 H A mem run .pre (to-called α δ))
+    goes-called α δ = qed W ((‵ (flft κ₀ q₀) ⊛ ‵ (flft κ₁ q₁) ⊛ ‵ (flft κ₂ q₂) ⊛ ‵ (flft κ₃ q₃) ⊛ ‵ (flft (α ∷ []) fullShare) ⊛ ‵ ftrue) ∷ ‵ (owns (FileT κ₀ ∷ u32 ∷ MutSlice (named 1) κ₁ u32 ∷ MutSlice (named 2) κ₂ u8 ∷ MutSlice (named 3) κ₃ u32 ∷ MutSlice (named 4) (α ∷ []) T.the-row ∷ []) (fileᵣ, (number, (tablesᵣ, (seenᵣ, (sheetᵣ, (listᵣ δ, tt)))))) (v-file ∷ [], (v-number ∷ [], (v-tables ∷ [], (v-seen ∷ [], (v-sheet ∷ [], (v-list ∷ [], tt))))))) ∷ []) ∵ join ! $ frame ! $ done !
 
-  module _ (C : Calls 𝓤 H) (Λ : Loops 𝓤 H) (fm : FmC 𝓤 H (W .laws) C) (known : Triple 𝓤 (C #edges·open-sentence) (Opening 𝓤 H A mem run)) where
+  module _ (C : Calls 𝓤 H) (Λ : Loops 𝓤 H) (fm : FmC 𝓤 H (W .laws) C) (known : Triple 𝓤 (C #edges·open-sentence) (Called 𝓤 H A mem run)) where
     walk : number < 2 ^ 32 → Room u8 (length (fileᵣ .now)) → Room u32 (length (tablesᵣ .now)) → Room u8 (length (seenᵣ .now)) → Room u32 (length (sheetᵣ .now)) → ent 𝓤 (onEntry 𝓤 H A f.signature (κ₀, (κ₁, (κ₂, (κ₃, tt)))) (q₀, (q₁, (q₂, (q₃, tt)))) a at) (WpFn 𝓤 H C Λ code.function (v-file ∷ v-number ∷ v-tables ∷ v-seen ∷ v-sheet ∷ []) Post)
     walk bound room-file room-tables room-seen room-sheet =
         qed W ((‵ (flft κ₀ q₀) ⊛ ‵ (flft κ₁ q₁) ⊛ ‵ (flft κ₂ q₂) ⊛ ‵ (flft κ₃ q₃) ⊛ ‵ ftrue) ∷ ‵ (owns (FileT κ₀ ∷ u32 ∷ MutSlice (named 1) κ₁ u32 ∷ MutSlice (named 2) κ₂ u8 ∷ MutSlice (named 3) κ₃ u32 ∷ []) a at) ∷ []) ∵ enter ! C Λ code.function (v-file ∷ v-number ∷ v-tables ∷ v-seen ∷ v-sheet ∷ []) _ $
@@ -242,8 +242,8 @@ module _ {M : Type 1} (𝓤 : URA M) (H : Heap 𝓤) (A : Atoms 𝓤) (W : Given
         move ! (2 ∷ 0 ∷ []) $
         fjoin ! $
         move ! (1 ∷ 0 ∷ []) $
-        use2 W (raw (Opening 𝓤 H A mem run .pre (to-opening l₆ α δ))) (goes-opening l₆ α δ) $
-        calls-at ! fm (Opening 𝓤 H A mem run) known (to-opening l₆ α δ) (and-then ! (load ! (from ! (stop !)) (look ! 38 refl)) (and-then ! (load ! (from ! (stop !)) (look ! 36 refl)) (and-then ! (load ! (from ! (stop !)) (look ! 19 refl)) (and-then ! (load ! (from ! (stop !)) (look ! 15 refl)) (and-then ! (load ! (from ! (stop !)) (look ! 11 refl)) (and-then ! (load ! (from ! (stop !)) (look ! 7 refl)) (no-more !))))))) (λ u.
+        use2 W (raw (Called 𝓤 H A mem run .pre (to-called l₆ α δ))) (goes-called l₆ α δ) $
+        calls-at ! fm (Called 𝓤 H A mem run) known (to-called l₆ α δ) (and-then ! (load ! (from ! (stop !)) (look ! 38 refl)) (and-then ! (load ! (from ! (stop !)) (look ! 36 refl)) (and-then ! (load ! (from ! (stop !)) (look ! 19 refl)) (and-then ! (load ! (from ! (stop !)) (look ! 15 refl)) (and-then ! (load ! (from ! (stop !)) (look ! 11 refl)) (and-then ! (load ! (from ! (stop !)) (look ! 7 refl)) (no-more !))))))) (λ u.
         use1 W (later (some (λ (r : ℕ). ((‵ (flft κ₀ q₀) ⊛ ‵ (flft κ₁ q₁) ⊛ ‵ (flft κ₂ q₂) ⊛ ‵ (flft κ₃ q₃) ⊛ ‵ (flft (α ∷ []) fullShare) ⊛ ‵ ftrue) ⊛ ‵ (u32 .own r (u ∷ []))) ⊛ raw (ensured 𝓤 H A g.ended (g.clauses 𝓤 H A mem run) (κ₀, (κ₁, (κ₂, (κ₃, (α ∷ [], tt))))) (fileᵣ, (number, (tablesᵣ, (seenᵣ, (sheetᵣ, (listᵣ l₆ δ, tt)))))) tt r)))) (id⊢ 𝓤 _) $ await ! tt $
         pick ! (λ r.
         split ! $
@@ -308,7 +308,7 @@ module _ {M : Type 1} (𝓤 : URA M) (H : Heap 𝓤) (A : Atoms 𝓤) (W : Given
         elem-out ! T.the-row (Is T.the-row) (shows 𝓤 H A T.the-row) (LL.vals T.the-type T′.the-laws) (LL.tells T.the-type T′.the-laws) fullShare (ws .1 .1 .1 .1 .1 .0) 0 emptyEdge l₆ 0 (subst (λ (k : ℕ). 0 < k) (sym (l-list ∙ is512)) (lit< tt)) (λ g₁.
         assigns ! (of-opd ! (load ! (from ! (hop ! (look ! 11 refl) (stop !))) (look-raw ! 0 refl))) (from ! (stop !)) (store ! 33 refl (LL.lawful T.the-type T′.the-laws 𝓤 H A W .typed (getD (ws .1 .1 .1 .1 .1 .0) 0 emptyEdge) _ g₁ .0)) $
         assigns ! (of-opd ! (load ! (from ! (stop !)) (look ! 33 refl))) (from ! (stop !)) (init ! 35 refl (LL.lawful T.the-type T′.the-laws 𝓤 H A W .typed (getD (ws .1 .1 .1 .1 .1 .0) 0 emptyEdge) _ g₁ .0)) $
-        assigns ! (of-opd ! (load ! (from ! (fld ! refl (stop !))) (look-in ! 35 (sub ! 3 refl (whole !))))) (from ! (stop !)) (init ! 48 refl (tt, record { fits = LL.owed T.the-type T′.the-laws (getD (ws .1 .1 .1 .1 .1 .0) 0 emptyEdge) _ g₁ .1 .1 .1 .0 .1 })) $
+        assigns ! (of-opd ! (load ! (from ! (fld ! refl (stop !))) (look-in ! 35 (sub ! 3 refl (whole !))))) (from ! (stop !)) (init ! 48 refl (tt, record { fits = (LL.owed T.the-type T′.the-laws (getD (ws .1 .1 .1 .1 .1 .0) 0 emptyEdge) _ g₁ .1 .1 .1 .0 .1) })) $
         elem-back ! T.the-row fullShare (ws .1 .1 .1 .1 .1 .0) 0 emptyEdge (LL.vals T.the-type T′.the-laws (getD (ws .1 .1 .1 .1 .1 .0) 0 emptyEdge)) l₆ 0 (subst (λ (k : ℕ). 0 < k) (sym (l-list ∙ is512)) (lit< tt)) $
         use1 W (‵ (Cell T.the-row 512 l₆ (valOf T.the-row (LL.vals T.the-type T′.the-laws) (ws .1 .1 .1 .1 .1 .0))) ⊛ ‵ (R .own (ws .1 .1 .1 .1 .1 .0) (array-vals (LL.vals T.the-type T′.the-laws) (ws .1 .1 .1 .1 .1 .0)))) (local-out 𝓤 H A W T.the-row tt 512 (LL.vals T.the-type T′.the-laws) (LL.tells T.the-type T′.the-laws) (ws .1 .1 .1 .1 .1 .0) l₆ (l-list ∙ is512)) $
         split ! $
@@ -319,7 +319,7 @@ module _ {M : Type 1} (𝓤 : URA M) (H : Heap 𝓤) (A : Atoms 𝓤) (W : Given
         by ! (exits bound ((getD (ws .1 .1 .1 .1 .1 .0) 0 emptyEdge) .parent) (LL.owed T.the-type T′.the-laws (getD (ws .1 .1 .1 .1 .1 .0) 0 emptyEdge) _ g₁ .1 .1 .1 .0 .1) (ws .1 .1 .0) (ws .1 .1 .1 .0) (ws .1 .1 .1 .1 .0) l-tables l-seen l-sheet (owned-first _ _ _ _ _ r (ws .1 .1 .0) (ws .1 .1 .1 .0) (ws .1 .1 .1 .1 .0) (ws .1 .1 .1 .1 .1 .0) e)))))))))))))))))))))))))))))))))))
 
 module _ {M : Type 1} (𝓤 : URA M) (H : Heap 𝓤) (A : Atoms 𝓤) (W : Given 𝓤 H A) (mem : Memory → SProp 𝓤) (run : Routine → Fun 𝓤) (𝓣 : Tables 𝓤 H)
-    (known : Triple 𝓤 (𝓣 .C #edges·open-sentence) (Opening 𝓤 H A mem run)) where
+    (known : Triple 𝓤 (𝓣 .C #edges·open-sentence) (Called 𝓤 H A mem run)) where
   walks : Walks 𝓤 H A f.ended stayed (WpFn 𝓤 H (𝓣 .C) (𝓣 .Λ) code.function) (f.clauses 𝓤 H A mem run)
   walks = walked 𝓤 H A f.ended stayed (f.clauses 𝓤 H A mem run) (WpFn 𝓤 H (𝓣 .C) (𝓣 .Λ) code.function)
       (λ κs. (slice-vals, (uint-vals w32, (slice-vals, (slice-vals, (slice-vals, tt)))))) (λ κs. (shr-slice-tells (named 0) (κs .0) u8, (uint-tells w32, (mut-slice-tells (named 1) (κs .1 .0) u32, (mut-slice-tells (named 2) (κs .1 .1 .0) u8, (mut-slice-tells (named 3) (κs .1 .1 .1 .0) u32, tt))))))
@@ -339,4 +339,4 @@ first-secondary-parent-spec 𝓤 H 𝓜 𝓖 𝓡 =
     entered 𝓤 H (tripleOf 𝓤 H (𝓖 .A) f.signature (f.spec 𝓤 H (𝓖 .A) (𝓜 .mem) (𝓡 .run)))
     (tables 𝓤 H 𝓜 𝓡 code.env .C) (tables 𝓤 H 𝓜 𝓡 code.env .Λ) #list_owner·itself code.function (code.unfolded 𝓤 H 𝓜 𝓡)
     (meets 𝓤 H (𝓖 .A) (givenOf 𝓤 H 𝓜 𝓖) (𝓜 .mem) (𝓡 .run) (tablesOf 𝓤 H 𝓜 (tables 𝓤 H 𝓜 𝓡 code.env))
-    (cited 𝓤 H (Opening 𝓤 H (𝓖 .A) (𝓜 .mem) (𝓡 .run)) 𝓜 𝓡 code.env #edges·open-sentence g-def.routine code.calls-edges·open-sentence (g-thm.met 𝓤 H 𝓜 𝓖 𝓡)))
+    (cited 𝓤 H (Called 𝓤 H (𝓖 .A) (𝓜 .mem) (𝓡 .run)) 𝓜 𝓡 code.env #edges·open-sentence g-def.routine code.calls-edges·open-sentence (g-thm.met 𝓤 H 𝓜 𝓖 𝓡)))
