@@ -47,7 +47,8 @@ module _ (file : List ℕ) (at : ℕ) (sheet : List ℕ) (edges : List Edge) (r 
         edge-list = told-apart edges′ edges2 (ap (λ (o : OpenedAt). o .edges) same);
       }
 
-pub record SameText (r r2 : Written) (tables tables2 seen seen2 sheet sheet2 : List ℕ) (edges edges2 : List Edge) (output output2 : List ℕ) : Type 0 where
+pub record SameText (r r2 : Written) (tables tables2 seen seen2 sheet sheet2 : List ℕ) (edges edges2 : List Edge)
+    (output output2 : List ℕ) : Type 0 where
   pub refusal : r .refusal ≡ r2 .refusal
   pub place : r .place ≡ r2 .place
   pub written : r .length ≡ r2 .length

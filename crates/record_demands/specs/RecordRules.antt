@@ -37,6 +37,7 @@ pub record RecordsOpenedAt (file : List ℕ) (at : ℕ) (sheet : List ℕ) (edge
 pub record RecordsWritten (file tables seen sheet : List ℕ) (edges : List Edge) (output : List ℕ)
     (r : Written) (tables′ seen′ sheet′ : List ℕ) (edges′ : List Edge) (output′ : List ℕ) : Type 0 where
   pub whole : textOfRecords r tables′ seen′ sheet′ edges′ output′ ≡ afterWriting file tables seen sheet (toldAll edges) output
-  pub flat : WrittenAsCalled file tables seen sheet (numbersTold edges) output (textLeft r tables′ seen′ sheet′ (numbersTold edges′) output′)
+  pub flat : WrittenAsCalled file tables seen sheet (numbersTold edges) output
+      (textLeft r tables′ seen′ sheet′ (numbersTold edges′) output′)
   pub wrong-size : (AllSized tables seen sheet (toldAll edges) → ⊥) → edges′ ≡ edges
   pub too-long : AllSized tables seen sheet (toldAll edges) → TooLong file → edges′ ≡ edges

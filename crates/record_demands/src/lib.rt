@@ -12,14 +12,15 @@ pub fn opened_records(
     sheet: &mut [u32],
     edges: &mut [Edge],
 ) -> u32
-    ensures { λ r. ⌜ RecordsOpened (now (file .entry)) number (now (tables .entry)) (now (seen .entry)) (now (sheet .entry)) (now (edges .entry))
-        r (now (tables .exit)) (now (seen .exit)) (now (sheet .exit)) (now (edges .exit)) ⌝ }
+    ensures { λ r. ⌜ RecordsOpened (now (file .entry)) number (now (tables .entry)) (now (seen .entry)) (now (sheet .entry))
+        (now (edges .entry)) r (now (tables .exit)) (now (seen .exit)) (now (sheet .exit)) (now (edges .exit)) ⌝ }
 {
     edges::open_sentence(file, number, tables, seen, sheet, edges)
 }
 
 pub fn opened_records_at(file: &[u8], place: u32, sheet: &mut [u32], edges: &mut [Edge]) -> u32
-    ensures { λ r. ⌜ RecordsOpenedAt (now (file .entry)) place (now (sheet .entry)) (now (edges .entry)) r (now (sheet .exit)) (now (edges .exit)) ⌝ }
+    ensures { λ r. ⌜ RecordsOpenedAt (now (file .entry)) place (now (sheet .entry)) (now (edges .entry))
+        r (now (sheet .exit)) (now (edges .exit)) ⌝ }
 {
     edges::open_at(file, place, sheet, edges)
 }
@@ -32,8 +33,8 @@ pub fn written_records(
     sheet: &mut [u32],
     edges: &mut [Edge],
 ) -> Written
-    ensures { λ r. ⌜ RecordsWritten (now (file .entry)) (now (tables .entry)) (now (seen .entry)) (now (sheet .entry)) (now (edges .entry)) (now (output .entry))
-        r (now (tables .exit)) (now (seen .exit)) (now (sheet .exit)) (now (edges .exit)) (now (output .exit)) ⌝ }
+    ensures { λ r. ⌜ RecordsWritten (now (file .entry)) (now (tables .entry)) (now (seen .entry)) (now (sheet .entry))
+        (now (edges .entry)) (now (output .entry)) r (now (tables .exit)) (now (seen .exit)) (now (sheet .exit)) (now (edges .exit)) (now (output .exit)) ⌝ }
 {
     edges::write_text(file, output, tables, seen, sheet, edges)
 }
