@@ -10,10 +10,11 @@ The proved library does all judging; this package only calls it.
 
 from .corpus import Corpus, Row, Survey
 from .library import LibraryMissing
+from .reading import FileChanged
 from .refusals import RULES, NoSuchSentence, Refusal, Refused, Unexplained
 from .sentence import Node, Phrase, SecondaryEdge, Sentence, Word
 
 __all__ = [
-    "Corpus", "LibraryMissing", "NoSuchSentence", "Node", "Phrase", "Refusal", "Refused", "RULES", "Row",
+    "Corpus", "FileChanged", "LibraryMissing", "NoSuchSentence", "Node", "Phrase", "Refusal", "Refused", "RULES", "Row",
     "SecondaryEdge", "Sentence", "Survey", "Unexplained", "Word",
 ]  # fmt: skip

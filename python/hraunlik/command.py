@@ -4,10 +4,9 @@ from __future__ import annotations
 
 import argparse
 import json
-import multiprocessing
 import os
-import signal
 import sys
+from concurrent.futures import ThreadPoolExecutor
 from typing import Any, Dict, Iterator, List, Optional
 
 from .compare import compare
@@ -44,22 +43,19 @@ def look(name: str) -> Dict[str, Any]:
         return {"file": name, "error": error.reason}
 
 
-def looks(names: List[str], processes: int) -> Iterator[Dict[str, Any]]:
-    """One answer a name, in their order."""
-    if processes == 1 or len(names) < 2:
+def looks(names: List[str], threads: int) -> Iterator[Dict[str, Any]]:
+    """One answer a name, in their order. The library lets go of Python's lock while it works."""
+    if threads == 1:
         yield from map(look, names)
         return
-    ignoring = (signal.SIGINT, signal.SIG_IGN)
-    with multiprocessing.Pool(min(processes, len(names)), signal.signal, ignoring) as pool:
-        others = pool.imap(look, [name for name in names if name != STANDARD_INPUT])
-        for name in names:
-            yield look(name) if name == STANDARD_INPUT else next(others)
+    with ThreadPoolExecutor(threads) as pool:
+        yield from pool.map(look, names)
 
 
 def run_survey(options: argparse.Namespace) -> int:
     names = list(found(options.files, options.recursive))
     progress, answers = Progress(), []
-    for answer in looks(names, options.processes):
+    for answer in looks(names, options.threads):
         answers.append(answer)
         progress.end()
         if not options.json:
@@ -236,7 +232,7 @@ def parser() -> argparse.ArgumentParser:
     survey = command("survey", run_survey, "is each file accepted? a line for each, a mark under a column at fault, and a summary")
     survey.add_argument("files", nargs="+", metavar="FILE", help="- for standard input")
     survey.add_argument("-r", "--recursive", action="store_true", help="all files in directories")
-    survey.add_argument("-j", "--processes", type=positive, default=1, metavar="N", help="so many files at once")
+    survey.add_argument("-j", "--threads", type=positive, default=1, metavar="N", help="so many files at once")
     opening = command("open", run_open, "one sentence as a table")
     opening.add_argument("file", metavar="FILE")
     opening.add_argument("number", type=int, metavar="NUMBER")

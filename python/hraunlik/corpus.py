@@ -4,14 +4,13 @@ from __future__ import annotations
 
 import ctypes
 import functools
-import mmap
 import os
-import stat
 from dataclasses import dataclass
-from typing import BinaryIO, Dict, Iterator, List, NamedTuple, Optional, Union
+from typing import Dict, Iterator, List, NamedTuple, Optional, Union
 
 from . import layout, library
 from .pointing import column_at_fault, line_around
+from .reading import contents
 from .refusals import NoSuchSentence, Refusal, Refused, Unexplained
 from .sentence import Sentence
 
@@ -55,7 +54,7 @@ class Row(NamedTuple):
 
 
 class Corpus:
-    """A file, by path (mapped, not copied) or as bytes.
+    """A file, by path or as bytes.
 
     >>> corpus = Corpus("examples/schade.export")
     >>> for sentence in corpus:
@@ -78,26 +77,17 @@ class Corpus:
     >>> refusal.line, refusal.text, refusal.column, refusal.column_text
     (8, 'Ja ITJ -- SB 0', 5, '0')
 
-    A mapped file must not be changed while the corpus is in use (one cut shorter ends the program): of a file
-    that others save into, give the bytes. A corpus is for one thread at a time; make one for each.
+    A path's file is read once, at the beginning, and never again: what others save into it later changes nothing here.
+    If it is changed while it is read, `FileChanged` is raised.
     """
 
     def __init__(self, source: Source) -> None:
-        if isinstance(source, bytes):
-            self._take(source)
-        else:
-            with open(source, "rb") as file:
-                self._take(_contents(file))
+        self._take(source if isinstance(source, bytes) else contents(source))
 
-    def _take(self, data: Union[bytes, mmap.mmap], length: Optional[int] = None) -> None:
+    def _take(self, data: bytes, length: Optional[int] = None) -> None:
         self._data = data
         self._length = len(data) if length is None else length
-        if isinstance(data, bytes):
-            self._held: object = ctypes.c_char_p(data)
-            address = ctypes.cast(self._held, ctypes.c_void_p).value
-        else:
-            self._held = ctypes.c_char.from_buffer(data)
-            address = ctypes.addressof(self._held)
+        address = ctypes.cast(ctypes.c_char_p(data), ctypes.c_void_p).value
         self._lent = library.Lent(address, self._length)
 
     @functools.cached_property
@@ -272,11 +262,3 @@ def _bytes_of(tag: str) -> bytes:
         return tag.encode("latin-1")
     except UnicodeEncodeError:
         return b""
-
-
-def _contents(file: BinaryIO) -> Union[bytes, mmap.mmap]:
-    """A regular file mapped; of anything else what is read of it, a byte more than the limit at most."""
-    status = os.fstat(file.fileno())
-    if not stat.S_ISREG(status.st_mode) or status.st_size == 0:
-        return file.read(layout.FILE_LIMIT + 1)
-    return mmap.mmap(file.fileno(), 0, access=mmap.ACCESS_COPY)

@@ -11,6 +11,7 @@ from typing import BinaryIO, Iterable, Iterator, List, Optional
 
 from . import home, layout, library
 from .corpus import Corpus
+from .reading import FileChanged
 
 STANDARD_INPUT = "-"
 
@@ -35,6 +36,8 @@ def corpus_of(name: str) -> Corpus:
         return Corpus(name)
     except IsADirectoryError:
         raise Unusable(_of_a_directory(name), name) from None
+    except FileChanged as error:
+        raise Unusable(error.strerror, name) from None
     except (OSError, ValueError) as error:
         raise Unusable(f"can't be read: {getattr(error, 'strerror', None) or error}", name) from None
 

@@ -5,11 +5,8 @@ The library tells number and place. Where a text runs to the line's end is told 
 
 from __future__ import annotations
 
-import mmap
 import re
-from typing import NamedTuple, Optional, Union
-
-Bytes = Union[bytes, mmap.mmap]
+from typing import NamedTuple, Optional
 
 #: The refusals whose place is a column's first byte; of all others it is a line's, or the file's end.
 POINTING = frozenset((8, 10, 15, 18, 19))
@@ -38,7 +35,7 @@ class Column(NamedTuple):
     start: int  #: where it begins in the line, counted from 0
 
 
-def line_around(data: Bytes, place: int, end: int) -> Line:
+def line_around(data: bytes, place: int, end: int) -> Line:
     """The line that has a place, in a file with this end; of a line too long, its beginning.
 
     >>> line_around(b"#FORMAT 3\\n#BOT ORIGIN\\n", 15, 22)
@@ -49,7 +46,7 @@ def line_around(data: Bytes, place: int, end: int) -> Line:
     return Line(start, text.decode("latin-1"))
 
 
-def column_at_fault(number: int, data: Bytes, line: Line, place: int) -> Optional[Column]:
+def column_at_fault(number: int, data: bytes, line: Line, place: int) -> Optional[Column]:
     """The column at a place of a line, if the refusal with this number points at one.
 
     >>> rows = b"#FORMAT 3\\n#BOT EDITOR\\n1 kim Kim \\n"
@@ -77,7 +74,7 @@ def running_text(line: str, start: int, table: str) -> str:
     return rest.rstrip(WHITE)
 
 
-def table_around(data: Bytes, line: Line) -> Optional[str]:
+def table_around(data: bytes, line: Line) -> Optional[str]:
     """The table that a line stands in, None in a sentence. All lines in front of it keep the rules."""
     if data.rfind(b"\n#BOS", 0, line.start) >= 0:
         return None
