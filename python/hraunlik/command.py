@@ -22,6 +22,9 @@ from .words import unmarked, with_marked_tag
 
 ACCEPTED, REFUSED, UNUSABLE = 0, 1, 2
 
+#: Said of an accepted file: it may have been cut behind a sentence, or behind its tables.
+NO_FILE_CAN_TELL = "whether more followed, no file can tell; compare it with the original"
+
 
 def say(text: str) -> None:
     print(f"hraunlik: {text}", file=sys.stderr)
@@ -149,7 +152,7 @@ def run_rescue(options: argparse.Namespace) -> int:
     if report["kept_bytes"] and (options.output or not options.json):
         write_out(corpus.chunks(0, report["kept_bytes"]), options.output)
     if warn(corpus, options.file) == ACCEPTED:
-        say(f"{shown(options.file)} is whole: {counted(report['sentences'], 'sentence')}, nothing lost")
+        say(f"{shown(options.file)}: accepted as it stands: {counted(report['sentences'], 'sentence')}; {NO_FILE_CAN_TELL}")
         return ACCEPTED
     if report["kept_bytes"] == 0:
         say("kept: nothing, no sentence is whole; nothing was written")

@@ -86,7 +86,7 @@ def sentence_dictionary(sentence: Sentence) -> Dict[str, Any]:
 
 
 def rescued(corpus: Corpus) -> Dict[str, Any]:
-    """What is kept of a file, and what is lost. Of an accepted file nothing is lost."""
+    """What is kept of a file, and what is lost. An accepted file is kept as it stands."""
     survey = corpus.survey()
     kept = corpus.size if survey.accepted else survey.sound_end
     lines_before = corpus.line_at(kept) - 1

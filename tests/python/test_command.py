@@ -186,6 +186,16 @@ class Rescues(InARoom):
         self.assertIn("lost: all from line 11 on, byte 116: 2 whole lines, 44 bytes", error)
         self.assertEqual(os.listdir(self.room), ["kept"])
 
+    def test_nobody_knows_whether_a_file_is_whole(self):
+        """Cut behind a sentence, or behind the tables, it is accepted, and nothing is promised of it."""
+        whole = UNTIDY.read_bytes()
+        ends = [whole.index(end) + len(end) for end in (b"#EOT ORIGIN\n", b"#EOS 2\n", b"#EOS 1\n")]
+        for end, sentences in zip(ends, ("0 sentences", "1 sentence", "2 sentences")):
+            status, out, error = run("rescue", "-", given=whole[:end])
+            wanted = "whether more followed, no file can tell; compare it with the original"
+            self.assertEqual((status, out), (0, whole[:end]))
+            self.assertEqual(error, f"hraunlik: -: accepted as it stands: {sentences}; {wanted}\n")
+
     def test_nothing_sound(self):
         output = self.room / "kept"
         self.assertEqual(run("rescue", self.file("cut", JA[:100]), "-o", output)[0], 1)
