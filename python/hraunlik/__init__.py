@@ -3,7 +3,7 @@
 >>> import hraunlik
 >>> sentence = hraunlik.Corpus("examples/schade.export")[12]
 >>> sentence.roots
-[Word(1, ',', '$,'), Word(7, ',', '$,'), Word(11, '.', '$.'), Phrase(503, 'S')]
+[Phrase(503, 'S'), Word(1, ',', '$,'), Word(7, ',', '$,'), Word(11, '.', '$.')]
 
 The proved library does all judging; this package only calls it.
 """
@@ -12,7 +12,9 @@ from .corpus import Corpus, Row, Survey
 from .library import LibraryMissing
 from .reading import FileChanged
 from .refusals import RULES, NoSuchSentence, Refusal, Refused, Unexplained
-from .sentence import Node, Phrase, SecondaryEdge, Sentence, Word
+from .nodes import Node, Phrase, SecondaryEdge, Word
+from .sentence import Sentence
+from .version import VERSION as __version__
 
 __all__ = [
     "Corpus", "FileChanged", "LibraryMissing", "NoSuchSentence", "Node", "Phrase", "Refusal", "Refused", "RULES", "Row",

@@ -1,19 +1,15 @@
 """Two files by meaning: a backup and its original.
 
-Two sentences have the same meaning exactly if their tidy texts are the same, so the library's own writing decides.
+Lines that are the same mean the same. Of others the two sentences are opened, and what they say is compared.
 """
 
 from __future__ import annotations
 
 from dataclasses import dataclass, field
-from typing import Callable, Dict, List, Optional, Tuple
+from typing import Callable, Dict, List, Optional
 
 from . import layout
 from .corpus import Corpus, Row
-from .refusals import Refused
-
-#: What of a sentence, by its number, is the same exactly if its meaning is.
-Meanings = Callable[[int], object]
 
 
 @dataclass
@@ -43,23 +39,11 @@ def compare(old: Corpus, new: Corpus, tick: Callable[[int, int], None] = lambda 
     difference.missing = sorted(before - after)
     difference.new = sorted(after - before)
     both = sorted(before & after)
-    if not both:
-        return difference
-    meaning_before, meaning_after = _meanings(old, new)
     for done, number in enumerate(both):
         tick(done, len(both))
-        same = meaning_before(number) == meaning_after(number)
+        same = old.lines_from(number) == new.lines_from(number) or old.open(number) == new.open(number)
         (difference.same if same else difference.changed).append(number)
     return difference
-
-
-def _meanings(old: Corpus, new: Corpus) -> Tuple[Meanings, Meanings]:
-    """Of two files with sentences: their tidy lines, unless one of the tidy texts would pass the file limit."""
-    try:
-        tidy = [Corpus(corpus.sound_part().tidy()) for corpus in (old, new)]
-        return tidy[0].lines_from, tidy[1].lines_from
-    except Refused:
-        return lambda number: old.open(number).meaning(), lambda number: new.open(number).meaning()
 
 
 def _tables(old: Dict[str, List[Row]], new: Dict[str, List[Row]]) -> Dict[str, str]:

@@ -2,35 +2,46 @@
 
 from __future__ import annotations
 
-import ctypes
 import functools
+import operator
 import os
 from dataclasses import dataclass
-from typing import Dict, Iterator, List, NamedTuple, Optional, Union
+from typing import BinaryIO, Dict, Iterator, List, NamedTuple, Optional, Union
 
 from . import layout, library
 from .pointing import column_at_fault, line_around
-from .reading import contents
+from .reading import contents, drawn
 from .refusals import NoSuchSentence, Refusal, Refused, Unexplained
 from .sentence import Sentence
 
 CHUNK = 1 << 20
 
-Source = Union[str, "os.PathLike[str]", bytes]
+Source = Union[str, "os.PathLike[str]", bytes, bytearray, memoryview, BinaryIO]
+
+#: What begins the line behind a sentence's last node; inside a sentence no other line begins so.
+END = b"\n#EOS"
 
 
 @dataclass(frozen=True)
 class Survey:
-    """The answer to a file."""
+    """The answer to a file.
 
-    refusal: Optional[Refusal]  #: None if the file is accepted
-    place: int  #: first byte of the faulty line, or of its column at fault; the file's length if it is accepted
-    line: Optional[int]  #: number of the faulty line, from 1
-    sentences: int  #: how many were handed out
-    sound_end: int  #: the end of the last of them, or 0
+    refusal: why it is refused, None if it is accepted.
+    place: first byte of the faulty line, or of its column at fault; the file's length if it is accepted.
+    line: number of the faulty line, from 1.
+    sentences: how many were handed out.
+    sound_end: the end of the last of them, or 0.
+    """
+
+    refusal: Optional[Refusal]
+    place: int
+    line: Optional[int]
+    sentences: int
+    sound_end: int
 
     @property
     def accepted(self) -> bool:
+        """Whether the file keeps all rules."""
         return self.refusal is None
 
     @property
@@ -45,7 +56,7 @@ class Survey:
 
 
 class Row(NamedTuple):
-    """A row of a table: name, login or tag; comment, full name or description; the flag of WORDTAG."""
+    """A row of a table."""
 
     id: int
     name: str
@@ -53,8 +64,14 @@ class Row(NamedTuple):
     flag: bool
 
 
+Row.id.__doc__ = "Its id, from -1 on."
+Row.name.__doc__ = "The name of an origin, the login of an editor, or the tag."
+Row.description.__doc__ = "The comment of an origin, the full name of an editor, or the description of a tag."
+Row.flag.__doc__ = "Whether a word's tag has the flag Y."
+
+
 class Corpus:
-    """A file, by path or as bytes.
+    """A file, by path (in .gz too), as bytes, or as a file object opened for bytes.
 
     >>> corpus = Corpus("examples/schade.export")
     >>> for sentence in corpus:
@@ -77,26 +94,54 @@ class Corpus:
     >>> refusal.line, refusal.text, refusal.column, refusal.column_text
     (8, 'Ja ITJ -- SB 0', 5, '0')
 
-    A path's file is read once, at the beginning, and never again: what others save into it later changes nothing here.
-    If it is changed while it is read, `FileChanged` is raised.
+    A file is read once, at the beginning, and never again: what others save into it later changes nothing here. If it is
+    changed while it is read, `FileChanged` is raised. Several threads may use one corpus. In a `with`, or by `close()`, it
+    lets go of the file's bytes; sentences that were handed out stay.
     """
 
     def __init__(self, source: Source) -> None:
-        self._take(source if isinstance(source, bytes) else contents(source))
+        self._path: Optional[str] = None
+        if isinstance(source, (bytes, bytearray, memoryview)):
+            self._take(bytes(source))
+        elif hasattr(source, "read"):
+            self._path = getattr(source, "name", None)
+            self._take(drawn(source))
+        else:
+            self._path = os.fspath(source)
+            self._take(contents(source))
 
     def _take(self, data: bytes, length: Optional[int] = None) -> None:
-        self._data = data
-        self._length = len(data) if length is None else length
-        address = ctypes.cast(ctypes.c_char_p(data), ctypes.c_void_p).value
-        self._lent = library.Lent(address, self._length)
+        self._lent: Optional[library.Lent] = library.Lent(data, len(data) if length is None else length)
+
+    @property
+    def path(self) -> Optional[str]:
+        """The file's path, as it was given; None of bytes."""
+        return self._path if isinstance(self._path, str) else None
+
+    @property
+    def _file(self) -> library.Lent:
+        if self._lent is None:
+            raise ValueError(f"{self!r} is closed")
+        return self._lent
+
+    def close(self) -> None:
+        """Lets go of the file's bytes. What needs them then raises `ValueError`."""
+        self._lent = None
+
+    def __enter__(self) -> "Corpus":
+        return self
+
+    def __exit__(self, *raised: object) -> None:
+        self.close()
+
+    def __repr__(self) -> str:
+        if self._lent is None:
+            return f"Corpus({self.path!r}, closed)"
+        return f"Corpus({self.path!r})" if self.path else f"Corpus(<{self.size:,} bytes>)"
 
     @functools.cached_property
     def _index(self) -> library.Index:
-        return library.index(self._lent)
-
-    @functools.cached_property
-    def _opener(self) -> library.Opener:
-        return library.Opener()
+        return library.index(self._file)
 
     @functools.cached_property
     def _survey(self) -> Survey:
@@ -113,14 +158,13 @@ class Corpus:
         """This corpus if the file is accepted; else `Refused` is raised."""
         refusal = self._survey.refusal
         if refusal is not None:
-            raise Refused(refusal)
+            raise Refused(refusal, self.path)
         return self
 
     @functools.cached_property
     def numbers(self) -> List[int]:
         """The numbers of the sentences handed out, in the file's order."""
-        places = self._index.places
-        return sorted((number for number, place in enumerate(places) if place), key=places.__getitem__)
+        return list(self._index.begins)
 
     def open(self, number: int) -> Sentence:
         """A sentence that was handed out, of a refused file too; else `NoSuchSentence` is raised.
@@ -128,22 +172,21 @@ class Corpus:
         >>> Corpus("examples/ja.export").open(7)
         Sentence(7, words=1, phrases=1)
         """
-        place = self._index.places[number] if 0 <= number < layout.PLACES else 0
-        opened = self._opener.open_at(self._lent, place - 1) if place else None
-        if opened is None:
-            raise NoSuchSentence(Refusal(24, self._index.place))
-        return Sentence(self._bytes_at, opened)
+        data, place = self._file.data, self._index.begins.get(operator.index(number))
+        if place is None:
+            raise NoSuchSentence(Refusal(24, self._index.place), self.path)
+        return _sentence_at(data, place)
 
     def handed_out(self) -> Iterator[Sentence]:
         """The sentences in front of the fault, if there is one, in the file's order."""
-        return map(self.open, self.numbers)
+        data, begins = self._file.data, self._index.begins
+        return (_sentence_at(data, place) for place in begins.values())
 
     @functools.cached_property
     def _ends(self) -> Dict[int, int]:
         """By sentence number, where the next sentence begins."""
-        places, numbers = self._index.places, self.numbers
-        following = [places[number] - 1 for number in numbers[1:]]
-        return dict(zip(numbers, following + [self._index.sound_end]))
+        begins = self._index.begins
+        return dict(zip(begins, [*list(begins.values())[1:], self._index.sound_end]))
 
     def lines_from(self, number: int) -> bytes:
         """The file from where a sentence begins to where the next one does, or to the sound end.
@@ -152,19 +195,36 @@ class Corpus:
         b'#BOS 7 2 0 1\\nJa ITJ -- -- 500\\n#500 S -- -- 0\\n#EOS 7\\n'
         """
         if number not in self._ends:
-            raise NoSuchSentence(Refusal(24, self._index.place))
-        return self._data[self._index.places[number] - 1 : self._ends[number]]
+            raise NoSuchSentence(Refusal(24, self._index.place), self.path)
+        return self._file.data[self._index.begins[number] : self._ends[number]]
 
     def __getitem__(self, number: int) -> Sentence:
+        """The sentence with a number."""
+        if isinstance(number, slice):
+            raise TypeError("a corpus is asked for a sentence by its number; for several, take a slice of corpus.numbers")
         return self.accepted().open(number)
 
+    def __contains__(self, asked: object) -> bool:
+        """Whether there is a sentence with this number, or this very sentence."""
+        begins = self.accepted()._index.begins
+        if isinstance(asked, Sentence):
+            return asked.number in begins and self.open(asked.number) == asked
+        return asked in begins
+
     def __len__(self) -> int:
+        """How many sentences there are."""
         return self.accepted()._index.sentences
 
     def __iter__(self) -> Iterator[Sentence]:
+        """The sentences, in the file's order."""
         return self.accepted().handed_out()
 
+    def __reversed__(self) -> Iterator[Sentence]:
+        """The sentences, the file's last first."""
+        return map(self.open, reversed(self.accepted().numbers))
+
     def __bool__(self) -> bool:
+        """A corpus is true, without sentences too."""
         return True
 
     @functools.cached_property
@@ -174,7 +234,7 @@ class Corpus:
         >>> Corpus("examples/ja.export").tables["EDITOR"]
         [Row(id=2, name='kim', description='Kim', flag=False)]
         """
-        found = ((name, layout.rows(self._index.tables, table)) for table, name in enumerate(layout.TABLE_NAMES))
+        found = zip(layout.TABLE_NAMES, self._index.tables)
         return {name: list(map(self._row, rows)) for name, rows in found if rows is not None}
 
     def _row(self, row: layout.Record) -> Row:
@@ -194,22 +254,26 @@ class Corpus:
         `Refused` if one of the two files is refused.
         """
         other = self if tags is None else tags if isinstance(tags, Corpus) else Corpus(tags)
-        told = library.explain(self._lent, other._lent, layout.table_place(table), _bytes_of(tag))
+        told = library.explain(self._file, other._file, layout.table_place(table), _bytes_of(tag))
         if told.refusal == 0:
             holder = self if told.of == layout.OF_FILE else other
             return holder._bytes_at(told.start, told.length).decode("latin-1")
         for corpus in (self, other):
             refusal = corpus.survey().refusal
             if refusal is not None and refusal.number == told.refusal:
-                raise Refused(refusal)
-        raise Unexplained(Refusal(told.refusal, 0))
+                raise Refused(refusal, corpus.path)
+        raise Unexplained(Refusal(told.refusal, 0), self.path)
 
     def tidy(self) -> bytes:
         """The tidy text; `Refused` is raised if the file is refused or the text has no room."""
+        return bytes(self.tidy_view())
+
+    def tidy_view(self) -> memoryview:
+        """The tidy text where the library wrote it: of a large file `tidy` takes as much memory once more."""
         self.accepted()
-        written = library.write(self._lent)
+        written = library.write(self._file)
         if written.refusal:
-            raise Refused(self._refusal(written.refusal, written.place))
+            raise Refused(self._refusal(written.refusal, written.place), self.path)
         return written.text
 
     def sound_part(self) -> "Corpus":
@@ -222,38 +286,47 @@ class Corpus:
         1
         """
         part = Corpus.__new__(Corpus)
-        part._take(self._data, self._index.sound_end)
+        part._path = self._path
+        part._take(self._file.data, self._index.sound_end)
         return part
 
     @property
     def size(self) -> int:
         """The file's length in bytes."""
-        return self._length
+        return self._file.length
 
     def __bytes__(self) -> bytes:
-        return self._data[: self._length]
+        """The file."""
+        return self._file.data[: self.size]
 
     def chunks(self, start: int = 0, end: Optional[int] = None) -> Iterator[bytes]:
         """The file's bytes between two places, piece by piece."""
-        end = self._length if end is None else end
+        data, length = self._file
+        end = length if end is None else end
         for at in range(start, end, CHUNK):
-            yield self._data[at : min(at + CHUNK, end)]
+            yield data[at : min(at + CHUNK, end)]
 
     def line_at(self, place: int) -> int:
         """The number, from 1, of the line that has this place."""
-        return 1 + sum(chunk.count(b"\n") for chunk in self.chunks(0, place))
+        return 1 + self._file.data.count(b"\n", 0, place)
 
     def _refusal(self, number: int, place: int) -> Refusal:
         if number in (1, 2, 25):
             return Refusal(number, place)
-        if place == self._length:
+        data, length = self._file
+        if place == length:
             return Refusal(number, place, self.line_at(place))
-        line = line_around(self._data, place, self._length)
-        column = column_at_fault(number, self._data, line, place)
+        line = line_around(data, place, length)
+        column = column_at_fault(number, data, line, place)
         return Refusal(number, place, self.line_at(place), line.text, *(column or ()))
 
     def _bytes_at(self, start: int, length: int) -> bytes:
-        return self._data[start : start + length]
+        return self._file.data[start : start + length]
+
+
+def _sentence_at(data: bytes, place: int) -> Sentence:
+    """The sentence that was found at a place, of its own lines."""
+    return Sentence(data[place : data.index(b"\n", data.index(END, place) + 1) + 1])
 
 
 def _bytes_of(tag: str) -> bytes:

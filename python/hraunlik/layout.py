@@ -11,12 +11,17 @@ True
 from __future__ import annotations
 
 import re
-from typing import List, Optional, Sequence
+import struct
+from array import array
+from typing import Dict, Iterator, List, Optional, Sequence, Tuple
 
 from .home import HEADER
 
-#: The numbers of a heading, a node, a row or an edge.
-Record = List[int]
+#: The numbers of a heading, a row or an edge.
+Record = Sequence[int]
+
+#: The code of `array` for what a sheet is made of.
+NUMBER = "I"
 
 _NUMBERS = {name: int(number) for name, number in re.findall(r"\bHRAUNLIK_(\w+) = (\d+)", HEADER.read_text())}
 
@@ -79,7 +84,8 @@ def rows(tables: Sequence[int], table: int) -> Optional[List[Record]]:
     if tables[table] == 0:
         return None
     first = TABLE_COUNT + table * ROWS_OF_A_TABLE * ROW_SIZE
-    return _records(tables, first, tables[table] - 1, ROW_SIZE)
+    used = tables[first : first + (tables[table] - 1) * ROW_SIZE]
+    return [used[at : at + ROW_SIZE] for at in range(0, len(used), ROW_SIZE)]
 
 
 def table_place(name: str) -> int:
@@ -87,24 +93,52 @@ def table_place(name: str) -> int:
     return TABLE_NAMES.index(name) + 1 if name in TABLE_NAMES else 0
 
 
-def heading(sheet: Sequence[int]) -> Record:
-    """The leading numbers of a sentence sheet."""
-    return list(sheet[:HEAD_SIZE])
+def begins(seen: bytes, places: Sequence[int]) -> Dict[int, int]:
+    """By the number of each sentence handed out, where it begins; in the file's order."""
+    used = seen.rstrip(b"\0")
+    numbers = [8 * at + bit for at, byte in enumerate(used) if byte for bit in range(8) if byte >> bit & 1]
+    entries = places[: 8 * len(used)]
+    numbers.sort(key=entries.__getitem__)
+    return {number: entries[number] - 1 for number in numbers}
 
 
-def words(sheet: Sequence[int]) -> List[Record]:
-    return _records(sheet, HEAD_SIZE, sheet[HEAD_WORDS], NODE_SIZE)
+#: The leading numbers of a sentence sheet; the records of words, of phrases and of secondary edges, as bytes.
+Opened = Tuple[Record, bytes, bytes, bytes]
+
+_HEAD = struct.Struct(f"{HEAD_SIZE}{NUMBER}")
+_NUMBER = struct.Struct(NUMBER)
+_EACH = _NUMBER.size
+_WORDS_AT = HEAD_SIZE * _EACH
+_NODE_BYTES = NODE_SIZE * _EACH
+_PHRASES_AT = _WORDS_AT + FIRST_PHRASE * _NODE_BYTES
 
 
-def phrases(sheet: Sequence[int]) -> List[Record]:
-    return _records(sheet, HEAD_SIZE + FIRST_PHRASE * NODE_SIZE, sheet[HEAD_PHRASES], NODE_SIZE)
+def opened(sheet: memoryview, edges: memoryview) -> Opened:
+    """A copy of what is used of both; they are lent as bytes."""
+    head = _HEAD.unpack_from(sheet)
+    words = bytes(sheet[_WORDS_AT : _WORDS_AT + head[HEAD_WORDS] * _NODE_BYTES])
+    phrases = bytes(sheet[_PHRASES_AT : _PHRASES_AT + head[HEAD_PHRASES] * _NODE_BYTES])
+    listed = head[HEAD_EDGES]
+    return head, words, phrases, bytes(edges[: listed * EDGE_SIZE * _EACH]) if listed else b""
 
 
-def secondary_edges(sheet: Sequence[int], edges: Sequence[int]) -> List[Record]:
-    return _records(edges, 0, sheet[HEAD_EDGES], EDGE_SIZE)
+def parents(nodes: bytes) -> array:
+    """The number of each node's parent."""
+    return array(NUMBER, nodes)[NODE_PARENT::NODE_SIZE]
 
 
-def _records(numbers: Sequence[int], first: int, count: int, size: int) -> List[Record]:
-    """So many records of one size, the first of which begins at a place."""
-    used = list(numbers[first : first + count * size])
-    return [used[at : at + size] for at in range(0, len(used), size)]
+def first_text(nodes: bytes, field: int) -> int:
+    """Where the text of the first node begins in a field."""
+    return _NUMBER.unpack_from(nodes, field * _EACH)[0]
+
+
+def texts(nodes: bytes, field: int) -> Iterator[Tuple[int, int]]:
+    """Start and length of each node's text in a field."""
+    numbers = array(NUMBER, nodes)
+    return zip(numbers[field::NODE_SIZE], numbers[field + 1 :: NODE_SIZE])
+
+
+def edge_records(edges: bytes) -> Iterator[Tuple[int, int, int, int]]:
+    """Child, label's start and length, and parent of each secondary edge."""
+    numbers = array(NUMBER, edges)
+    return zip(*(numbers[at::EDGE_SIZE] for at in (EDGE_CHILD, EDGE_LABEL, EDGE_LABEL + 1, EDGE_PARENT)))

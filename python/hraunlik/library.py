@@ -5,8 +5,9 @@ from __future__ import annotations
 import ctypes
 import functools
 import os
+import threading
 from pathlib import Path
-from typing import NamedTuple, Optional
+from typing import Dict, List, NamedTuple, Optional
 
 from . import home, layout
 
@@ -20,9 +21,9 @@ class LibraryMissing(RuntimeError):
 
 
 class Lent(NamedTuple):
-    """A slice of bytes that stays where it is: address and length."""
+    """A file, or its front: bytes that stay where they are as long as a call holds them, and how many are lent."""
 
-    address: int
+    data: bytes
     length: int
 
 
@@ -33,17 +34,12 @@ class Index(NamedTuple):
     place: int
     sentences: int
     sound_end: int
-    tables: list[int]
-    places: list[int]
+    tables: List[Optional[List[layout.Record]]]  #: the rows of each table, in the order of layout.TABLE_NAMES
+    begins: Dict[int, int]  #: by number, where each sentence begins, in the file's order
 
 
-class Opened(NamedTuple):
-    """What a sentence sheet and its list of secondary edges hold."""
-
-    head: layout.Record
-    words: list[layout.Record]
-    phrases: list[layout.Record]
-    edges: list[layout.Record]
+#: After these refusals no buffer has changed: it holds what another call left.
+UNTOUCHED = (1, 2)
 
 
 def find() -> Optional[Path]:
@@ -79,37 +75,45 @@ def _declare(library: ctypes.CDLL, name: str, takes: list) -> None:
     function.restype = Number
 
 
-def _lend(buffer: ctypes.Array) -> Lent:
-    return Lent(ctypes.addressof(buffer), len(buffer))
+def _lend(buffer: ctypes.Array) -> tuple:
+    return ctypes.c_void_p(ctypes.addressof(buffer)), ctypes.c_size_t(len(buffer))
+
+
+class Rooms(threading.local):
+    """The buffers that a thread lends, each call anew: no thread sees those of another."""
+
+    def __init__(self) -> None:
+        self.tables = (Number * layout.TABLE_SHEET)()
+        self.seen = (ctypes.c_uint8 * layout.SEEN_SET)()
+        self.places = (Number * layout.PLACES)()
+        self.sheet = (Number * layout.SENTENCE_SHEET)()
+        self.edges = (Number * layout.EDGE_LIST)()
+        self.of_a_survey = (*_lend(self.tables), *_lend(self.seen))
+        self.of_a_sentence = (*_lend(self.sheet), *_lend(self.edges))
+        self.as_bytes = memoryview(self.sheet).cast("B"), memoryview(self.edges).cast("B")
+
+
+_rooms = Rooms()
 
 
 def index(file: Lent) -> Index:
     """Surveys a file, and tells where each sentence handed out begins."""
-    tables = (Number * layout.TABLE_SHEET)()
-    seen = (ctypes.c_uint8 * layout.SEEN_SET)()
-    places = (Number * layout.PLACES)()
+    rooms = _rooms
     place, sentences, sound_end = Number(), Number(), Number()
-    refusal = load().hraunlik_index(
-        *file, *_lend(tables), *_lend(seen), *_lend(places), place, sentences, sound_end
-    )
-    return Index(refusal, place.value, sentences.value, sound_end.value, tables[:], places[:])
+    refusal = load().hraunlik_index(*file, *rooms.of_a_survey, *_lend(rooms.places), place, sentences, sound_end)
+    if refusal in UNTOUCHED:
+        return Index(refusal, place.value, sentences.value, sound_end.value, [None] * layout.TABLE_COUNT, {})
+    tables = [layout.rows(rooms.tables, table) for table in range(layout.TABLE_COUNT)]
+    begins = layout.begins(bytes(rooms.seen), rooms.places)
+    return Index(refusal, place.value, sentences.value, sound_end.value, tables, begins)
 
 
-class Opener:
-    """Opens sentences of one file; the buffers are lent anew for each."""
-
-    def __init__(self) -> None:
-        self._sheet = (Number * layout.SENTENCE_SHEET)()
-        self._edges = (Number * layout.EDGE_LIST)()
-        self._lent = (*_lend(self._sheet), *_lend(self._edges))
-        self._call = load().hraunlik_open_at
-
-    def open_at(self, file: Lent, place: int) -> Optional[Opened]:
-        """The sentence that begins at a place, or None if there is none."""
-        if self._call(*file, place, *self._lent) != 0:
-            return None
-        sheet, edges = self._sheet, layout.secondary_edges(self._sheet, self._edges)
-        return Opened(layout.heading(sheet), layout.words(sheet), layout.phrases(sheet), edges)
+def open_lines(lines: bytes) -> Optional[layout.Opened]:
+    """The sentence that begins with these lines, or None if there is none."""
+    rooms = _rooms
+    if load().hraunlik_open_at(lines, len(lines), 0, *rooms.of_a_sentence) != 0:
+        return None
+    return layout.opened(*rooms.as_bytes)
 
 
 class Written(NamedTuple):
@@ -117,21 +121,17 @@ class Written(NamedTuple):
 
     refusal: int
     place: int
-    text: bytes
+    text: memoryview
 
 
 def write(file: Lent) -> Written:
     """The tidy text of a file."""
-    output = (ctypes.c_uint8 * (file.length + layout.TIDY_ROOM))()
-    tables = (Number * layout.TABLE_SHEET)()
-    seen = (ctypes.c_uint8 * layout.SEEN_SET)()
-    sheet = (Number * layout.SENTENCE_SHEET)()
-    edges = (Number * layout.EDGE_LIST)()
+    rooms = _rooms
+    output = bytearray(file.length + layout.TIDY_ROOM)
+    room = ctypes.addressof(ctypes.c_char.from_buffer(output)), len(output)
     place, length = Number(), Number()
-    refusal = load().hraunlik_write(
-        *file, *_lend(output), *_lend(tables), *_lend(seen), *_lend(sheet), *_lend(edges), place, length
-    )
-    return Written(refusal, place.value, ctypes.string_at(output, length.value))
+    refusal = load().hraunlik_write(*file, *room, *rooms.of_a_survey, *rooms.of_a_sentence, place, length)
+    return Written(refusal, place.value, memoryview(output)[: length.value])
 
 
 class Explained(NamedTuple):
@@ -145,11 +145,6 @@ class Explained(NamedTuple):
 
 def explain(file: Lent, tags: Lent, table: int, tag: bytes) -> Explained:
     """Where the description of a tag stands; the table is named by its place, from 1."""
-    tables = (Number * layout.TABLE_SHEET)()
-    seen = (ctypes.c_uint8 * layout.SEEN_SET)()
-    text = ctypes.create_string_buffer(tag)
     of, start, length = Number(), Number(), Number()
-    refusal = load().hraunlik_explain(
-        *file, *tags, table, ctypes.addressof(text), len(tag), *_lend(tables), *_lend(seen), of, start, length
-    )
+    refusal = load().hraunlik_explain(*file, *tags, table, tag, len(tag), *_rooms.of_a_survey, of, start, length)
     return Explained(refusal, of.value, start.value, length.value)

@@ -8,7 +8,7 @@ import os
 import stat
 import time
 import zlib
-from typing import BinaryIO, Union
+from typing import BinaryIO, Callable, Union
 
 from . import layout
 
@@ -27,11 +27,26 @@ class FileChanged(OSError):
 
 def contents(path: Path) -> bytes:
     """What a file holds, a byte more than the limit at most."""
+    name = os.fspath(path)
     with open(path, "rb") as file:
-        before = _settled(file)
-        data = _unpacked(file, path) if os.fspath(path).endswith(PACKED) else _plain(file, before)
-        if _time_and_size(before) != _time_and_size(os.fstat(file.fileno())):
-            raise FileChanged(errno.ESTALE, "changed while it was read; nothing is told of it", os.fspath(path))
+        return _steady(file, name, _unpacked if name.endswith(PACKED) else _plain)
+
+
+def drawn(stream: BinaryIO) -> bytes:
+    """What is still to be read of a file object, a byte more than the limit at most."""
+    try:
+        stream.fileno()
+    except (AttributeError, OSError):
+        return _plain(stream)
+    return _steady(stream, str(getattr(stream, "name", "")), _plain)
+
+
+def _steady(file: BinaryIO, name: str, read: Callable[[BinaryIO], bytes]) -> bytes:
+    """What is read, if the file stays as it is meanwhile."""
+    before = _settled(file)
+    data = read(file)
+    if _time_and_size(before) != _time_and_size(os.fstat(file.fileno())):
+        raise FileChanged(errno.ESTALE, "changed while it was read; nothing is told of it", name)
     return data
 
 
@@ -49,14 +64,31 @@ def _time_and_size(status: os.stat_result) -> tuple:
     return (status.st_mtime_ns, status.st_size) if stat.S_ISREG(status.st_mode) else ()
 
 
-def _plain(file: BinaryIO, status: os.stat_result) -> bytes:
-    """As much as a file has; what has no size of its own, as a pipe, is read to its end."""
-    return file.read(min(status.st_size or layout.FILE_LIMIT, layout.FILE_LIMIT) + 1)
+def _plain(file: BinaryIO) -> bytes:
+    """All that a file has up to the limit; a stream may give it in parts."""
+    pieces, room = [], layout.FILE_LIMIT + 1
+    while room:
+        piece = file.read(min(room, _size_told(file)))
+        if not isinstance(piece, bytes):
+            raise TypeError("a corpus is read from bytes: open the file with mode 'rb'")
+        if not piece:
+            break
+        pieces.append(piece)
+        room -= len(piece)
+    return pieces[0] if len(pieces) == 1 else b"".join(pieces)
 
 
-def _unpacked(file: BinaryIO, path: Path) -> bytes:
+def _size_told(file: BinaryIO) -> int:
+    """A byte more than the file's length, if it has one; reading so many takes no more memory than the file."""
+    try:
+        return (os.fstat(file.fileno()).st_size or layout.FILE_LIMIT) + 1
+    except (AttributeError, OSError):
+        return layout.FILE_LIMIT + 1
+
+
+def _unpacked(file: BinaryIO) -> bytes:
     try:
         with gzip.GzipFile(fileobj=file) as packed:
             return packed.read(layout.FILE_LIMIT + 1)
     except (EOFError, zlib.error, gzip.BadGzipFile) as error:
-        raise OSError(errno.EIO, f"the packed file is cut or damaged: {error}", os.fspath(path)) from None
+        raise OSError(errno.EIO, f"the packed file is cut or damaged: {error}") from None

@@ -51,6 +51,14 @@ RULES: dict[int, Rule] = {
 class Refusal:
     """Why a file was refused, and where.
 
+    number: which rule it is, from 1 to 26.
+    place: the first byte of the faulty line, or of the column at fault; or the file's length.
+    line: the faulty line, counted from 1; None where the number speaks of no line.
+    text: the faulty line; None if only the file's end shows the fault.
+    column: the column at fault, counted from 1; None where the number points at none.
+    column_text: its text; of a text that runs to the line's end, the whole.
+    column_start: where it begins in `text`, counted from 0.
+
     >>> print(Refusal(22, 94, 9, "#EOS 1"))
     refusal 22, line 9: a node of the sentence names a parent that isn't there
       "#EOS 1"
@@ -66,23 +74,26 @@ class Refusal:
     """
 
     number: int
-    place: int  #: the first byte of the faulty line, or of the column at fault; or the file's length
-    line: Optional[int] = None  #: counted from 1; None where the number speaks of no line
-    text: Optional[str] = None  #: the faulty line; None if only the file's end shows the fault
-    column: Optional[int] = None  #: the column at fault, counted from 1; None where the number points at none
-    column_text: Optional[str] = None  #: its text; of a text that runs to the line's end, the whole
-    column_start: Optional[int] = field(default=None, repr=False)  #: where it begins in `text`, counted from 0
+    place: int
+    line: Optional[int] = None
+    text: Optional[str] = None
+    column: Optional[int] = None
+    column_text: Optional[str] = None
+    column_start: Optional[int] = field(default=None, repr=False)
 
     @property
     def meaning(self) -> str:
+        """The rule that is broken, in words."""
         return RULES[self.number].meaning
 
     @property
     def cure(self) -> str:
+        """How to mend the file."""
         return RULES[self.number].cure
 
     @property
     def where(self) -> str:
+        """Line and column, in words."""
         if self.line is None:
             return ""
         if self.text is None:
@@ -120,14 +131,15 @@ class Refusal:
 
 
 class Refused(Exception):
-    """Raised where a file must be accepted and isn't; `.refusal` is the reason."""
+    """Raised where a file must be accepted and isn't; `.refusal` is the reason, `.file` the path, None of bytes."""
 
-    def __init__(self, refusal: Refusal) -> None:
-        super().__init__(refusal)
+    def __init__(self, refusal: Refusal, file: Optional[str] = None) -> None:
+        super().__init__(refusal, file)
         self.refusal = refusal
+        self.file = file
 
     def __str__(self) -> str:
-        return str(self.refusal)
+        return f"{shown(self.file)}: {self.refusal}" if self.file else str(self.refusal)
 
 
 class NoSuchSentence(Refused, KeyError):

@@ -11,7 +11,8 @@ from .gallery import Entry
 from .pointing import POINTING, column_at_fault, line_around
 from .refusals import Refusal
 from .showing import mark_under, marked, shown, written_out
-from .sentence import Node, Sentence, Word
+from .nodes import Node, Word
+from .sentence import Sentence
 
 RED, GREEN = "31", "32"
 
@@ -90,7 +91,7 @@ def rescued(corpus: Corpus) -> Dict[str, Any]:
     survey = corpus.survey()
     kept = corpus.size if survey.accepted else survey.sound_end
     lines_before = corpus.line_at(kept) - 1
-    lost_lines = sum(chunk.count(b"\n") for chunk in corpus.chunks(kept))
+    lost_lines = corpus.line_at(corpus.size) - 1 - lines_before
     return {
         **answer_of(corpus), "kept_bytes": kept, "kept_lines": lines_before,
         "lost_bytes": corpus.size - kept, "lost_whole_lines": lost_lines, "lost_from_line": lines_before + 1,

@@ -77,8 +77,8 @@ class WhileRead(InARoom):
             self.path.write_bytes(OLD)
             read = reading._plain
 
-            def changing(file, status):
-                data = read(file, status)
+            def changing(file):
+                data = read(file)
                 change()
                 return data
 

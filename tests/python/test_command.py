@@ -6,7 +6,7 @@ from unittest import mock
 
 from cases import GALLERY, HALF, JA, SCHADE, UNTIDY, gallery
 from commanding import OF_ONE_FILE, InARoom, run, started
-from hraunlik import Corpus, Refusal, Refused
+from hraunlik import Corpus, library
 
 
 class Surveys(InARoom):
@@ -229,12 +229,14 @@ class Comparisons(InARoom):
         self.assertEqual(self.told(JA, JA.replace(b"Kim", b"Kem")), (1, [7], [], [], [], {"EDITOR": "changed"}))
         self.assertEqual(self.told(JA, JA[:119])[3], [7])
 
-    def test_without_room_for_tidy_texts(self):
-        """A file close to the limit may have a tidy text beyond it; it is compared all the same."""
-        full = Refused(Refusal(25, 0))
-        with mock.patch.object(Corpus, "tidy", side_effect=full):
+    def test_each_file_is_surveyed_once(self):
+        """And no tidy text is made, for which memory or, close to the limit, room may lack."""
+        with mock.patch.object(library, "write", side_effect=AssertionError), mock.patch.object(
+            library, "index", side_effect=library.index
+        ) as surveys:
             self.assertEqual(self.told(JA, JA.replace(b"Ja ", b"Ja  ")), (0, [7], [], [], [], {}))
             self.assertEqual(self.told(JA, JA.replace(b"Ja ", b"Ne ")), (1, [], [7], [], [], {}))
+        self.assertEqual(surveys.call_count, 4)
 
     def test_of_refused_files_the_sound_parts(self):
         rest = b"#BOS 8 2 0 1\nNe"

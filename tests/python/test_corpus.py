@@ -13,7 +13,7 @@ from cases import GALLERY, HALF, JA, ROOT, SCHADE, UNTIDY, gallery, numbers, pri
 from hraunlik import Corpus, layout, library
 from hraunlik.compare import compare
 
-MODULES = ["", ".corpus", ".compare", ".files", ".gallery", ".layout", ".pointing", ".refusals", ".sentence", ".showing", ".told", ".words"]
+MODULES = ["", ".corpus", ".compare", ".files", ".gallery", ".layout", ".making", ".nodes", ".pointing", ".refusals", ".sentence", ".showing", ".told", ".words"]
 
 
 def load_tests(loader, tests, pattern):
@@ -63,7 +63,7 @@ class Sentences(unittest.TestCase):
         low = sentence.phrase(500)
         self.assertEqual([(e.label, e.parent.number) for e in low.secondary], [("RE", 501)])
         self.assertEqual((low.comment, sentence.comment), ("twice", "checked"))
-        self.assertEqual(sentence.phrase(501).children, [second, low])
+        self.assertEqual(sentence.phrase(501).children, [low, second])
         self.assertEqual(sentence.phrase(501).words, [first, second])
         self.assertEqual(sentence.roots, [sentence.phrase(501)])
         self.assertEqual((sentence.editor, sentence.origin, sentence.date), (0, 1, 0))
@@ -73,9 +73,9 @@ class Sentences(unittest.TestCase):
         corpus = Corpus(GALLERY / "shared-subject.export")
         joined, circle = corpus[7], corpus[8]
         self.assertEqual(joined.phrase(501).parent, joined.phrase(502))
-        self.assertEqual(joined.phrase(501).secondary, [("SB", joined.phrase(500))])
-        self.assertEqual(circle.phrase(500).secondary, [("RE", circle.phrase(501))])
-        self.assertEqual(circle.phrase(501).secondary, [("RE", circle.phrase(500))])
+        self.assertEqual(joined.phrase(501).secondary, (("SB", joined.phrase(500)),))
+        self.assertEqual(circle.phrase(500).secondary, (("RE", circle.phrase(501)),))
+        self.assertEqual(circle.phrase(501).secondary, (("RE", circle.phrase(500)),))
 
     def test_order_and_numbers(self):
         corpus = Corpus(UNTIDY)

@@ -1,0 +1,3 @@
+"""The version of package, command and library: it grows with every request that changes an answer (docs/CHANGES.md)."""
+
+VERSION = "0.4.0"
