@@ -30,6 +30,7 @@ pub struct Corpus<'f> {
     survey: Survey,
     tables: Vec<u32>,
     places: Vec<u32>,
+    numbers: Vec<u32>,
 }
 
 impl<'f> Corpus<'f> {
@@ -45,11 +46,15 @@ impl<'f> Corpus<'f> {
         let (mut tables, mut seen) = (vec![0; TABLES], vec![0; SEEN]);
         let mut places = vec![0; PLACES];
         let survey = calls::index(file, &mut tables, &mut seen, &mut places);
+        let mut numbers: Vec<u32> = (0..).take(PLACES).collect();
+        numbers.retain(|&number| places[number as usize] > 0);
+        numbers.sort_unstable_by_key(|&number| places[number as usize]);
         Corpus {
             file,
             survey,
             tables,
             places,
+            numbers,
         }
     }
 
@@ -76,10 +81,17 @@ impl<'f> Corpus<'f> {
         &self.file[..self.survey.sound_end as usize]
     }
 
-    /// The numbers of the sentences handed out, in their order.
+    /// The numbers of the sentences handed out, in the file's order.
+    ///
+    /// ```
+    /// let file = std::fs::read("../examples/gallery/untidy.export")?;
+    /// let corpus = hraunlik::Corpus::new(&file);
+    /// assert_eq!(corpus.numbers().collect::<Vec<_>>(), [2, 1]);
+    /// assert!(corpus.sentences().map(|sentence| sentence.number()).eq(corpus.numbers()));
+    /// # Ok::<(), std::io::Error>(())
+    /// ```
     pub fn numbers(&self) -> impl Iterator<Item = u32> + '_ {
-        let entries = self.places.iter().zip(0..);
-        entries.filter_map(|(&entry, number)| (entry > 0).then_some(number))
+        self.numbers.iter().copied()
     }
 
     /// The sentence with a number, if it is handed out. It is read alone.
@@ -97,11 +109,11 @@ impl<'f> Corpus<'f> {
         Room::new().open(self, number)
     }
 
-    /// All sentences handed out, by number, in time linear in the file.
+    /// All sentences handed out, in the file's order, in time linear in the file.
     pub fn sentences(&self) -> Sentences<'_, 'f> {
         Sentences {
             corpus: self,
-            next: 0,
+            numbers: self.numbers.iter(),
             room: Room::new(),
         }
     }
@@ -135,7 +147,7 @@ impl<'c, 'f> IntoIterator for &'c Corpus<'f> {
 /// All sentences of a corpus.
 pub struct Sentences<'c, 'f> {
     corpus: &'c Corpus<'f>,
-    next: u32,
+    numbers: std::slice::Iter<'c, u32>,
     room: Room,
 }
 
@@ -143,15 +155,8 @@ impl<'f> Iterator for Sentences<'_, 'f> {
     type Item = Sentence<'f>;
 
     fn next(&mut self) -> Option<Sentence<'f>> {
-        while (self.next as usize) < PLACES {
-            let number = self.next;
-            self.next += 1;
-            let opened = self.room.open(self.corpus, number);
-            if opened.is_some() {
-                return opened;
-            }
-        }
-        None
+        let number = *self.numbers.next()?;
+        self.room.open(self.corpus, number)
     }
 }
 

@@ -1,5 +1,7 @@
 //! A sentence and views of its nodes and edges.
 
+use std::fmt;
+
 use crate::layout::{NodeRecord, SentenceRecord, FIRST_PHRASE};
 use crate::text;
 
@@ -72,6 +74,34 @@ impl<'f> Sentence<'f> {
             label: text(self.file, label).unwrap_or_default(),
             parent,
         })
+    }
+}
+
+/// Its number, and its nodes as lines are written.
+///
+/// ```
+/// let file = std::fs::read("../examples/ja.export")?;
+/// let sentence = hraunlik::Corpus::new(&file).sentence(7).expect("handed out");
+/// assert_eq!(format!("{sentence:?}"), "Sentence(7, [Ja ITJ -- -- 500, #500 S -- -- 0])");
+/// # Ok::<(), std::io::Error>(())
+/// ```
+impl fmt::Debug for Sentence<'_> {
+    fn fmt(&self, out: &mut fmt::Formatter<'_>) -> fmt::Result {
+        let nodes: Vec<Node> = self.nodes().collect();
+        write!(out, "Sentence({}, {nodes:?})", self.number())
+    }
+}
+
+impl fmt::Debug for Node<'_, '_> {
+    fn fmt(&self, out: &mut fmt::Formatter<'_>) -> fmt::Result {
+        match self.word() {
+            Some(word) => write!(out, "{}", word.escape_ascii())?,
+            None => write!(out, "#{}", self.number)?,
+        }
+        for column in [self.tag(), self.morphology(), self.edge()] {
+            write!(out, " {}", column.escape_ascii())?;
+        }
+        write!(out, " {}", self.record().parent())
     }
 }
 
