@@ -8,15 +8,18 @@
 The proved library does all judging; this package only calls it.
 """
 
-from .corpus import Corpus, Row, Survey
+from .answers import Row, Survey
+from .corpus import Corpus
 from .library import LibraryMissing
+from .nodes import Node, Phrase, SecondaryEdge, Word
+from .provenance import LibraryStale, sources
 from .reading import FileChanged
 from .refusals import RULES, NoSuchSentence, Refusal, Refused, Unexplained
-from .nodes import Node, Phrase, SecondaryEdge, Word
 from .sentence import Sentence
+from .version import FORMATS
 from .version import VERSION as __version__
 
 __all__ = [
-    "Corpus", "FileChanged", "LibraryMissing", "NoSuchSentence", "Node", "Phrase", "Refusal", "Refused", "RULES", "Row",
-    "SecondaryEdge", "Sentence", "Survey", "Unexplained", "Word",
+    "Corpus", "FORMATS", "FileChanged", "LibraryMissing", "LibraryStale", "NoSuchSentence", "Node", "Phrase", "Refusal",
+    "Refused", "RULES", "Row", "SecondaryEdge", "Sentence", "Survey", "Unexplained", "Word", "sources",
 ]  # fmt: skip

@@ -9,7 +9,8 @@ from dataclasses import dataclass, field
 from typing import Callable, Dict, List, Optional
 
 from . import layout
-from .corpus import Corpus, Row
+from .answers import Row
+from .corpus import Corpus
 
 
 @dataclass

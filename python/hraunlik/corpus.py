@@ -5,10 +5,11 @@ from __future__ import annotations
 import functools
 import operator
 import os
-from dataclasses import dataclass
-from typing import BinaryIO, Dict, Iterator, List, NamedTuple, Optional, Union
+from typing import BinaryIO, Dict, Iterator, List, Optional, Union
 
 from . import layout, library
+from .answers import Row, Survey
+from .details import detail
 from .pointing import column_at_fault, line_around
 from .reading import contents, drawn
 from .refusals import NoSuchSentence, Refusal, Refused, Unexplained
@@ -20,54 +21,6 @@ Source = Union[str, "os.PathLike[str]", bytes, bytearray, memoryview, BinaryIO]
 
 #: What begins the line behind a sentence's last node; inside a sentence no other line begins so.
 END = b"\n#EOS"
-
-
-@dataclass(frozen=True)
-class Survey:
-    """The answer to a file.
-
-    refusal: why it is refused, None if it is accepted.
-    place: first byte of the faulty line, or of its column at fault; the file's length if it is accepted.
-    line: number of the faulty line, from 1.
-    sentences: how many were handed out.
-    sound_end: the end of the last of them, or 0.
-    """
-
-    refusal: Optional[Refusal]
-    place: int
-    line: Optional[int]
-    sentences: int
-    sound_end: int
-
-    @property
-    def accepted(self) -> bool:
-        """Whether the file keeps all rules."""
-        return self.refusal is None
-
-    @property
-    def number(self) -> int:
-        """The refusal's number, 0 if the file is accepted."""
-        return self.refusal.number if self.refusal else 0
-
-    @property
-    def column(self) -> Optional[int]:
-        """The column at fault, from 1; None if the file is accepted, or the refusal points at none."""
-        return self.refusal.column if self.refusal else None
-
-
-class Row(NamedTuple):
-    """A row of a table."""
-
-    id: int
-    name: str
-    description: str
-    flag: bool
-
-
-Row.id.__doc__ = "Its id, from -1 on."
-Row.name.__doc__ = "The name of an origin, the login of an editor, or the tag."
-Row.description.__doc__ = "The comment of an origin, the full name of an editor, or the description of a tag."
-Row.flag.__doc__ = "Whether a word's tag has the flag Y."
 
 
 class Corpus:
@@ -291,6 +244,11 @@ class Corpus:
         return part
 
     @property
+    def head(self) -> bytes:
+        """What stands in front of the first sentence: the format line, the tables, ignored lines."""
+        return self._file.data[: next(iter(self._index.begins.values()), self._index.sound_end)]
+
+    @property
     def size(self) -> int:
         """The file's length in bytes."""
         return self._file.length
@@ -318,7 +276,8 @@ class Corpus:
             return Refusal(number, place, self.line_at(place))
         line = line_around(data, place, length)
         column = column_at_fault(number, data, line, place)
-        return Refusal(number, place, self.line_at(place), line.text, *(column or ()))
+        told = column or (None, None, None)
+        return Refusal(number, place, self.line_at(place), line.text, *told, *detail(number, data, line, column))
 
     def _bytes_at(self, start: int, length: int) -> bytes:
         return self._file.data[start : start + length]

@@ -17,3 +17,4 @@ def installed_or(name: str, in_repository: str) -> Path:
 HEADER = installed_or("hraunlik.h", "include/hraunlik.h")
 GALLERY = installed_or("gallery", "examples/gallery")
 LIBRARY = installed_or("libhraunlik.so", "target/host/libhraunlik.so")
+SUM = installed_or("libhraunlik.sources", "target/host/libhraunlik.sources")

@@ -38,6 +38,7 @@ TIDY_ROOM = _NUMBERS["TIDY_ROOM"]  #: what an output needs beyond the file's len
 # The table sheet: a count of each table (0 absent, else rows + 1), then the rows of each table.
 TABLE_NAMES = ("ORIGIN", "EDITOR", "WORDTAG", "MORPHTAG", "NODETAG", "EDGETAG", "SECEDGETAG")
 UNORDERED_TABLES = ("ORIGIN", "EDITOR")  #: the order of their rows means nothing
+TAG_TABLES = TABLE_NAMES[len(UNORDERED_TABLES) :]
 TABLE_COUNT = _NUMBERS["TABLE_COUNT"]
 ROWS_OF_A_TABLE = _NUMBERS["ROW_ROOM"]
 ROW_SIZE = _NUMBERS["ROW_WIDTH"]

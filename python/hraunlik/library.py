@@ -6,10 +6,11 @@ import ctypes
 import functools
 import os
 import threading
+import warnings
 from pathlib import Path
 from typing import Dict, List, NamedTuple, Optional
 
-from . import home, layout
+from . import home, layout, provenance
 
 Number = ctypes.c_uint32
 Slice = [ctypes.c_void_p, ctypes.c_size_t]
@@ -56,6 +57,8 @@ def load() -> ctypes.CDLL:
     path = find()
     if path is None:
         raise LibraryMissing(f"{home.LIBRARY} isn't made yet; {home.MAKER} makes it")
+    if provenance.is_stale():
+        warnings.warn(f"{path} is older than the crates; {home.MAKER} makes it anew", provenance.LibraryStale, stacklevel=2)
     try:
         library = ctypes.CDLL(str(path))
     except OSError as error:

@@ -8,7 +8,8 @@ import os
 import stat
 import time
 import zlib
-from typing import BinaryIO, Callable, Union
+from contextlib import contextmanager
+from typing import BinaryIO, Iterator, Optional, Union
 
 from . import layout
 
@@ -27,27 +28,35 @@ class FileChanged(OSError):
 
 def contents(path: Path) -> bytes:
     """What a file holds, a byte more than the limit at most."""
-    name = os.fspath(path)
-    with open(path, "rb") as file:
-        return _steady(file, name, _unpacked if name.endswith(PACKED) else _plain)
+    with opened(path) as stream:
+        return _plain(stream)
 
 
 def drawn(stream: BinaryIO) -> bytes:
     """What is still to be read of a file object, a byte more than the limit at most."""
-    try:
-        stream.fileno()
-    except (AttributeError, OSError):
+    if _descriptor(stream) is None:
         return _plain(stream)
-    return _steady(stream, str(getattr(stream, "name", "")), _plain)
+    with _steady(stream, str(getattr(stream, "name", ""))):
+        return _plain(stream)
 
 
-def _steady(file: BinaryIO, name: str, read: Callable[[BinaryIO], bytes]) -> bytes:
-    """What is read, if the file stays as it is meanwhile."""
+@contextmanager
+def opened(path: Path) -> Iterator[BinaryIO]:
+    """A file to be read, unpacked if it is packed; `FileChanged` is raised behind it if the file didn't stay as it was."""
+    name = os.fspath(path)
+    with open(path, "rb") as file, _steady(file, name):
+        try:
+            yield gzip.GzipFile(fileobj=file) if name.endswith(PACKED) else file
+        except (EOFError, zlib.error, gzip.BadGzipFile) as error:
+            raise OSError(errno.EIO, f"the packed file is cut or damaged: {error}", name) from None
+
+
+@contextmanager
+def _steady(file: BinaryIO, name: str) -> Iterator[None]:
     before = _settled(file)
-    data = read(file)
+    yield
     if _time_and_size(before) != _time_and_size(os.fstat(file.fileno())):
         raise FileChanged(errno.ESTALE, "changed while it was read; nothing is told of it", name)
-    return data
 
 
 def _settled(file: BinaryIO) -> os.stat_result:
@@ -64,11 +73,11 @@ def _time_and_size(status: os.stat_result) -> tuple:
     return (status.st_mtime_ns, status.st_size) if stat.S_ISREG(status.st_mode) else ()
 
 
-def _plain(file: BinaryIO) -> bytes:
-    """All that a file has up to the limit; a stream may give it in parts."""
+def _plain(stream: BinaryIO) -> bytes:
+    """All that a stream has up to the limit; it may give that in parts."""
     pieces, room = [], layout.FILE_LIMIT + 1
     while room:
-        piece = file.read(min(room, _size_told(file)))
+        piece = stream.read(min(room, _at_once(stream)))
         if not isinstance(piece, bytes):
             raise TypeError("a corpus is read from bytes: open the file with mode 'rb'")
         if not piece:
@@ -78,17 +87,14 @@ def _plain(file: BinaryIO) -> bytes:
     return pieces[0] if len(pieces) == 1 else b"".join(pieces)
 
 
-def _size_told(file: BinaryIO) -> int:
-    """A byte more than the file's length, if it has one; reading so many takes no more memory than the file."""
+def _at_once(stream: BinaryIO) -> int:
+    """A byte more than the file's length, if it has one: reading so many takes no more memory than the file."""
+    descriptor = None if isinstance(stream, gzip.GzipFile) else _descriptor(stream)
+    return ((os.fstat(descriptor).st_size if descriptor is not None else 0) or layout.FILE_LIMIT) + 1
+
+
+def _descriptor(stream: BinaryIO) -> Optional[int]:
     try:
-        return (os.fstat(file.fileno()).st_size or layout.FILE_LIMIT) + 1
+        return stream.fileno()
     except (AttributeError, OSError):
-        return layout.FILE_LIMIT + 1
-
-
-def _unpacked(file: BinaryIO) -> bytes:
-    try:
-        with gzip.GzipFile(fileobj=file) as packed:
-            return packed.read(layout.FILE_LIMIT + 1)
-    except (EOFError, zlib.error, gzip.BadGzipFile) as error:
-        raise OSError(errno.EIO, f"the packed file is cut or damaged: {error}") from None
+        return None

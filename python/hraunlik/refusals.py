@@ -3,9 +3,10 @@
 from __future__ import annotations
 
 from dataclasses import dataclass, field
-from typing import List, NamedTuple, Optional
+from typing import List, NamedTuple, Optional, Tuple
 
-from .showing import marked, quoted, shown
+from .details import illegal_in
+from .showing import beginning, marked, quoted, shown
 
 
 class Rule(NamedTuple):
@@ -19,7 +20,7 @@ WHOLE_COPY = "Get a whole copy, or keep the part up to the sound end (rescue)."
 
 RULES: dict[int, Rule] = {
     1: Rule("a lent buffer has the wrong size", "Mend the program: lend exactly the sizes of docs/RULES.md, sections 8 and 9."),
-    2: Rule("the file is longer than 268,435,456 bytes", "Split it between sentences, with the format line and the tables in front of each part."),
+    2: Rule("the file is longer than 268,435,456 bytes", "Cut it at sentence ends into files within the limit (split)."),
     3: Rule("the last line isn't ended by a newline, so it may be half a line", WHOLE_COPY + " Add the newline only if you know that the line is whole."),
     4: Rule("the line has an illegal byte; legal are 9, 32 to 127 and 160 to 255", "Remove carriage returns (tr -d '\\r'); convert UTF-8 to Latin-1 (iconv -f utf-8 -t latin1)."),
     5: Rule("the line is longer than 4,096 bytes", "Break a comment line in two; in a word's line, shorten the comment."),
@@ -42,7 +43,7 @@ RULES: dict[int, Rule] = {
     22: Rule("a node of the sentence names a parent that isn't there", "Look above this line for a parent beyond the highest phrase; bring that phrase back, or correct the parent."),
     23: Rule("the file ends inside a table or a sentence", WHOLE_COPY + " Don't add the #EOS by hand: nobody knows which phrases are lost."),
     24: Rule("no such sentence was handed out", "Survey the file: if it is refused, mend that first; else see which numbers there are (numbers)."),
-    25: Rule("the tidy text has no room", "Lend 512 bytes more than the file has; if the file limit is passed, split the file."),
+    25: Rule("the tidy text has no room", "Lend 512 bytes more than the file has; if the file limit is passed, cut the file (split --bytes)."),
     26: Rule("nothing explains the tag", "Name a tag table, WORDTAG to SECEDGETAG, that the file or the list has. A file that has it is asked alone: add the row there."),
 }
 
@@ -58,6 +59,8 @@ class Refusal:
     column: the column at fault, counted from 1; None where the number points at none.
     column_text: its text; of a text that runs to the line's end, the whole.
     column_start: where it begins in `text`, counted from 0.
+    detail: what is wrong, more closely; None where the number says it all.
+    own_cure: a cure for just this; None if it is that of the number.
 
     >>> print(Refusal(22, 94, 9, "#EOS 1"))
     refusal 22, line 9: a node of the sentence names a parent that isn't there
@@ -80,6 +83,8 @@ class Refusal:
     column: Optional[int] = None
     column_text: Optional[str] = None
     column_start: Optional[int] = field(default=None, repr=False)
+    detail: Optional[str] = field(default=None, repr=False)
+    own_cure: Optional[str] = field(default=None, repr=False)
 
     @property
     def meaning(self) -> str:
@@ -89,7 +94,7 @@ class Refusal:
     @property
     def cure(self) -> str:
         """How to mend the file."""
-        return RULES[self.number].cure
+        return self.own_cure or RULES[self.number].cure
 
     @property
     def where(self) -> str:
@@ -103,13 +108,21 @@ class Refusal:
         return f"line {self.line}, column {self.column} {quoted(self.column_text)}"
 
     @property
+    def mark(self) -> Optional[Tuple[int, int]]:
+        """What of the line is marked, start and length: the column at fault, or an illegal byte."""
+        if self.column_text is not None and self.column_start is not None:
+            return self.column_start, len(self.column_text)
+        at = illegal_in(self.text) if self.number == 4 and self.text is not None else None
+        return None if at is None else (at, 1)
+
+    @property
     def brief(self) -> str:
         """One line, without the cure."""
         where = f", {self.where}" if self.where else ""
-        return f"refusal {self.number}{where}: {self.meaning}"
+        return f"refusal {self.number}{where}: {self.meaning}" + (f" ({self.detail})" if self.detail else "")
 
     def shown_line(self, encoding: str = "utf-8") -> List[str]:
-        """The faulty line as it is shown, and a mark under the column if there is one; nothing if there is no line.
+        """The faulty line as it is shown, and a mark under the column or byte if there is one; nothing if there is no line.
 
         In an encoding that lacks letters they are written out, and the mark stands under its column all the same.
 
@@ -118,9 +131,9 @@ class Refusal:
         """
         if self.text is None:
             return []
-        if self.column_text is None or self.column_start is None:
-            return [f'"{shown(self.text)}"']
-        return marked(self.text, self.column_start, len(self.column_text), encoding)
+        if self.mark is None:
+            return [beginning(self.text)]
+        return marked(self.text, *self.mark, encoding)
 
     def told(self, encoding: str = "utf-8") -> str:
         """All that is said of it, for a stream with this encoding."""

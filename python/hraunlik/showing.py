@@ -36,6 +36,15 @@ def quoted(text: str) -> str:
     return f'"{shown(text[:COLUMN_ROOM])}"' + (" .." if len(text) > COLUMN_ROOM else "")
 
 
+def beginning(line: str) -> str:
+    """A line in quotes, or as much of it as has room; two points behind say that it goes on.
+
+    >>> beginning("#EOS 7"), beginning("x" * 69) == '"' + "x" * 68 + '" ..'
+    ('"#EOS 7"', True)
+    """
+    return f'"{shown(line[:ROOM])}"' + (" .." if len(line) > ROOM else "")
+
+
 def marked(line: str, start: int, length: int, encoding: str = "utf-8") -> List[str]:
     """A line in quotes, and under it a mark that is as long as the column; of a long line what stands around the column.
 

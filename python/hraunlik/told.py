@@ -6,15 +6,23 @@ import os
 import sys
 from typing import Any, Dict, List, Optional
 
+from .answers import Row
 from .corpus import Corpus
 from .gallery import Entry
 from .pointing import POINTING, column_at_fault, line_around
 from .refusals import Refusal
-from .showing import mark_under, marked, shown, written_out
+from .showing import beginning, mark_under, shown, written_out
 from .nodes import Node, Word
 from .sentence import Sentence
 
 RED, GREEN = "31", "32"
+
+#: What stands above the columns of a table; that of another table of tags has no flag.
+TITLES = {
+    "ORIGIN": ("id", "name", "comment"),
+    "EDITOR": ("id", "login", "full name"),
+    "WORDTAG": ("id", "tag", "flag", "description"),
+}
 
 
 def counted(count: int, what: str) -> str:
@@ -35,32 +43,31 @@ def answer_of(corpus: Corpus) -> Dict[str, Any]:
         "sentences": survey.sentences, "sound_end": survey.sound_end, "bytes": corpus.size,
     }  # fmt: skip
     if refusal:
-        names = ("meaning", "text", "column_text", "column_start", "cure", "brief")
+        names = ("meaning", "detail", "text", "column_text", "column_start", "cure", "brief")
         answer.update({name: getattr(refusal, name) for name in names})
     return answer
 
 
-def survey_line(answer: Dict[str, Any]) -> str:
-    """What is printed of a file, where no column is at fault all of it."""
+def survey_line(answer: Dict[str, Any], refusal: Optional[Refusal]) -> str:
+    """What is printed of a file, where nothing of a line is marked all of it."""
     name = shown(answer["file"])
     if "error" in answer:
         return f"{name}: {coloured(shown(answer['error']), RED)}"
     kept = counted(answer["sentences"], "sentence")
-    if answer["refusal"] == 0:
+    if refusal is None:
         return f"{name}: {coloured('accepted', GREEN)}, {kept}"
-    told_below = answer["text"] is None or answer["column"] is not None
-    text = "" if told_below else f' "{shown(answer["text"][:60])}"'
-    number = f"refusal {answer['refusal']}"
-    brief = coloured(number, RED) + answer["brief"][len(number) :]
+    number = f"refusal {refusal.number}"
+    brief = coloured(number, RED) + refusal.brief[len(number) :]
+    text = "" if refusal.text is None or refusal.mark else f" {beginning(refusal.text)}"
     return f"{name}: {brief}{text}; {kept} whole, sound up to byte {answer['sound_end']}"
 
 
-def mark_lines(answer: Dict[str, Any]) -> List[str]:
-    """What is printed below: the faulty line and a mark under the column at fault, if there is one."""
-    if answer.get("column") is None:
+def lines_below(refusal: Optional[Refusal], with_cure: bool) -> List[str]:
+    """What is printed below: the faulty line with a mark, if something of it is marked; the cure, if it is wanted."""
+    if refusal is None:
         return []
-    lines = marked(answer["text"], answer["column_start"], len(answer["column_text"]), sys.stdout.encoding)
-    return [f"  {line}" for line in lines]
+    marked = refusal.shown_line(sys.stdout.encoding) if refusal.mark else []
+    return [f"  {line}" for line in [*marked, *([refusal.cure] if with_cure else [])]]
 
 
 def node_dictionary(node: Node) -> Dict[str, Any]:
@@ -84,6 +91,27 @@ def sentence_dictionary(sentence: Sentence) -> Dict[str, Any]:
         "number": sentence.number, "editor": sentence.editor, "date": sentence.date, "origin": sentence.origin,
         "comment": sentence.comment, "nodes": [node_dictionary(node) for node in sentence],
     }  # fmt: skip
+
+
+def table_lines(name: str, rows: List[Row]) -> List[str]:
+    """A table as it is printed.
+
+    >>> table_lines("EDITOR", Corpus("examples/ja.export").tables["EDITOR"])
+    ['EDITOR', 'id  login  full name', '2   kim    Kim']
+    """
+    titles = list(TITLES.get(name, ("id", "tag", "description")))
+    cells = [[str(row.id), row.name, *("YN"[not row.flag] for _ in titles[3:]), row.description] for row in rows]
+    return [name, *aligned([titles, *([shown(cell) for cell in row] for row in cells)])]
+
+
+def aligned(rows: List[List[str]]) -> List[str]:
+    """Rows as lines with their columns under each other.
+
+    >>> aligned([["1", "Ja", "ITJ"], ["500", "", "S"]])
+    ['1    Ja  ITJ', '500      S']
+    """
+    widths = [max(map(len, column)) for column in zip(*rows)]
+    return ["  ".join(cell.ljust(width) for cell, width in zip(row, widths)).rstrip() for row in rows]
 
 
 def rescued(corpus: Corpus) -> Dict[str, Any]:

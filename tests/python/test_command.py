@@ -73,12 +73,21 @@ class Surveys(InARoom):
         self.assertEqual((status, b"closed: can't be read: Permission denied" in out), (2, True))
         self.assertIn(b"2 files: 1 accepted, 0 refused, 1 unreadable", out)
 
+    def test_cures(self):
+        """With -v below each line, else by the numbers that one asks for."""
+        files = [GALLERY / "22.export", GALLERY / "04.export", GALLERY / "24.export"]
+        plain, verbose = (run("survey", *words, *files)[1].decode().splitlines() for words in ([], ["-v"]))
+        self.assertEqual(plain[-1], "for the cure: explain 4, explain 22; or survey -v")
+        self.assertIn("  Remove the carriage returns (tr -d '\\r').", verbose)
+        self.assertEqual(len(verbose), len(plain) + 1)
+        self.assertNotIn("for the cure", run("survey", GALLERY / "24.export")[1].decode())
+
     def test_lines_in_order(self):
         files = [self.file(f"{n:03}", JA[: n % 127]) for n in range(40)]
         files.insert(7, self.room / "none")
         alone, many = run("survey", *files), run("survey", "-j", "3", *files)
         self.assertEqual(alone, many)
-        self.assertEqual(len(alone[1].splitlines()), len(files) + 1)
+        self.assertEqual(len(alone[1].splitlines()), len(files) + 2)
 
 
 class Openings(InARoom):

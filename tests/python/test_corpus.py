@@ -13,7 +13,7 @@ from cases import GALLERY, HALF, JA, ROOT, SCHADE, UNTIDY, gallery, numbers, pri
 from hraunlik import Corpus, layout, library
 from hraunlik.compare import compare
 
-MODULES = ["", ".corpus", ".compare", ".files", ".gallery", ".layout", ".making", ".nodes", ".pointing", ".refusals", ".sentence", ".showing", ".told", ".words"]
+MODULES = ["", ".corpus", ".compare", ".details", ".files", ".gallery", ".layout", ".making", ".nodes", ".pointing", ".refusals", ".sentence", ".showing", ".told", ".words"]
 
 
 def load_tests(loader, tests, pattern):

@@ -10,7 +10,8 @@ from pathlib import Path
 
 from cases import ROOT
 
-PAGES = ("README.md", "docs/COURSE.md", "docs/USING.md")
+COURSE = "docs/COURSE.md"
+PAGES = ("README.md", COURSE, "docs/USING.md")
 ENVIRONMENT = {**os.environ, "LC_ALL": "C.UTF-8"}
 BLOCK = re.compile(r"^```(\w+)\n(.*?)^```$", re.MULTILINE | re.DOTALL)
 
@@ -26,21 +27,32 @@ def commands(block):
         yield command, printed.strip("\n")
 
 
+def in_the_clone():
+    """The files of the repository but those that are built."""
+    built = {"target", "dist", "__pycache__", ".git"}
+    for folder, folders, files in os.walk(ROOT):
+        folders[:] = set(folders) - built
+        yield from (os.path.join(folder, name) for name in files)
+
+
 class Pages(unittest.TestCase):
     def setUp(self):
-        """A folder that looks like the repository, in which a command may leave files."""
+        self.addCleanup(os.chdir, os.getcwd())
+
+    def enter_room(self, page):
+        """A folder that looks like the repository, in which a command may leave files; for the course what it says."""
         room = tempfile.TemporaryDirectory()
         self.addCleanup(room.cleanup)
-        self.room = Path(room.name)
-        for name in ("hraunlik", "examples", "include", "target"):
-            (self.room / name).symlink_to(ROOT / name)
-        self.addCleanup(os.chdir, os.getcwd())
-        os.chdir(self.room)
+        for name in ("hraunlik", "examples", *(() if page == COURSE else ("include", "target"))):
+            (Path(room.name) / name).symlink_to(ROOT / name)
+        os.chdir(room.name)
 
     def test_commands(self):
+        before = set(in_the_clone())
         for page in PAGES:
+            self.enter_room(page)
             for source in blocks(page, "c"):
-                (self.room / "words.c").write_text(source)
+                Path("words.c").write_text(source)
             shown = [pair for block in blocks(page, "console") for pair in commands(block)]
             self.assertTrue(shown, page)
             for command, printed in shown:
@@ -48,9 +60,14 @@ class Pages(unittest.TestCase):
                     ["bash", "-c", command], stdout=subprocess.PIPE, stderr=subprocess.STDOUT, env=ENVIRONMENT
                 )
                 self.assertEqual(told.stdout.decode().strip("\n"), printed, f"{page}: {command}")
+        self.assertEqual(set(in_the_clone()), before)
+
+    def test_the_course_has_a_folder_of_its_own(self):
+        self.assertIn("ln -s CLONE/hraunlik CLONE/examples .", (ROOT / COURSE).read_text())
 
     def test_python(self):
         for page in PAGES:
+            self.enter_room(page)
             lines = "\n".join(blocks(page, "python"))
             examples = doctest.DocTestParser().get_doctest(lines, {}, page, page, 0)
             self.assertTrue(examples.examples, page)

@@ -119,7 +119,7 @@ class Pointing(unittest.TestCase):
     def test_other_numbers_show_the_line_alone(self):
         for path, _, _ in gallery():
             refusal = Corpus(path).survey().refusal
-            if refusal and refusal.number not in POINTING:
+            if refusal and refusal.number not in (*POINTING, 4):
                 self.assertNotIn("^", str(refusal))
                 self.assertNotIn(", column", refusal.brief)
                 self.assertLessEqual(len(refusal.shown_line()), 1)
@@ -178,18 +178,19 @@ class Commands(InARoom):
 
     def test_survey(self):
         status, out, _ = run("survey", self.path)
-        first, *marked, last = out.decode().splitlines()
+        first, *marked, last, cure = out.decode().splitlines()
         self.assertEqual(status, 1)
         self.assertTrue(first.startswith(f'{self.path}: refusal 8, line {FIRST_WORD}, column 7 "12": a number'), first)
         self.assertTrue(first.endswith("range; 0 sentences whole, sound up to byte 0"), first)
         self.assertEqual(marked, self.wanted)
         self.assertTrue(last.startswith("1 file: "))
+        self.assertEqual(cure, "for the cure: explain 8; or survey -v")
 
     def test_several_files(self):
         files = [self.path, self.file("good", JA), GALLERY / "22.export", self.path] * 3
         alone = run("survey", *files)
         self.assertEqual(alone, run("survey", "-j", "2", *files))
-        self.assertEqual(len(alone[1].splitlines()), len(files) + 2 * 6 + 1)
+        self.assertEqual(len(alone[1].splitlines()), len(files) + 2 * 6 + 2)
 
     def test_on_a_terminal(self):
         shown = on_a_terminal("survey", self.path, more={"PYTHONIOENCODING": "utf-8"}).decode().splitlines()

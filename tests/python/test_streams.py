@@ -12,15 +12,22 @@ from unittest import mock
 
 from cases import HALF, JA
 from commanding import COMMAND, OF_ONE_FILE, InARoom, on_a_terminal, run, started
-from hraunlik import Corpus, home, layout, library
-from hraunlik.files import Progress
+from hraunlik import Corpus, layout
+from hraunlik.progress import Progress
 
 
 class Streams(InARoom):
     def test_closed_streams(self):
-        for closed in ("<&-", ">&-", "2>&-", "<&- >&- 2>&-"):
-            told = subprocess.run(["bash", "-c", f"'{COMMAND}' survey '{HALF}' {closed}"], capture_output=True)
-            self.assertEqual((told.returncode, told.stderr), (1, b""), closed)
+        def told(words, closed):
+            done = subprocess.run(["bash", "-c", f"'{COMMAND}' {words} {closed}"], capture_output=True)
+            return done.returncode, done.stderr
+
+        for closed in ("<&-", "2>&-"):
+            self.assertEqual(told(f"survey '{HALF}'", closed), (1, b""), closed)
+        self.assertEqual(told(f"survey '{HALF}'", ">&-"), (2, b"hraunlik: the output can't be written: Bad file descriptor\n"))
+        self.assertEqual(told(f"survey '{HALF}'", "<&- >&- 2>&-"), (2, b""))
+        self.assertEqual(told(f"rescue '{HALF}' -o '{self.room}/kept'", ">&-")[0], 1)
+        self.assertEqual(told("numbers -", "<&-"), (2, b"hraunlik: -: can't be read: it is closed\n"))
 
     def test_full_disk(self):
         with open("/dev/full", "wb") as full:
@@ -66,17 +73,6 @@ class Streams(InARoom):
                 process.stdout.close()
                 self.assertEqual(process.stderr.read(), b"", arguments[0])
             self.assertEqual(process.returncode, 2)
-
-
-class FirstUse(InARoom):
-    def test_library_is_made(self):
-        for end, wanted in ((0, "from now on it starts at once"), (1, "couldn't be made")):
-            maker = self.file("maker", b"#!/bin/sh\nexit %d\n" % end)
-            maker.chmod(0o755)
-            with mock.patch.object(home, "MAKER", maker), mock.patch.object(library, "find", lambda: None):
-                _, _, error = run("survey", HALF)
-            self.assertIn("first use", error)
-            self.assertIn(wanted, error)
 
 
 class Longest(InARoom):

@@ -8,9 +8,10 @@ from hraunlik import home
 
 repository = Path(sys.argv[1])
 assert repository not in Path(hraunlik.__file__).parents, hraunlik.__file__
-for path in (home.HEADER, home.GALLERY, home.LIBRARY):
+for path in (home.HEADER, home.GALLERY, home.LIBRARY, home.SUM):
     assert path.parent == Path(hraunlik.__file__).parent, path
 
+assert len(hraunlik.sources()) == 64, hraunlik.sources()
 corpus = hraunlik.Corpus("schade.export")
 assert [word.word for word in corpus[12].words][:3] == ["Schade", ",", "daß"]
 assert hraunlik.Corpus(corpus.tidy()).tidy() == corpus.tidy()
