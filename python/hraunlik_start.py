@@ -4,6 +4,6 @@ import signal
 
 signal.signal(signal.SIGINT, signal.SIG_DFL)
 
-from hraunlik.command import main  # noqa: E402
+from hraunlik.command import main
 
 __all__ = ["main"]

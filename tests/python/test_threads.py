@@ -45,7 +45,7 @@ class Threads(unittest.TestCase):
 
     def test_one_corpus(self):
         """A hundred times: four threads open all sentences of one corpus."""
-        for _ in range(TIMES // 4):
+        for _ in range(TIMES):
             corpus = Corpus(CORPUS)
 
             def opened():

@@ -91,6 +91,12 @@ class FirstUse(InARoom):
         status, _, error = self.making(b"exit 0\n", REPOSITORY=home.Path("/proc/self"))
         self.assertEqual((status, error.count("\n"), "can't be written" in error), (2, 1, True))
 
+    def test_its_share_is_shown(self):
+        shown = []
+        with mock.patch.object(first_use.Progress, "__call__", lambda self, text: shown.append(text)):
+            self.making(b"echo crate 1 of 26: rules\nsleep 0.5\n")
+        self.assertTrue(any(text.startswith("crate 1 of 26: rules, ") for text in shown), shown)
+
     def test_the_crates_are_counted(self):
         """The maker tells each crate of all; this is what the first call shows."""
         counting = "set -- hraunlik; " + self.function("count_crates") + "name=hraunlik; count_crates"
