@@ -12,7 +12,7 @@ from unittest import mock
 
 from cases import HALF, JA, ROOT
 from commanding import InARoom, run, started
-from hraunlik import Corpus, outputs
+from hraunlik import Corpus, layout, outputs
 
 KEPT = HALF.read_bytes()[:116]
 
@@ -114,7 +114,7 @@ class Signals(InARoom):
         path = self.room / "long"
         with path.open("wb") as file:
             file.write(JA)
-            file.truncate(200_000_000)
-        limited = f"ulimit -v 150000; '{sys.executable}' '{ROOT / 'hraunlik'}' survey '{path}'"
+            file.truncate(layout.FILE_LIMIT)
+        limited = f"ulimit -v 240000; '{sys.executable}' '{ROOT / 'hraunlik'}' survey '{path}'"
         told = subprocess.run(["bash", "-c", limited], capture_output=True)
         self.assertEqual((told.returncode, told.stderr), (2, b"hraunlik: not enough memory\n"))
