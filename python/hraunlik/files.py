@@ -4,7 +4,7 @@ from __future__ import annotations
 
 import os
 import sys
-from typing import Iterable, Iterator, List, Optional
+from typing import BinaryIO, Iterable, Iterator, List, Optional
 
 from .corpus import Corpus
 from .progress import Progress
@@ -25,7 +25,7 @@ def corpus_of(name: str, progress: Optional[Progress] = None) -> Corpus:
     """The corpus in a file, or on standard input."""
     try:
         if name == STANDARD_INPUT:
-            return _from_standard_input()
+            return Corpus(standard_input())
         if progress is not None:
             progress.step(f"reading {name}", os.stat(name).st_size)
         return Corpus(name)
@@ -37,10 +37,10 @@ def corpus_of(name: str, progress: Optional[Progress] = None) -> Corpus:
         raise Unusable(f"can't be read: {getattr(error, 'strerror', None) or error}", name) from None
 
 
-def _from_standard_input() -> Corpus:
+def standard_input() -> BinaryIO:
     if sys.stdin is None:
         raise ValueError("it is closed")
-    return Corpus(sys.stdin.buffer)
+    return sys.stdin.buffer
 
 
 def _of_a_directory(name: str) -> str:

@@ -9,7 +9,7 @@ from typing import Any, Dict, List, Optional
 from . import layout
 from .corpus import Corpus
 from .ending import ACCEPTED, REFUSED, say
-from .files import Unusable
+from .files import STANDARD_INPUT, Unusable, standard_input
 from .outputs import keep_apart, write_out
 from .progress import Progress
 from .reading import PACKED, FileChanged, opened
@@ -27,6 +27,8 @@ class Parts:
 
     def __init__(self, source: str, beginning: Optional[str]) -> None:
         self.source, self.progress = source, Progress()
+        if beginning is None and source == STANDARD_INPUT:
+            raise Unusable("the parts of standard input need a name: -o")
         self.beginning = beginning if beginning is not None else _without_ending(source)
         self.written: List[Dict[str, Any]] = []
 
@@ -71,11 +73,13 @@ def run_split(options: argparse.Namespace) -> int:
 
 def _cut(name: str, most: int, parts: Parts) -> Optional[Refusal]:
     try:
+        if name == STANDARD_INPUT:
+            return Splitting(standard_input(), most, parts.put).run()
         with opened(name) as file:
             return Splitting(file, most, parts.put).run()
     except FileChanged as error:
         raise Unusable(error.strerror, name) from None
     except TooSmall as error:
         raise Unusable(str(error), name) from None
-    except OSError as error:
-        raise Unusable(f"can't be read: {error.strerror or error}", name) from None
+    except (OSError, ValueError) as error:
+        raise Unusable(f"can't be read: {getattr(error, 'strerror', None) or error}", name) from None

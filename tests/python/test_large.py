@@ -114,6 +114,11 @@ class Parts(InARoom):
         self.assertEqual(os.listdir(self.room), ["whole.export"])
         self.assertEqual(run("split", self.room / "none")[0], 2)
 
+    def test_standard_input(self):
+        self.assertEqual(run("split", "-", "-o", self.room / "part", given=JA)[0], 0)
+        self.assertEqual(bytes(Corpus(self.room / "part-1.export")), JA)
+        self.assertEqual(run("split", "-", given=JA)[0], 2)
+
     def test_packed_and_small(self):
         path = self.file("untidy.export.gz", gzip.compress(UNTIDY.read_bytes()))
         self.assertEqual(run("split", path)[0], 0)
