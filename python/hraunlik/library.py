@@ -5,7 +5,6 @@ from __future__ import annotations
 import ctypes
 import functools
 import os
-import threading
 import warnings
 from pathlib import Path
 from typing import Dict, List, NamedTuple, Optional
@@ -82,8 +81,11 @@ def _lend(buffer: ctypes.Array) -> tuple:
     return ctypes.c_void_p(ctypes.addressof(buffer)), ctypes.c_size_t(len(buffer))
 
 
-class Rooms(threading.local):
-    """The buffers that a thread lends, each call anew: no thread sees those of another."""
+class Rooms:
+    """The buffers that a call lends. Each call takes some of its own and gives them back when it has read them, so that no
+    other sees them, from whatever thread or signal it comes."""
+
+    _free: List["Rooms"] = []
 
     def __init__(self) -> None:
         self.tables = (Number * layout.TABLE_SHEET)()
@@ -95,28 +97,38 @@ class Rooms(threading.local):
         self.of_a_sentence = (*_lend(self.sheet), *_lend(self.edges))
         self.as_bytes = memoryview(self.sheet).cast("B"), memoryview(self.edges).cast("B")
 
+    @classmethod
+    def taken(cls) -> "Rooms":
+        try:
+            return cls._free.pop()
+        except IndexError:
+            return cls()
 
-_rooms = Rooms()
+    def give_back(self) -> None:
+        self._free.append(self)
 
 
 def index(file: Lent) -> Index:
     """Surveys a file, and tells where each sentence handed out begins."""
-    rooms = _rooms
+    rooms = Rooms.taken()
     place, sentences, sound_end = Number(), Number(), Number()
     refusal = load().hraunlik_index(*file, *rooms.of_a_survey, *_lend(rooms.places), place, sentences, sound_end)
-    if refusal in UNTOUCHED:
-        return Index(refusal, place.value, sentences.value, sound_end.value, [None] * layout.TABLE_COUNT, {})
-    tables = [layout.rows(rooms.tables, table) for table in range(layout.TABLE_COUNT)]
-    begins = layout.begins(bytes(rooms.seen), rooms.places)
+    tables: List[Optional[List[layout.Record]]] = [None] * layout.TABLE_COUNT
+    begins: Dict[int, int] = {}
+    if refusal not in UNTOUCHED:
+        tables = [layout.rows(rooms.tables, table) for table in range(layout.TABLE_COUNT)]
+        begins = layout.begins(bytes(rooms.seen), rooms.places)
+    rooms.give_back()
     return Index(refusal, place.value, sentences.value, sound_end.value, tables, begins)
 
 
 def open_lines(lines: bytes) -> Optional[layout.Opened]:
     """The sentence that begins with these lines, or None if there is none."""
-    rooms = _rooms
-    if load().hraunlik_open_at(lines, len(lines), 0, *rooms.of_a_sentence) != 0:
-        return None
-    return layout.opened(*rooms.as_bytes)
+    rooms = Rooms.taken()
+    refusal = load().hraunlik_open_at(lines, len(lines), 0, *rooms.of_a_sentence)
+    opened = layout.opened(*rooms.as_bytes) if refusal == 0 else None
+    rooms.give_back()
+    return opened
 
 
 class Written(NamedTuple):
@@ -129,11 +141,12 @@ class Written(NamedTuple):
 
 def write(file: Lent) -> Written:
     """The tidy text of a file."""
-    rooms = _rooms
+    rooms = Rooms.taken()
     output = bytearray(file.length + layout.TIDY_ROOM)
     room = ctypes.addressof(ctypes.c_char.from_buffer(output)), len(output)
     place, length = Number(), Number()
     refusal = load().hraunlik_write(*file, *room, *rooms.of_a_survey, *rooms.of_a_sentence, place, length)
+    rooms.give_back()
     return Written(refusal, place.value, memoryview(output)[: length.value])
 
 
@@ -148,6 +161,8 @@ class Explained(NamedTuple):
 
 def explain(file: Lent, tags: Lent, table: int, tag: bytes) -> Explained:
     """Where the description of a tag stands; the table is named by its place, from 1."""
+    rooms = Rooms.taken()
     of, start, length = Number(), Number(), Number()
-    refusal = load().hraunlik_explain(*file, *tags, table, tag, len(tag), *_rooms.of_a_survey, of, start, length)
+    refusal = load().hraunlik_explain(*file, *tags, table, tag, len(tag), *rooms.of_a_survey, of, start, length)
+    rooms.give_back()
     return Explained(refusal, of.value, start.value, length.value)

@@ -2,9 +2,10 @@
 
 import threading
 import unittest
+from unittest import mock
 
 from cases import JA, SCHADE
-from hraunlik import Corpus
+from hraunlik import Corpus, layout
 from hraunlik.compare import compare
 
 TIMES = 100
@@ -68,6 +69,19 @@ class Threads(unittest.TestCase):
         ]
         for _ in range(TIMES // 10):
             beside_each_other(works)
+
+    def test_a_call_inside_a_call(self):
+        """A signal's handler may open another sentence while one is being read."""
+        corpus, read = Corpus(CORPUS), layout.opened
+
+        def interrupted(*room):
+            with mock.patch.object(layout, "opened", read):
+                self.assertEqual(corpus[SENTENCES].meaning(), self.alone[-1])
+            return read(*room)
+
+        with mock.patch.object(layout, "opened", interrupted):
+            sentence = corpus[3]
+        self.assertEqual(sentence.meaning(), self.alone[2])
 
     def test_a_corpus_closed_meanwhile(self):
         """Who still uses it gets a sentence or `ValueError`, never other bytes."""
