@@ -81,11 +81,12 @@ def _illegal(data: bytes, line: Line) -> Detail:
 
 def _columns(data: bytes, line: Line) -> str:
     """How many columns there are in front of a comment, and which are wanted."""
-    columns = COLUMN.findall(line.text)
-    first = columns[0]
+    first = COLUMN.findall(line.text)[0]
     table = None if first in WANTED else table_around(data, line)
-    if table is None and COMMENT in columns:
-        columns = columns[: columns.index(COMMENT)]
+    if table == "ORIGIN":
+        columns = COLUMN.findall(line.text.split(COMMENT, 1)[0])
+    else:
+        columns = COLUMN.findall(line.text) if table else fields(line.text)
     wanted = WANTED.get(first) or (WANTED_OF_NODES if table is None else WANTED.get(table, WANTED_OF_TAGS))
     return f"{len(columns)} {'column is' if len(columns) == 1 else 'columns are'} there; wanted: {wanted}"
 

@@ -68,6 +68,7 @@ NODE_EDGE = _NUMBERS["NODE_EDGE"]
 NODE_PARENT = _NUMBERS["NODE_PARENT"]
 NODE_COMMENT = _NUMBERS["NODE_COMMENT"]
 FIRST_PHRASE = _NUMBERS["FIRST_PHRASE"]  #: words are numbered from 0, phrases from here
+NODE_ROOM = _NUMBERS["NODE_ROOM"]  #: phrases are numbered below it
 
 # The edge list: child, label's start, label's length, parent.
 EDGE_SIZE = _NUMBERS["EDGE_WIDTH"]

@@ -25,7 +25,7 @@ COLUMNS_BEFORE, COLUMNS_BEHIND = 5, 2
 #: White for Python, a letter for the format.
 HARD_SPACE = "\xa0"
 
-PHRASE_COLUMNS = [f"#{number}" for number in range(FIRST_PHRASE, 2 * FIRST_PHRASE)]
+PHRASE_COLUMNS = [f"#{number}" for number in range(FIRST_PHRASE, layout.NODE_ROOM)]
 FIELDS = (layout.NODE_WORD, layout.NODE_TAG, layout.NODE_MORPHOLOGY, layout.NODE_EDGE)
 
 #: Word or number, tag, morphology, edge, a column more, the parent's number and its own of each node.

@@ -2,10 +2,11 @@
 
 from __future__ import annotations
 
+import contextlib
 import os
+import secrets
 import stat
 import sys
-import tempfile
 from typing import BinaryIO, Iterable, Optional
 
 from .files import STANDARD_INPUT, Unusable
@@ -58,17 +59,25 @@ def write_out(pieces: Iterable[bytes], output: Optional[str]) -> None:
 
 
 def _write_new(pieces: Iterable[bytes], output: str, before: Optional[os.stat_result]) -> None:
-    """A neighbour is written and takes the name, with the rights and the owner of the file that had it."""
-    handle, made = tempfile.mkstemp(prefix=NEIGHBOUR, dir=os.path.dirname(output))
+    """A neighbour is written and takes the name, with the rights and the owner of the file that had it.
+
+    It has its name before it is there, so that whatever stops the writing, a signal at any moment too, takes it away.
+    """
+    made = os.path.join(os.path.dirname(output), NEIGHBOUR + secrets.token_hex(8))
     try:
-        with os.fdopen(handle, "wb") as file:
+        with open(made, "xb", opener=_for_us_alone) as file:
             pour(pieces, file)
             _give_rights(file, before)
             os.fsync(file.fileno())
         os.replace(made, output)
     except BaseException:
-        os.unlink(made)
+        with contextlib.suppress(FileNotFoundError):
+            os.unlink(made)
         raise
+
+
+def _for_us_alone(path: str, flags: int) -> int:
+    return os.open(path, flags, 0o600)
 
 
 def _give_rights(file: BinaryIO, before: Optional[os.stat_result]) -> None:

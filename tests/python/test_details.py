@@ -36,6 +36,7 @@ class Details(unittest.TestCase):
             (HEAD, "#BOS 7 2 0 1 x", f"6 columns are there; {heading}"),
             (start, "#BOT", "1 column is there; wanted: #BOT, name of a table"),
             (start + TABLES["ORIGIN"], "1", "1 column is there; wanted: id, name; then maybe %% and a comment"),
+            (start + TABLES["ORIGIN"], "1 %%lab", "1 column is there; wanted: id, name; then maybe %% and a comment"),
             (start + TABLES["EDITOR"], "1 kim", "2 columns are there; wanted: id, login, full name"),
             (start + TABLES["WORDTAG"], "1 NN noun", "3 columns are there; wanted: id, tag, flag, description"),
             (start + TABLES["EDGETAG"], "1 SB", "2 columns are there; wanted: id, tag, description"),

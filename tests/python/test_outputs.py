@@ -87,7 +87,7 @@ class Signals(InARoom):
         return process
 
     def test_neighbours_are_taken_away(self):
-        for number in (signal.SIGTERM, signal.SIGHUP, signal.SIGINT):
+        for number in (signal.SIGTERM, signal.SIGHUP, signal.SIGINT) * 5:
             process = self.begun("rescue", HALF, "-o", self.room / "out")
             process.send_signal(number)
             _, error = process.communicate(timeout=20)
