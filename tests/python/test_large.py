@@ -30,7 +30,10 @@ def peak_of(*words):
 
 
 class Memory(InARoom):
-    """The file and the tidy text, or both files, and what Python itself takes: of 250 MB less than 2.2 times the file."""
+    """The file and the tidy text, or both files and where their sentences stand, beside what Python itself takes.
+
+    Of a file of 250 MB that is less than 2.2 times its size for tidy, less than 2.5 times for compare.
+    """
 
     ROOM = 35_000_000
 
@@ -46,7 +49,7 @@ class Memory(InARoom):
 
     def test_compare(self):
         other = self.file("other", self.path.read_bytes().replace(b"Ja ITJ", b"Ja\tITJ", 5000))
-        self.assertLess(peak_of("compare", self.path, other), 2.05 * self.size + self.ROOM)
+        self.assertLess(peak_of("compare", self.path, other), 2.2 * self.size + self.ROOM)
 
 
 class FromTheStart(InARoom):
