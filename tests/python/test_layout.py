@@ -6,26 +6,41 @@ import unittest
 from cases import ROOT
 from hraunlik import RULES, layout
 
-NUMERAL = re.compile(r"^(\w+) = (\d+)$", re.MULTILINE)
+NUMERAL = re.compile(r"^(\w+) = (?:(\d+)|suc (\w+))$", re.MULTILINE)
 
 
 def defined(*files):
-    """The numbers that stand in these files as `name = 12`."""
-    return {name: int(n) for file in files for name, n in NUMERAL.findall((ROOT / "crates" / file).read_text())}
+    """The numbers that stand in these files as `name = 12`, or as `name = suc other`, one more than another."""
+    numbers = {}
+    for file in files:
+        for name, numeral, other in NUMERAL.findall((ROOT / "crates" / file).read_text()):
+            numbers[name] = int(numeral) if numeral else numbers[other] + 1
+    return numbers
 
 
 class Layouts(unittest.TestCase):
     def setUp(self):
-        self.rules = defined("rules/specs/Sheets.antt", "rules/specs/Numbers.antt", "sentence_sheet/specs/FlatEdges.antt")
+        specs = ("rules/specs/SheetFields.antt", "rules/specs/Sheets.antt", "rules/specs/Numbers.antt")
+        self.rules = defined(*specs, "sentence_sheet/specs/FlatEdges.antt")
 
     def test_widths_and_counts(self):
         for here, there in (
             (layout.TABLE_COUNT, "tableCount"), (layout.ROW_SIZE, "rowWidth"), (layout.ROWS_OF_A_TABLE, "rowLimit"),
-            (layout.HEAD_SIZE, "leadingCount"), (layout.NODE_SIZE, "nodeWidth"), (layout.NODE_PARENT, "parentOffset"),
+            (layout.HEAD_SIZE, "leadingCount"), (layout.NODE_SIZE, "nodeWidth"), (layout.NODE_ROOM, "nodeRoom"),
             (layout.EDGE_SIZE, "edgeWidth"), (layout.FILE_LIMIT, "fileLimit"), (layout.FIRST_PHRASE, "wordLimit"),
         ):  # fmt: skip
             self.assertEqual(here, self.rules[there], there)
         self.assertEqual(len(layout.TABLE_NAMES), layout.TABLE_COUNT)
+
+    def test_places(self):
+        for here, there in (
+            (layout.HEAD_NUMBER, "numberPlace"), (layout.HEAD_EDITOR, "editorPlace"), (layout.HEAD_DATE, "datePlace"),
+            (layout.HEAD_ORIGIN, "originPlace"), (layout.HEAD_COMMENT, "remarkStart"), (layout.HEAD_WORDS, "wordsPlace"),
+            (layout.HEAD_PHRASES, "phrasesPlace"), (layout.HEAD_EDGES, "edgesPlace"), (layout.NODE_WORD, "wordStart"),
+            (layout.NODE_TAG, "tagStart"), (layout.NODE_MORPHOLOGY, "morphologyStart"), (layout.NODE_EDGE, "edgeStart"),
+            (layout.NODE_PARENT, "parentPlace"), (layout.NODE_COMMENT, "commentStart"),
+        ):  # fmt: skip
+            self.assertEqual(here, self.rules[there], there)
 
     def test_sizes(self):
         rules = self.rules
