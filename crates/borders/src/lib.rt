@@ -1,9 +1,9 @@
 // Demand 1 at the border to other languages: each function of hraunlik called beside the one that it stands for, with any two
 // sets of buffers. If the same was lent, the same is answered and left, so hraunlik has no second outcome either.
 ghost use Rattle.std.specs.Prelude.{◌≡◌};
-ghost use Rattle.opened_demands.specs.Calls.{left, leftThere};
-ghost use Rattle.indexed_demands.specs.Entries.{surveyLeft, indexLeft};
-ghost use Rattle.written_demands.specs.Writings.{textLeft};
+ghost use Rattle.opened_demands.specs.Calls.{left, left_there};
+ghost use Rattle.indexed_demands.specs.Entries.{survey_left, index_left};
+ghost use Rattle.written_demands.specs.Writings.{text_left};
 ghost use Rattle.explained_demands.specs.ExplainedAs.{SameAnswer};
 
 use explaining::Explained;
@@ -37,8 +37,8 @@ pub fn survey_across(
     seen2: &mut [u8],
 ) -> Surveys
     ensures { tables.old ≡ tables2.old → seen.old ≡ seen2.old
-        → surveyLeft result.first tables.new seen.new
-        ≡ surveyLeft result.second tables2.new seen2.new }
+        → survey_left result.first tables.new seen.new
+        ≡ survey_left result.second tables2.new seen2.new }
 {
     let first = survey::survey(file, tables, seen);
     let mut place = 0u32;
@@ -65,8 +65,8 @@ pub fn index_across(
     places2: &mut [u32],
 ) -> Surveys
     ensures { tables.old ≡ tables2.old → seen.old ≡ seen2.old → places.old ≡ places2.old
-        → indexLeft result.first tables.new seen.new places.new
-        ≡ indexLeft result.second tables2.new seen2.new places2.new }
+        → index_left result.first tables.new seen.new places.new
+        ≡ index_left result.second tables2.new seen2.new places2.new }
 {
     let first = survey::index(file, tables, seen, places);
     let mut place = 0u32;
@@ -121,8 +121,8 @@ pub fn open_at_across(
     edges2: &mut [u32],
 ) -> Openings
     ensures { sheet.old ≡ sheet2.old → edges.old ≡ edges2.old
-        → leftThere result.first sheet.new edges.new
-        ≡ leftThere result.second sheet2.new edges2.new }
+        → left_there result.first sheet.new edges.new
+        ≡ left_there result.second sheet2.new edges2.new }
 {
     let first = opening::open_flat_at(file, place, sheet, edges);
     let second = hraunlik::hraunlik_open_at(file, place, sheet2, edges2);
@@ -151,8 +151,8 @@ pub fn write_across(
 ) -> Writings
     ensures { output.old ≡ output2.old → tables.old ≡ tables2.old → seen.old ≡ seen2.old
         → sheet.old ≡ sheet2.old → edges.old ≡ edges2.old
-        → textLeft result.first tables.new seen.new sheet.new edges.new output.new
-        ≡ textLeft result.second tables2.new seen2.new sheet2.new edges2.new output2.new }
+        → text_left result.first tables.new seen.new sheet.new edges.new output.new
+        ≡ text_left result.second tables2.new seen2.new sheet2.new edges2.new output2.new }
 {
     let first = writing::write_flat(file, output, tables, seen, sheet, edges);
     let mut place = 0u32;

@@ -4,17 +4,17 @@ use native.Mathlib.Omega.{arith}
 use mathlib.Core.Path.{◌≡◌, refl}
 use mathlib.Core.List.{List}
 use lib.ListN.{get_or, replicate, get_or-replicate}
-use Rattle.rules.specs.Tables.{noTables}
-use Rattle.rules.specs.Sheets.{tableCount}
-use Rattle.table_sheet.specs.SheetRows.{tablesIn}
+use Rattle.rules.specs.Tables.{no_tables}
+use Rattle.rules.specs.Sheets.{table_count}
+use Rattle.table_sheet.specs.SheetRows.{tables_in}
 use Rattle.citations.specs.Tabled.{Tabled}
 
-no_rows : (n : ℕ) → n < tableCount → get_or {A = ℕ} (replicate tableCount 0) n 0 ≡ 0
-no_rows n h = get_or-replicate {A = ℕ} tableCount n 0 0 h
+no_rows : (n : ℕ) → n < table_count → get_or {A = ℕ} (replicate table_count 0) n 0 ≡ 0
+no_rows n h = get_or-replicate {A = ℕ} table_count n 0 0 h
 
-pub no-tables : (file : List ℕ) → Tabled file (replicate tableCount 0) × (tablesIn file (replicate tableCount 0) ≡ noTables)
-unfolding tablesIn
-no-tables file = (
+pub no_tables_lem : (file : List ℕ) → Tabled file (replicate table_count 0) × (tables_in file (replicate table_count 0) ≡ no_tables)
+unfolding tables_in
+no_tables_lem file = (
   record {
     counted =
         record {

@@ -5,48 +5,48 @@ use mathlib.Core.Path.{◌≡◌, refl, sym, ap, ◌∙◌, subst}
 use mathlib.Core.Option.{Option, none, some}
 use mathlib.Core.List.{List}
 use lib.ListN.{length, get_or}
-use Rattle.rules.specs.Numbers.{rowLimit}
+use Rattle.rules.specs.Numbers.{row_limit}
 use Rattle.rules.specs.Tables.{Row, Tables, table, rows_of}
-use Rattle.rules.specs.Sheets.{tableCount, rowPlace, tableSheetSize, count, tableSheet}
+use Rattle.rules.specs.Sheets.{table_count, row_place, table_sheet_size, count, table_sheet}
 use Rattle.rules.proofs.Rooms.{each_at}
 use Rattle.table_sheet.specs.Standing.{RowsHaveRoom, TablesHaveRoom, TablesStand, Inside}
-use Rattle.table_sheet.proofs.OpenSheets.{length-table-sheet, count-of-table}
-use Rattle.table_sheet.proofs.ReadBack.{table-rows-inside}
+use Rattle.table_sheet.proofs.OpenSheets.{length_table_sheet, count_of_table}
+use Rattle.table_sheet.proofs.ReadBack.{table_rows_inside}
 use Rattle.citations.specs.Tabled.{Counted, Tabled}
 
-count-bound : (t : Option (List Row)) → RowsHaveRoom (rows_of t) → count t ≤ suc rowLimit
-count-bound none h = omega arith
-count-bound (some rs) h = omega arith
+count_bound : (t : Option (List Row)) → RowsHaveRoom (rows_of t) → count t ≤ suc row_limit
+count_bound none h = omega arith
+count_bound (some rs) h = omega arith
 
-count-rows : (t : Option (List Row)) → count t - 1 ≡ length (rows_of t)
-count-rows none = refl
-count-rows (some rs) = omega arith
+count_rows : (t : Option (List Row)) → count t - 1 ≡ length (rows_of t)
+count_rows none = refl
+count_rows (some rs) = omega arith
 
-pub full-counted : (sheet : List ℕ) → length sheet ≡ tableSheetSize → ((n : ℕ) → n < tableCount → get_or sheet n 0 ≤ suc rowLimit) → Counted sheet
-full-counted sheet size counts =
+pub full_counted : (sheet : List ℕ) → length sheet ≡ table_sheet_size → ((n : ℕ) → n < table_count → get_or sheet n 0 ≤ suc row_limit) → Counted sheet
+full_counted sheet size counts =
     record {
       seven = omega (arith, size);
       room = λ n rows h e. omega (arith, size, counts n h, e);
     }
 
 module _ (ts : Tables) (fits : TablesHaveRoom ts) where
-  count-is : (n : ℕ) → n < tableCount → get_or (tableSheet ts) n 0 ≡ count (table n ts)
-  count-is n h = count-of-table ts n (omega (arith, fits.seven))
+  count_is : (n : ℕ) → n < table_count → get_or (table_sheet ts) n 0 ≡ count (table n ts)
+  count_is n h = count_of_table ts n (omega (arith, fits.seven))
 
-  pub counted : Counted (tableSheet ts)
+  pub counted : Counted (table_sheet ts)
   counted =
-      full-counted (tableSheet ts) (length-table-sheet ts fits)
+      full_counted (table_sheet ts) (length_table_sheet ts fits)
       (λ n h.
-      rw (count-is n h)
-      (count-bound (table n ts) (each_at (λ (t : Option (List Row)). RowsHaveRoom (rows_of t)) ts n none fits.room (omega (arith, fits.seven)))))
+      rw (count_is n h)
+      (count_bound (table n ts) (each_at (λ (t : Option (List Row)). RowsHaveRoom (rows_of t)) ts n none fits.room (omega (arith, fits.seven)))))
 
-  pub tabled : (file : List ℕ) → TablesStand file ts → Tabled file (tableSheet ts)
+  pub tabled : (file : List ℕ) → TablesStand file ts → Tabled file (table_sheet ts)
   tabled file stand =
       record {
         counted = counted;
         inside =
             λ n h.
-            subst (λ (rows : ℕ). Inside file (tableSheet ts) (rowPlace n 0) rows)
-            (sym (ap (λ (c : ℕ). c - 1) (count-is n h) ∙ count-rows (table n ts)))
-            (table-rows-inside file ts fits stand n h);
+            subst (λ (rows : ℕ). Inside file (table_sheet ts) (row_place n 0) rows)
+            (sym (ap (λ (c : ℕ). c - 1) (count_is n h) ∙ count_rows (table n ts)))
+            (table_rows_inside file ts fits stand n h);
       }

@@ -3,16 +3,16 @@ mod ids;
 
 ghost use Rattle.std.specs.Prelude.{◌≡◌, true, List, ℕ, ◌+◌, ◌≤◌, ◌<◌, length, take, drop};
 ghost use Rattle.rules.specs.Lists.{same};
-ghost use Rattle.rules.specs.Numbers.{originId};
-ghost use Rattle.rules.specs.Tables.{dashes, unknown, tagLimit, present, hasId, known};
-ghost use Rattle.rules.specs.Sentences.{knownEditor, knownOrigin};
-ghost use Rattle.rules.specs.Sheets.{tableCount};
-ghost use Rattle.table_sheet.specs.SheetRows.{tablesIn};
-ghost use Rattle.citations.specs.Tabled.{Counted, Tabled, rowsIn};
+ghost use Rattle.rules.specs.Numbers.{origin_id};
+ghost use Rattle.rules.specs.Tables.{dashes, unknown, tag_limit, present, has_id, known};
+ghost use Rattle.rules.specs.Sentences.{known_editor, known_origin};
+ghost use Rattle.rules.specs.Sheets.{table_count};
+ghost use Rattle.table_sheet.specs.SheetRows.{tables_in};
+ghost use Rattle.citations.specs.Tabled.{Counted, Tabled, rows_in};
 
 // Tags have at most 10 bytes, those of MORPHTAG 32.
 pub fn tag_limit(table: usize) -> usize
-    ensures { result ≡ tagLimit table }
+    ensures { result ≡ tag_limit table }
 {
     if table == table_sheet::MORPH_TAGS {
         32
@@ -39,8 +39,8 @@ pub fn is_known(
     table: usize,
     tag: &[u8],
 ) -> bool
-    requires { Tabled file.now sheet.now × (table < tableCount) }
-    ensures { (start : ℕ) → result ≡ known (tablesIn file.now sheet.now) table (record { start = start; bytes = tag.now }) }
+    requires { Tabled file.now sheet.now × (table < table_count) }
+    ensures { (start : ℕ) → result ≡ known (tables_in file.now sheet.now) table (record { start = start; bytes = tag.now }) }
 {
     let count = sheet[table] as usize;
     if count == 0 {
@@ -82,8 +82,8 @@ pub fn is_surely_known(
     start: usize,
     len: usize,
 ) -> bool
-    requires { Tabled file.now sheet.now × (table < tableCount) × (start + len ≤ length file.now) }
-    ensures { result ≡ true → (at : ℕ) → known (tablesIn file.now sheet.now) table (record { start = at; bytes = take len (drop start file.now) }) ≡ true }
+    requires { Tabled file.now sheet.now × (table < table_count) × (start + len ≤ length file.now) }
+    ensures { result ≡ true → (at : ℕ) → known (tables_in file.now sheet.now) table (record { start = at; bytes = take len (drop start file.now) }) ≡ true }
 {
     if file.len() < start + 8 {
         return false;
@@ -100,15 +100,15 @@ pub fn is_surely_known(
 }
 
 pub fn is_present(sheet: &[u32], table: usize) -> bool
-    requires { Counted sheet.now × (table < tableCount) }
-    ensures { (file : List ℕ) → result ≡ present table (tablesIn file sheet.now) }
+    requires { Counted sheet.now × (table < table_count) }
+    ensures { (file : List ℕ) → result ≡ present table (tables_in file sheet.now) }
 {
     sheet[table] != 0
 }
 
 fn has_row(sheet: &[u32], table: usize, id1: u32) -> bool
-    requires { Counted sheet.now × (table < tableCount) }
-    ensures { (file : List ℕ) → result ≡ hasId id1 (rowsIn file sheet.now table) }
+    requires { Counted sheet.now × (table < table_count) }
+    ensures { (file : List ℕ) → result ≡ has_id id1 (rows_in file sheet.now table) }
 {
     let count = sheet[table] as usize;
     if count == 0 {
@@ -125,7 +125,7 @@ fn has_row(sheet: &[u32], table: usize, id1: u32) -> bool
 // The editor's id + 1: -1 and 0 may be cited without a row.
 pub fn knows_editor(sheet: &[u32], id1: u32) -> bool
     requires { Counted sheet.now }
-    ensures { (file : List ℕ) → result ≡ knownEditor (tablesIn file sheet.now) id1 }
+    ensures { (file : List ℕ) → result ≡ known_editor (tables_in file sheet.now) id1 }
 {
     if id1 < 2 {
         return true;
@@ -134,8 +134,8 @@ pub fn knows_editor(sheet: &[u32], id1: u32) -> bool
 }
 
 pub fn knows_origin(sheet: &[u32], n: u32) -> bool
-    requires { Counted sheet.now × (n ≤ originId.highest) }
-    ensures { (file : List ℕ) → result ≡ knownOrigin (tablesIn file sheet.now) n }
+    requires { Counted sheet.now × (n ≤ origin_id.highest) }
+    ensures { (file : List ℕ) → result ≡ known_origin (tables_in file sheet.now) n }
 {
     has_row(sheet, table_sheet::ORIGINS, n + 1)
 }

@@ -1,6 +1,6 @@
 // The constant table of byte classes, which every walk along bytes is lent.
 ghost use Rattle.std.specs.Prelude.{◌≡◌};
-ghost use Rattle.rules.specs.Bytes.{classTable, class_of};
+ghost use Rattle.rules.specs.Bytes.{class_table, class_of};
 
 // The class of each byte: 0 illegal, 1 white, 2 digit, 3 other.
 const CLASSES: [u8; 256] = [
@@ -21,13 +21,13 @@ const CLASSES: [u8; 256] = [
 
 // A local of this is lent to every walk along bytes: a constant would be built anew at each use.
 pub fn byte_classes() -> [u8; 256]
-    ensures { result ≡ classTable }
+    ensures { result ≡ class_table }
 {
     CLASSES
 }
 
 pub fn class_of(classes: &[u8; 256], b: u8) -> u8
-    requires { classes.now ≡ classTable }
+    requires { classes.now ≡ class_table }
     ensures { result ≡ class_of b }
 {
     classes[b as usize]

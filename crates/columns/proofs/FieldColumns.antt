@@ -11,7 +11,7 @@ use lib.ListN.{length, take, drop, drop_of_length-le}
 use lib.Seq.{drop-cons}
 use Rattle.rules.specs.Lists.{pick}
 use Rattle.rules.specs.Bytes.{percents}
-use Rattle.rules.specs.Texts.{Text, noText, reads, trim, trimFrom}
+use Rattle.rules.specs.Texts.{Text, no_text, reads, trim, trim_from}
 use Rattle.rules.specs.Columns as lines
 
 -- is a column exactly %%?
@@ -19,38 +19,38 @@ abbrev pub starts : List lines.Column → ℕ → Bool
 starts cs k = reads percents (lines.written cs k)
 
 abbrev none : lines.Column
-none = record { text = noText; after = noText }
+none = record { text = no_text; after = no_text }
 
 -- ---- seen from the place that a loop has come to
 
 module _ (cs : List lines.Column) (k : ℕ) where
-  pub fields-stop : k < length cs → starts cs k ≡ true → k + length (lines.fields (drop k cs)) ≡ k
+  pub fields_stop : k < length cs → starts cs k ≡ true → k + length (lines.fields (drop k cs)) ≡ k
   unfolding lines.fields
-  fields-stop h e = rw (drop-cons cs k none, e, add-zero)
+  fields_stop h e = rw (drop-cons cs k none, e, add-zero)
 
-  pub fields-more : k < length cs → starts cs k ≡ false → k + length (lines.fields (drop k cs)) ≡ k + 1 + length (lines.fields (drop (k + 1) cs))
+  pub fields_more : k < length cs → starts cs k ≡ false → k + length (lines.fields (drop k cs)) ≡ k + 1 + length (lines.fields (drop (k + 1) cs))
   unfolding lines.fields
-  fields-more h e = rw (drop-cons cs k none, e, add-one, add-suc, suc-add)
+  fields_more h e = rw (drop-cons cs k none, e, add-one, add-suc, suc-add)
 
-  pub fields-end : length cs ≤ k → k + length (lines.fields (drop k cs)) ≡ k
+  pub fields_end : length cs ≤ k → k + length (lines.fields (drop k cs)) ≡ k
   unfolding lines.fields
-  fields-end h = rw (drop_of_length-le cs h, add-zero)
+  fields_end h = rw (drop_of_length-le cs h, add-zero)
 
 -- ---- the whole
 
-pub fields-few : (cs : List lines.Column) → length (lines.fields cs) ≤ length cs
+pub fields_few : (cs : List lines.Column) → length (lines.fields cs) ≤ length cs
 unfolding lines.fields
-fields-few [] = omega arith
-fields-few (c ∷ cs) = go (reads percents c.text) (fields-few cs)
+fields_few [] = omega arith
+fields_few (c ∷ cs) = go (reads percents c.text) (fields_few cs)
   where
     go : (t : Bool) → length (lines.fields cs) ≤ length cs → length (pick t [] (c.text ∷ lines.fields cs)) ≤ suc (length cs)
     go true h = omega arith
     go false h = suc-le-suc h
 
-pub fields-take : (cs : List lines.Column) → lines.fields cs ≡ take (length (lines.fields cs)) (lines.texts cs)
+pub fields_take : (cs : List lines.Column) → lines.fields cs ≡ take (length (lines.fields cs)) (lines.texts cs)
 unfolding lines.fields
-fields-take [] = refl
-fields-take (c ∷ cs) = go (reads percents c.text) (fields-take cs)
+fields_take [] = refl
+fields_take (c ∷ cs) = go (reads percents c.text) (fields_take cs)
   where
     go : (t : Bool) → lines.fields cs ≡ take (length (lines.fields cs)) (lines.texts cs)
         → pick t [] (c.text ∷ lines.fields cs) ≡ take (length (pick t [] (c.text ∷ lines.fields cs))) (c.text ∷ lines.texts cs)
@@ -69,10 +69,10 @@ field_at (c ∷ cs) k h = go (reads percents c.text) k h (field_at cs)
     go false zero h e = refl
     go false (suc k) h e = e k (le_of_suc-le-suc h)
 
-pub comment-behind : (cs : List lines.Column) → lines.comment cs ≡ trim (lines.column cs (length (lines.fields cs))).after
-unfolding lines.fields lines.comment trimFrom
-comment-behind [] = refl
-comment-behind (c ∷ cs) = go (reads percents c.text) (comment-behind cs)
+pub comment_behind : (cs : List lines.Column) → lines.comment cs ≡ trim (lines.column cs (length (lines.fields cs))).after
+unfolding lines.fields lines.comment trim_from
+comment_behind [] = refl
+comment_behind (c ∷ cs) = go (reads percents c.text) (comment_behind cs)
   where
     go : (t : Bool) → lines.comment cs ≡ trim (lines.column cs (length (lines.fields cs))).after
         → pick t (trim c.after) (lines.comment cs) ≡ trim (lines.column (c ∷ cs) (length (pick t [] (c.text ∷ lines.fields cs)))).after

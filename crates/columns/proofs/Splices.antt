@@ -10,16 +10,16 @@ use lib.Seq.{take-suc, length-take-le, take_at, drop-cons, take-append-add, drop
 use Rattle.columns.specs.Splices.{splice}
 
 -- right behind the first list
-pub splice-seam : (a vs b : List ℕ) (at : ℕ) → length a ≡ at → splice at vs (a ++ b) ≡ a ++ vs ++ drop (length vs) b
+pub splice_seam : (a vs b : List ℕ) (at : ℕ) → length a ≡ at → splice at vs (a ++ b) ≡ a ++ vs ++ drop (length vs) b
 unfolding splice
-splice-seam a vs b at e =
+splice_seam a vs b at e =
     rw (← e)
     (ap₂ (λ (x y : List ℕ). x ++ vs ++ y) (take_at a b (length a) refl) (drop-append-add a b (length vs)))
 
 -- in the second of two lists
-pub splice-behind : (a vs b : List ℕ) (at : ℕ) → splice (length a + at) vs (a ++ b) ≡ a ++ splice at vs b
+pub splice_behind : (a vs b : List ℕ) (at : ℕ) → splice (length a + at) vs (a ++ b) ≡ a ++ splice at vs b
 unfolding splice
-splice-behind a vs b at =
+splice_behind a vs b at =
     ap₂ (λ (x y : List ℕ). x ++ vs ++ y)
     (take-append-add a b at)
     (ap (λ (k : ℕ). drop k (a ++ b)) (add_assoc (length a) at (length vs)) ∙ drop-append-add a b (at + length vs))
@@ -27,25 +27,25 @@ splice-behind a vs b at =
     ∙ append_assoc a (take at b ++ vs) (drop (at + length vs) b)
 
 -- in the first of two lists
-pub splice-within : (a vs b : List ℕ) (at : ℕ) → at + length vs ≤ length a → splice at vs (a ++ b) ≡ splice at vs a ++ b
+pub splice_within : (a vs b : List ℕ) (at : ℕ) → at + length vs ≤ length a → splice at vs (a ++ b) ≡ splice at vs a ++ b
 unfolding splice
-splice-within a vs b at h =
+splice_within a vs b at h =
     ap₂ (λ (x y : List ℕ). x ++ vs ++ y)
     (take-append-le at a b (omega arith))
     (drop-append-le (at + length vs) a b h)
     ∙ sym (append_assoc (take at a ++ vs) (drop (at + length vs) a) b)
 
 -- of a list as long as what is put in its place, nothing is left
-pub splice-whole : (vs l : List ℕ) → length l ≡ length vs → splice 0 vs l ≡ vs
+pub splice_whole : (vs l : List ℕ) → length l ≡ length vs → splice 0 vs l ≡ vs
 unfolding splice
-splice-whole vs l e =
+splice_whole vs l e =
     ap (λ (k : ℕ). vs ++ drop k l) (zero-add (length vs) ∙ sym e) ∙ ap (λ (x : List ℕ). vs ++ x) (drop-length l) ∙ append-nil vs
 
 -- one element more
-pub splice-more : (vs l : List ℕ) (at v : ℕ) → at + length vs < length l
+pub splice_more : (vs l : List ℕ) (at v : ℕ) → at + length vs < length l
     → set (splice at vs l) (at + length vs) v ≡ splice at (vs ++ (v ∷ [])) l
 unfolding splice
-splice-more vs l at v h =
+splice_more vs l at v h =
     let front = take at l ++ vs in
     let k = at + length vs in
     let t : length (take at l) ≡ at = length-take-le at l (omega arith) in
@@ -59,31 +59,31 @@ splice-more vs l at v h =
     (ap (λ (m : ℕ). drop m l) grown)
 
 -- one more of the numbers that are put there
-pub splice-take : (vs l : List ℕ) (at i : ℕ) → i < length vs → at + i < length l
+pub splice_take : (vs l : List ℕ) (at i : ℕ) → i < length vs → at + i < length l
     → set (splice at (take i vs) l) (at + i) (get_or vs i 0) ≡ splice at (take (i + 1) vs) l
-splice-take vs l at i h room =
+splice_take vs l at i h room =
     let e : length (take i vs) ≡ i = length-take-le i vs (omega arith) in
     ap (λ (m : ℕ). set (splice at (take i vs) l) (at + m) (get_or vs i 0)) (sym e)
-    ∙ splice-more (take i vs) l at (get_or vs i 0) (omega arith)
+    ∙ splice_more (take i vs) l at (get_or vs i 0) (omega arith)
     ∙ ap (λ (x : List ℕ). splice at x l) (sym (ap (λ (m : ℕ). take m vs) (add-one i) ∙ take-suc vs i 0 h))
 
 -- one zero more
-pub splice-zero : (l : List ℕ) (at n : ℕ) → at + n < length l
+pub splice_zero : (l : List ℕ) (at n : ℕ) → at + n < length l
     → set (splice at (replicate n 0) l) (at + n) 0 ≡ splice at (replicate (n + 1) 0) l
-splice-zero l at n h =
+splice_zero l at n h =
     let e : length {A = ℕ} (replicate n 0) ≡ n = length-replicate {A = ℕ} n 0 in
     ap (λ (m : ℕ). set (splice at (replicate n 0) l) (at + m) 0) (sym e)
-    ∙ splice-more (replicate n 0) l at 0 (omega arith)
+    ∙ splice_more (replicate n 0) l at 0 (omega arith)
     ∙ ap (λ (x : List ℕ). splice at x l) (replicate-append-replicate n 1 0)
 
-pub splice-none : (l : List ℕ) (at : ℕ) → splice at [] l ≡ l
+pub splice_none : (l : List ℕ) (at : ℕ) → splice at [] l ≡ l
 unfolding splice
-splice-none l at =
+splice_none l at =
     ap (λ (k : ℕ). take at l ++ [] ++ drop k l) (add-zero at)
     ∙ ap (λ (x : List ℕ). x ++ drop at l) (append-nil (take at l))
     ∙ take-append-drop at l
 
 -- what is put at the front stands there
-pub take-splice : (vs l : List ℕ) → take (length vs) (splice 0 vs l) ≡ vs
+pub take_splice : (vs l : List ℕ) → take (length vs) (splice 0 vs l) ≡ vs
 unfolding splice
-take-splice vs l = take_at vs (drop (0 + length vs) l) (length vs) refl
+take_splice vs l = take_at vs (drop (0 + length vs) l) (length vs) refl

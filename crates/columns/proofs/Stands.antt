@@ -7,31 +7,31 @@ use mathlib.Core.Path.{◌≡◌, refl, ap}
 use mathlib.Core.List.{List, [], ◌∷◌, ◌++◌}
 use lib.ListN.{length, drop, get_or}
 use Rattle.rules.specs.Columns as lines
-use Rattle.columns.specs.Cursors.{first_of, nextColumn}
-use Rattle.columns.specs.Listing.{behindText, bounds, places_of}
-use Rattle.columns.proofs.Steps.{columnBetween, Step, found}
+use Rattle.columns.specs.Cursors.{first_of, next_column}
+use Rattle.columns.specs.Listing.{behind_text, bounds, places_of}
+use Rattle.columns.proofs.Steps.{column_between, Step, found}
 
 -- the place where a column starts, and the one behind it
 abbrev pub start_of : List lines.Column → ℕ → ℕ
 start_of cs k = (lines.written cs k).start
 
 abbrev pub end_of : List lines.Column → ℕ → ℕ
-end_of cs k = behindText (lines.written cs k)
+end_of cs k = behind_text (lines.written cs k)
 
 pub record Stands (s : List ℕ) (at : ℕ) (cs : List lines.Column) (k : ℕ) : Type 0 where
   pub from : at ≤ start_of cs k
   pub some : start_of cs k < end_of cs k
   pub inside : end_of cs k ≤ length s
-  pub is : lines.column cs k ≡ columnBetween s (start_of cs k) (end_of cs k)
-  pub rest : lines.columnsFrom (end_of cs k) (drop (end_of cs k) s) ≡ drop (suc k) cs
+  pub is : lines.column cs k ≡ column_between s (start_of cs k) (end_of cs k)
+  pub rest : lines.columns_from (end_of cs k) (drop (end_of cs k) s) ≡ drop (suc k) cs
 
 -- the first of the columns from a place on
-step_of : (s : List ℕ) (at : ℕ) (c : lines.Column) (cs : List lines.Column) → lines.columnsFrom at (drop at s) ≡ c ∷ cs
-    → Step s at c.text.start (behindText c.text) (record { at = behindText c.text })
-unfolding nextColumn
-step_of s at c cs q = found s at c.text.start (behindText c.text) (record { at = behindText c.text }) (ap first_of q)
+step_of : (s : List ℕ) (at : ℕ) (c : lines.Column) (cs : List lines.Column) → lines.columns_from at (drop at s) ≡ c ∷ cs
+    → Step s at c.text.start (behind_text c.text) (record { at = behind_text c.text })
+unfolding next_column
+step_of s at c cs q = found s at c.text.start (behind_text c.text) (record { at = behind_text c.text }) (ap first_of q)
 
-pub stands : (s : List ℕ) (at : ℕ) (cs : List lines.Column) → lines.columnsFrom at (drop at s) ≡ cs → (k : ℕ) → k < length cs → Stands s at cs k
+pub stands : (s : List ℕ) (at : ℕ) (cs : List lines.Column) → lines.columns_from at (drop at s) ≡ cs → (k : ℕ) → k < length cs → Stands s at cs k
 stands s at [] q k h = absurd (not-suc-le-zero h)
 stands s at (c ∷ cs) q zero h =
     let t = step_of s at c cs q in
@@ -40,21 +40,21 @@ stands s at (c ∷ cs) q zero h =
 stands s at (c ∷ cs) q (suc k) h =
     let t = step_of s at c cs q in
     let e = t.columns in
-    let later = stands s (behindText c.text) cs (cc) k (le_of_suc-le-suc h) in
+    let later = stands s (behind_text c.text) cs (cc) k (le_of_suc-le-suc h) in
     record { from = omega (arith, t.from, t.some, later.from); some = later.some; inside = later.inside; is = later.is; rest = later.rest }
 
 -- ---- the numbers
 
-pub length-places : (cs : List lines.Column) → length (places_of cs) ≡ 2 * length cs
+pub length_places : (cs : List lines.Column) → length (places_of cs) ≡ 2 * length cs
 unfolding places_of
-length-places [] = refl
-length-places (c ∷ cs) = omega (arith, length-places cs)
+length_places [] = refl
+length_places (c ∷ cs) = omega (arith, length_places cs)
 
-pub place-start : (cs : List lines.Column) (k : ℕ) → get_or (places_of cs) (2 * k) 0 ≡ start_of cs k
+pub place_start : (cs : List lines.Column) (k : ℕ) → get_or (places_of cs) (2 * k) 0 ≡ start_of cs k
 unfolding places_of
-place-start [] k = refl
-place-start (c ∷ cs) zero = refl
-place-start (c ∷ cs) (suc k) = let e : 2 * suc k ≡ suc (suc (2 * k)) = omega arith in rw e (place-start cs k)
+place_start [] k = refl
+place_start (c ∷ cs) zero = refl
+place_start (c ∷ cs) (suc k) = let e : 2 * suc k ≡ suc (suc (2 * k)) = omega arith in rw e (place_start cs k)
 
 pub place_end : (cs : List lines.Column) (k : ℕ) → get_or (places_of cs) (2 * k + 1) 0 ≡ end_of cs k
 unfolding places_of
@@ -63,7 +63,7 @@ place_end (c ∷ cs) zero = refl
 place_end (c ∷ cs) (suc k) = let e : 2 * suc k + 1 ≡ suc (suc (2 * k + 1)) = omega arith in rw e (place_end cs k)
 
 -- one column more
-pub places-more : (cs : List lines.Column) (c : lines.Column) → places_of (cs ++ (c ∷ [])) ≡ places_of cs ++ bounds c
+pub places_more : (cs : List lines.Column) (c : lines.Column) → places_of (cs ++ (c ∷ [])) ≡ places_of cs ++ bounds c
 unfolding places_of
-places-more [] c = refl
-places-more (d ∷ cs) c = ap (λ (l : List ℕ). bounds d ++ l) (places-more cs c)
+places_more [] c = refl
+places_more (d ∷ cs) c = ap (λ (l : List ℕ). bounds d ++ l) (places_more cs c)

@@ -7,32 +7,32 @@ use mathlib.Core.Path.{◌≡◌, sym, ap, ◌∙◌}
 use mathlib.Core.List.{List, [], ◌∷◌, ◌++◌, map, append_assoc}
 use lib.ListN.{length, take, drop, get_or, set, length-append, length-set, length-drop}
 use lib.Seq.{length-take-le, take-suc, take_all, drop-cons}
-use Rattle.rules.specs.Numbers.{lineLimit}
+use Rattle.rules.specs.Numbers.{line_limit}
 use Rattle.rules.specs.Columns as lines
 use Rattle.columns.specs.Splices.{splice}
-use Rattle.columns.specs.Cursors.{nextColumn}
+use Rattle.columns.specs.Cursors.{next_column}
 use Rattle.columns.specs.Listing.{places_of}
 use Rattle.columns.specs.declared.Cursor.{Cursor}
 use Rattle.columns.specs.declared.Column.TheVariants.{Found, Missing}
-use Rattle.columns.proofs.Steps.{columnBetween, missing, found}
-use Rattle.columns.proofs.Shifts.{moved, columns-moved, columns-half}
-use Rattle.columns.proofs.Stands.{length-places, places-more}
-use Rattle.columns.proofs.Splices.{splice-more, splice-none}
+use Rattle.columns.proofs.Steps.{column_between, missing, found}
+use Rattle.columns.proofs.Shifts.{moved, columns_moved, columns_half}
+use Rattle.columns.proofs.Stands.{length_places, places_more}
+use Rattle.columns.proofs.Splices.{splice_more, splice_none}
 
 -- all the columns that are walked
 abbrev pub walked : List ℕ → ℕ → ℕ → List lines.Column
-walked line from start = lines.columnsFrom (start + from) (drop from line)
+walked line from start = lines.columns_from (start + from) (drop from line)
 
 pub record Walking (line : List ℕ) (from start : ℕ) (lent places : List ℕ) (at count : ℕ) : Type 0 where
   pub room : length lent ≡ 4096
   pub kept : length places ≡ 4096
-  pub short : length line ≤ lineLimit
+  pub short : length line ≤ line_limit
   pub inside : at ≤ length line
   pub below : count ≤ length (walked line from start)
-  pub rest : drop count (walked line from start) ≡ lines.columnsFrom (start + at) (drop at line)
+  pub rest : drop count (walked line from start) ≡ lines.columns_from (start + at) (drop at line)
   pub stored : places ≡ splice 0 (places_of (take count (walked line from start))) lent
 
-pub walking_start : (line : List ℕ) (from start : ℕ) (lent : List ℕ) (at : ℕ) → length lent ≡ 4096 → length line ≤ lineLimit → from ≤ length line → at ≡ from
+pub walking_start : (line : List ℕ) (from start : ℕ) (lent : List ℕ) (at : ℕ) → length lent ≡ 4096 → length line ≤ line_limit → from ≤ length line → at ≡ from
     → Walking line from start lent lent at 0
 unfolding places_of
 walking_start line from start lent at r s h e =
@@ -42,24 +42,24 @@ walking_start line from start lent at r s h e =
       short = s;
       inside = omega arith;
       below = omega arith;
-      rest = ap (λ (n : ℕ). lines.columnsFrom (start + n) (drop n line)) (sym e);
-      stored = sym (splice-none lent 0);
+      rest = ap (λ (n : ℕ). lines.columns_from (start + n) (drop n line)) (sym e);
+      stored = sym (splice_none lent 0);
     }
 
 -- the element that a list goes on with
-next-there : (l : List lines.Column) (n : ℕ) (x : lines.Column) (xs : List lines.Column) → drop n l ≡ x ∷ xs → n < length l
-next-there l n x xs q = omega (arith, length-drop n l, ap length q)
+next_there : (l : List lines.Column) (n : ℕ) (x : lines.Column) (xs : List lines.Column) → drop n l ≡ x ∷ xs → n < length l
+next_there l n x xs q = omega (arith, length-drop n l, ap length q)
 
-next-taken : (l : List lines.Column) (n : ℕ) (x : lines.Column) (xs : List lines.Column) → drop n l ≡ x ∷ xs → take (n + 1) l ≡ take n l ++ (x ∷ [])
-next-taken l n x xs q =
-    let h : n < length l = next-there l n x xs q in
+next_taken : (l : List lines.Column) (n : ℕ) (x : lines.Column) (xs : List lines.Column) → drop n l ≡ x ∷ xs → take (n + 1) l ≡ take n l ++ (x ∷ [])
+next_taken l n x xs q =
+    let h : n < length l = next_there l n x xs q in
     let e : get_or l n x ∷ drop (suc n) l ≡ x ∷ xs = sym (drop-cons l n x h) ∙ q in
     let f : get_or l n x ≡ x = cc in
     rw add-one (take-suc l n x h ∙ ap (λ (y : lines.Column). take n l ++ (y ∷ [])) f)
 
-next-left : (l : List lines.Column) (n : ℕ) (x : lines.Column) (xs : List lines.Column) → drop n l ≡ x ∷ xs → drop (n + 1) l ≡ xs
-next-left l n x xs q =
-    let h : n < length l = next-there l n x xs q in
+next_left : (l : List lines.Column) (n : ℕ) (x : lines.Column) (xs : List lines.Column) → drop n l ≡ x ∷ xs → drop (n + 1) l ≡ xs
+next_left l n x xs q =
+    let h : n < length l = next_there l n x xs q in
     let e : get_or l n x ∷ drop (suc n) l ≡ x ∷ xs = sym (drop-cons l n x h) ∙ q in
     rw add-one (cc)
 
@@ -68,65 +68,65 @@ store_two : (cs : List lines.Column) (lent : List ℕ) (n a e : ℕ) → length 
     → set (set (splice 0 (places_of cs) lent) (2 * n) a) (2 * n + 1) e ≡ splice 0 (places_of cs ++ (a ∷ e ∷ [])) lent
 store_two cs lent n a e c h =
     let ps = places_of cs in
-    let k : 0 + length ps ≡ 2 * n = omega (arith, length-places cs) in
+    let k : 0 + length ps ≡ 2 * n = omega (arith, length_places cs) in
     let m : 0 + length (ps ++ (a ∷ [])) ≡ 2 * n + 1 = omega (arith, length-append ps (a ∷ [])) in
     ap (λ (i : ℕ). set (set (splice 0 ps lent) i a) (2 * n + 1) e) (sym k)
-    ∙ ap (λ (l : List ℕ). set l (2 * n + 1) e) (splice-more ps lent 0 a (omega arith))
+    ∙ ap (λ (l : List ℕ). set l (2 * n + 1) e) (splice_more ps lent 0 a (omega arith))
     ∙ ap (λ (i : ℕ). set (splice 0 (ps ++ (a ∷ [])) lent) i e) (sym m)
-    ∙ splice-more (ps ++ (a ∷ [])) lent 0 e (omega arith)
+    ∙ splice_more (ps ++ (a ∷ [])) lent 0 e (omega arith)
     ∙ ap (λ (l : List ℕ). splice 0 l lent) (append_assoc ps (a ∷ []) (e ∷ []))
 
 module _ (line : List ℕ) (from start : ℕ) (lent places : List ℕ) (at count : ℕ) (w : Walking line from start lent places at count) where
   abbrev all : List lines.Column
   all = walked line from start
 
-  pub walking-end : nextColumn line at ≡ Missing → (count ≡ length all) × (places ≡ splice 0 (places_of all) lent)
-  walking-end q =
-      let none : drop count all ≡ [] = w.rest ∙ columns-moved start at (drop at line) ∙ ap (map (moved start)) (missing line at q) in
+  pub walking_end : next_column line at ≡ Missing → (count ≡ length all) × (places ≡ splice 0 (places_of all) lent)
+  walking_end q =
+      let none : drop count all ≡ [] = w.rest ∙ columns_moved start at (drop at line) ∙ ap (map (moved start)) (missing line at q) in
       let gone : length all ≤ count = omega (arith, length-drop count all, ap length none) in (
         omega (arith, w.below),
         w.stored ∙ ap (λ (cs : List lines.Column). splice 0 (places_of cs) lent) (take_all count all gone),
       )
 
-  module _ (a e : ℕ) (n : Cursor) (q : nextColumn line at ≡ Found a e n) where
-    pub walking-bounds : (at ≤ a) × (a < e) × (e ≤ length line)
-    walking-bounds = let t = found line at a e n q in (t.from, t.some, t.inside)
+  module _ (a e : ℕ) (n : Cursor) (q : next_column line at ≡ Found a e n) where
+    pub walking_bounds : (at ≤ a) × (a < e) × (e ≤ length line)
+    walking_bounds = let t = found line at a e n q in (t.from, t.some, t.inside)
 
-    pub walking-leaps : n.at ≡ e
-    walking-leaps = (found line at a e n q).next
+    pub walking_leaps : n.at ≡ e
+    walking_leaps = (found line at a e n q).next
 
-    goes : drop count all ≡ moved start (columnBetween line a e) ∷ lines.columnsFrom (start + e) (drop e line)
+    goes : drop count all ≡ moved start (column_between line a e) ∷ lines.columns_from (start + e) (drop e line)
     goes =
         w.rest
-        ∙ columns-moved start at (drop at line)
+        ∙ columns_moved start at (drop at line)
         ∙ ap (map (moved start)) (found line at a e n q).columns
-        ∙ ap (λ (cs : List lines.Column). moved start (columnBetween line a e) ∷ cs) (sym (columns-moved start e (drop e line)))
+        ∙ ap (λ (cs : List lines.Column). moved start (column_between line a e) ∷ cs) (sym (columns_moved start e (drop e line)))
 
-    pub walking-room : 2 * count + 1 < 4096
-    walking-room =
-        omega (arith, w.short, columns-half (start + from) (drop from line), length-drop from line, next-there all count _ _ goes)
+    pub walking_room : 2 * count + 1 < 4096
+    walking_room =
+        omega (arith, w.short, columns_half (start + from) (drop from line), length-drop from line, next_there all count _ _ goes)
 
     sized : start + a + length (take (e - a) (drop a line)) ≡ start + e
     sized =
-        let b = walking-bounds in
+        let b = walking_bounds in
         omega (arith, length-take-le (e - a) (drop a line) (omega (arith, length-drop a line)))
 
-    pub walking-next : Walking line from start lent (set (set places (2 * count) (start + a)) (2 * count + 1) (start + e)) n.at (count + 1)
-    walking-next =
+    pub walking_next : Walking line from start lent (set (set places (2 * count) (start + a)) (2 * count + 1) (start + e)) n.at (count + 1)
+    walking_next =
         let t = found line at a e n q in
-        let c = moved start (columnBetween line a e) in
+        let c = moved start (column_between line a e) in
         record {
           room = w.room;
           kept = simp length-set w.kept;
           short = w.short;
           inside = omega (arith, t.next, t.inside);
-          below = omega (arith, next-there all count _ _ goes);
-          rest = next-left all count _ _ goes ∙ ap (λ (k : ℕ). lines.columnsFrom (start + k) (drop k line)) (sym t.next);
+          below = omega (arith, next_there all count _ _ goes);
+          rest = next_left all count _ _ goes ∙ ap (λ (k : ℕ). lines.columns_from (start + k) (drop k line)) (sym t.next);
           stored =
               ap (λ (l : List ℕ). set (set l (2 * count) (start + a)) (2 * count + 1) (start + e)) w.stored
-              ∙ store_two (take count all) lent count (start + a) (start + e) (length-take-le count all w.below) (omega (arith, w.room, walking-room))
+              ∙ store_two (take count all) lent count (start + a) (start + e) (length-take-le count all w.below) (omega (arith, w.room, walking_room))
               ∙ ap (λ (l : List ℕ). splice 0 l lent)
               (ap (λ (k : ℕ). places_of (take count all) ++ ((start + a) ∷ k ∷ [])) (sym sized)
-              ∙ sym (places-more (take count all) c)
-              ∙ ap places_of (sym (next-taken all count _ _ goes)));
+              ∙ sym (places_more (take count all) c)
+              ∙ ap places_of (sym (next_taken all count _ _ goes)));
         }

@@ -13,5 +13,5 @@ first_of (c ∷ cs) =
     Found c.text.start end (record { at = end })
 
 -- the next column from a place on, in the file up to the line's end
-unfoldable pub nextColumn : List ℕ → ℕ → Column
-nextColumn head at = first_of (lines.columnsFrom at (drop at head))
+unfoldable pub next_column : List ℕ → ℕ → Column
+next_column head at = first_of (lines.columns_from at (drop at head))

@@ -8,10 +8,10 @@ abbrev pub solid : ℕ → Bool
 solid b = not (white b)
 
 -- a byte of the run that is skipped: of a column, or of white bytes
-abbrev pub inRun : Bool → ℕ → Bool
-inRun in-column b = pick in-column (solid b) (white b)
+abbrev pub in_run : Bool → ℕ → Bool
+in_run in_column b = pick in_column (solid b) (white b)
 
 -- how many of the first bytes pass the test, up to the first that doesn't
-unfoldable pub runLength : (ℕ → Bool) → List ℕ → ℕ
-runLength f [] = 0
-runLength f (b ∷ bs) = let more = suc (runLength f bs) in pick (f b) more 0
+unfoldable pub run_length : (ℕ → Bool) → List ℕ → ℕ
+run_length f [] = 0
+run_length f (b ∷ bs) = let more = suc (run_length f bs) in pick (f b) more 0

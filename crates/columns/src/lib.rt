@@ -5,15 +5,15 @@ pub mod reader;
 
 ghost use Rattle.std.specs.Prelude.{◌≡◌, [], ◌∷◌, ◌+◌, drop};
 ghost use Rattle.rules.specs.Lists.{same};
-ghost use Rattle.rules.specs.Bytes.{classTable, white};
-ghost use Rattle.columns.specs.Leading.{runLength, inRun};
-ghost use Rattle.columns.specs.Cursors.{nextColumn};
+ghost use Rattle.rules.specs.Bytes.{class_table, white};
+ghost use Rattle.columns.specs.Leading.{run_length, in_run};
+ghost use Rattle.columns.specs.Cursors.{next_column};
 
 // the class of white bytes
 const WHITE: u8 = 1;
 
 pub fn is_white(b: u8, classes: &[u8; 256]) -> bool
-    requires { classes.now ≡ classTable }
+    requires { classes.now ≡ class_table }
     ensures { result ≡ white b }
 {
     classes[b as usize] == WHITE
@@ -21,8 +21,8 @@ pub fn is_white(b: u8, classes: &[u8; 256]) -> bool
 
 // The first place from `at` on where a run ends: of white bytes or, in a column, of bytes that aren't white.
 pub fn skip_run(head: &[u8], at: usize, in_column: bool, classes: &[u8; 256]) -> usize
-    requires { classes.now ≡ classTable }
-    ensures { result ≡ at + runLength (inRun in_column) (drop at head.now) }
+    requires { classes.now ≡ class_table }
+    ensures { result ≡ at + run_length (in_run in_column) (drop at head.now) }
 {
     let mut end = at;
     while end < head.len() {
@@ -72,8 +72,8 @@ impl Cursor {
 
     // `head` is the line.
     pub fn next(self, head: &[u8], classes: &[u8; 256]) -> Column
-        requires { classes.now ≡ classTable }
-        ensures { result ≡ nextColumn head.now self.at }
+        requires { classes.now ≡ class_table }
+        ensures { result ≡ next_column head.now self.at }
     {
         let at = self.at;
         let start = skip_run(head, at, false, classes);

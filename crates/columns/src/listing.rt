@@ -1,12 +1,12 @@
 // The columns of a line, listed once: where each starts and ends in the file. Every judge of the line looks only there.
 ghost use Rattle.std.specs.Prelude.{◌≡◌, List, ℕ, ◌+◌, ◌-◌, ◌≤◌, ◌<◌, length, drop};
-ghost use Rattle.rules.specs.Bytes.{classTable, ignored};
-ghost use Rattle.rules.specs.Numbers.{lineLimit, fileLimit};
+ghost use Rattle.rules.specs.Bytes.{class_table, ignored};
+ghost use Rattle.rules.specs.Numbers.{line_limit, file_limit};
 ghost use Rattle.rules.specs.Texts.{trim};
-ghost use Rattle.rules.specs.Columns.{columnsFrom, columns, column, written, fields, comment};
-ghost use Rattle.rules.specs.Keywords.{firstColumn};
+ghost use Rattle.rules.specs.Columns.{columns_from, columns, column, written, fields, comment};
+ghost use Rattle.rules.specs.Keywords.{first_column};
 ghost use Rattle.columns.specs.Splices.{splice};
-ghost use Rattle.columns.specs.Listing.{textBetween, line_of, columnsOf, places_of, span_of, Listed};
+ghost use Rattle.columns.specs.Listing.{text_between, line_of, columns_of, places_of, span_of, Listed};
 
 use crate::reader::list_columns;
 use crate::{Column, Cursor};
@@ -40,8 +40,8 @@ pub fn walk_columns(
     classes: &[u8; 256],
     places: &mut [u32],
 ) -> usize
-    requires { (classes.now ≡ classTable) × (length line.now ≤ lineLimit) × (start + length line.now ≤ fileLimit) × (from ≤ length line.now) × (length places.old ≡ 4096) }
-    ensures { (result ≡ length (columnsFrom (start + from) (drop from line.now))) × (places.new ≡ splice 0 (places_of (columnsFrom (start + from) (drop from line.now))) places.old) }
+    requires { (classes.now ≡ class_table) × (length line.now ≤ line_limit) × (start + length line.now ≤ file_limit) × (from ≤ length line.now) × (length places.old ≡ 4096) }
+    ensures { (result ≡ length (columns_from (start + from) (drop from line.now))) × (places.new ≡ splice 0 (places_of (columns_from (start + from) (drop from line.now))) places.old) }
 {
     let mut cursor = Cursor::new(from);
     let mut count = 0;
@@ -70,8 +70,8 @@ pub fn read_line(
     classes: &[u8; 256],
     places: &mut Places,
 ) -> Line
-    requires { (classes.now ≡ classTable) × (start ≤ end) × (end ≤ length file.now) × (end ≤ start + lineLimit) × (length file.now ≤ fileLimit) }
-    ensures { (result ≡ record { start = start; end = end; columns = length (columns (textBetween file.now start end)) }) × (places.new ≡ splice 0 (places_of (columns (textBetween file.now start end))) places.old) }
+    requires { (classes.now ≡ class_table) × (start ≤ end) × (end ≤ length file.now) × (end ≤ start + line_limit) × (length file.now ≤ file_limit) }
+    ensures { (result ≡ record { start = start; end = end; columns = length (columns (text_between file.now start end)) }) × (places.new ≡ splice 0 (places_of (columns (text_between file.now start end))) places.old) }
 {
     let count = list_columns(&file[start..end], start, classes, places);
     Line {
@@ -84,7 +84,7 @@ pub fn read_line(
 // The bytes of column k.
 pub fn column_text<'a>(file: &'a [u8], line: Line, places: &Places, k: usize) -> &'a [u8]
     requires { Listed file.now line places.now × (k < line.columns) }
-    ensures { result.now ≡ (written (columnsOf file.now line) k).bytes }
+    ensures { result.now ≡ (written (columns_of file.now line) k).bytes }
 {
     let start = places[2 * k] as usize;
     let end = places[2 * k + 1] as usize;
@@ -93,7 +93,7 @@ pub fn column_text<'a>(file: &'a [u8], line: Line, places: &Places, k: usize) ->
 
 pub fn column_span(line: Line, places: &Places, k: usize) -> Span
     requires { (k < line.columns) × ((file : List ℕ) × Listed file line places.now) }
-    ensures { (file : List ℕ) → Listed file line places.now → result ≡ span_of (written (columnsOf file line) k) }
+    ensures { (file : List ℕ) → Listed file line places.now → result ≡ span_of (written (columns_of file line) k) }
 {
     let start = places[2 * k];
     Span {
@@ -105,7 +105,7 @@ pub fn column_span(line: Line, places: &Places, k: usize) -> Span
 // From column k up to the line's end, without the white bytes there; 0, 0 if there is no column k.
 pub fn text_from(line: Line, places: &Places, k: usize) -> Span
     requires { (1 ≤ k) × ((file : List ℕ) × Listed file line places.now) }
-    ensures { (file : List ℕ) → Listed file line places.now → result ≡ span_of (trim (column (columnsOf file line) (k - 1)).after) }
+    ensures { (file : List ℕ) → Listed file line places.now → result ≡ span_of (trim (column (columns_of file line) (k - 1)).after) }
 {
     let columns = line.columns;
     if columns <= k {
@@ -121,7 +121,7 @@ pub fn text_from(line: Line, places: &Places, k: usize) -> Span
 // How many columns stand in front of the first that is exactly %%, all if none is.
 pub fn count_fields(file: &[u8], line: Line, places: &Places) -> usize
     requires { Listed file.now line places.now }
-    ensures { result ≡ length (fields (columnsOf file.now line)) }
+    ensures { result ≡ length (fields (columns_of file.now line)) }
 {
     let mut k = 0;
     while k < line.columns {
@@ -135,8 +135,8 @@ pub fn count_fields(file: &[u8], line: Line, places: &Places) -> usize
 
 // The text behind the column %% that follows the fields.
 pub fn comment_of(line: Line, places: &Places, fields_count: usize) -> Span
-    requires { (file : List ℕ) × Listed file line places.now × (fields_count ≡ length (fields (columnsOf file line))) }
-    ensures { (file : List ℕ) → Listed file line places.now → fields_count ≡ length (fields (columnsOf file line)) → result ≡ span_of (comment (columnsOf file line)) }
+    requires { (file : List ℕ) × Listed file line places.now × (fields_count ≡ length (fields (columns_of file line))) }
+    ensures { (file : List ℕ) → Listed file line places.now → fields_count ≡ length (fields (columns_of file line)) → result ≡ span_of (comment (columns_of file line)) }
 {
     text_from(line, places, fields_count + 1)
 }
@@ -144,7 +144,7 @@ pub fn comment_of(line: Line, places: &Places, fields_count: usize) -> Span
 // Empty if the line has no column or starts with a white byte.
 pub fn first_column<'a>(file: &'a [u8], line: Line, places: &Places) -> &'a [u8]
     requires { Listed file.now line places.now }
-    ensures { result.now ≡ (firstColumn (line_of file.now line)).bytes }
+    ensures { result.now ≡ (first_column (line_of file.now line)).bytes }
 {
     let start = line.start;
     if line.columns == 0 {

@@ -1,8 +1,8 @@
 // The reader of a line's columns holds the line and the place in it: it is made once a line, and walks all its columns.
 ghost use Rattle.std.specs.Prelude.{◌≡◌, ◌+◌, ◌≤◌, length, drop};
-ghost use Rattle.rules.specs.Bytes.{classTable};
-ghost use Rattle.rules.specs.Numbers.{lineLimit, fileLimit};
-ghost use Rattle.rules.specs.Columns.{columnsFrom};
+ghost use Rattle.rules.specs.Bytes.{class_table};
+ghost use Rattle.rules.specs.Numbers.{line_limit, file_limit};
+ghost use Rattle.rules.specs.Columns.{columns_from};
 ghost use Rattle.columns.specs.Splices.{splice};
 ghost use Rattle.columns.specs.Listing.{places_of};
 
@@ -21,16 +21,16 @@ pub fn all_columns<'a>(
     classes: &[u8; 256],
     places: &mut [u32],
 ) -> usize
-    requires { (classes.now ≡ classTable) × (length reader.line.now ≤ lineLimit) × (start + length reader.line.now ≤ fileLimit) × (reader.at ≤ length reader.line.now) × (length places.old ≡ 4096) }
-    ensures { (result ≡ length (columnsFrom (start + reader.entry.at) (drop reader.entry.at reader.entry.line.now))) × (places.new ≡ splice 0 (places_of (columnsFrom (start + reader.entry.at) (drop reader.entry.at reader.entry.line.now))) places.old) }
+    requires { (classes.now ≡ class_table) × (length reader.line.now ≤ line_limit) × (start + length reader.line.now ≤ file_limit) × (reader.at ≤ length reader.line.now) × (length places.old ≡ 4096) }
+    ensures { (result ≡ length (columns_from (start + reader.entry.at) (drop reader.entry.at reader.entry.line.now))) × (places.new ≡ splice 0 (places_of (columns_from (start + reader.entry.at) (drop reader.entry.at reader.entry.line.now))) places.old) }
 {
     walk_columns(reader.line, reader.at, start, classes, places)
 }
 
 // No reader among the parameters, so that callers need no proof by hand.
 pub fn list_columns(line: &[u8], start: usize, classes: &[u8; 256], places: &mut [u32]) -> usize
-    requires { (classes.now ≡ classTable) × (length line.now ≤ lineLimit) × (start + length line.now ≤ fileLimit) × (length places.old ≡ 4096) }
-    ensures { (result ≡ length (columnsFrom start line.now)) × (places.new ≡ splice 0 (places_of (columnsFrom start line.now)) places.old) }
+    requires { (classes.now ≡ class_table) × (length line.now ≤ line_limit) × (start + length line.now ≤ file_limit) × (length places.old ≡ 4096) }
+    ensures { (result ≡ length (columns_from start line.now)) × (places.new ≡ splice 0 (places_of (columns_from start line.now)) places.old) }
 {
     all_columns(Reader { line, at: 0 }, start, classes, places)
 }

@@ -8,90 +8,90 @@ use mathlib.Core.Bool.{true}
 use mathlib.Core.List.{List, ◌++◌}
 use lib.ListN.{length, take, drop, length-append, take-append-drop}
 use lib.Seq.{take_all}
-use Rattle.rules.specs.Numbers.{fileLimit}
+use Rattle.rules.specs.Numbers.{file_limit}
 use Rattle.rules.specs.Reading.{Handed, numbers}
-use Rattle.rules.specs.Sheets.{tableSheet, seenSet}
-use Rattle.rules.specs.Survey.{last_end, surveyOf, sheetsFit}
-use Rattle.rules.specs.Cutting.{endedWithin, soundPart, SoundPart}
-use Rattle.rules.proofs.CutRule.{cut-rule, sound-part}
+use Rattle.rules.specs.Sheets.{table_sheet, seen_set}
+use Rattle.rules.specs.Survey.{last_end, survey_of, sheets_fit}
+use Rattle.rules.specs.Cutting.{ended_within, sound_part, SoundPart}
+use Rattle.rules.proofs.CutRule.{cut_rule, sound_part_lem}
 use Rattle.survey.specs.declared.Surveyed.{Surveyed}
 use Rattle.demands.specs.Surveying.{Surveying, surveying, Readable, Filled, Promised}
 use Rattle.cut_demands.specs.Cutting.{Restored, SoundAlone}
-use Rattle.demands.proofs.Accepted.{sound-end-is, seen_first, handed-by-survey}
+use Rattle.demands.proofs.Accepted.{sound_end_is, seen_first, handed_by_survey}
 
 -- ---- the cut rule
 
 -- the whole file's own sentences that end within the cut come first
 pub record Front (f : List ℕ) (n : ℕ) : Type 0 where
   pub others : List Handed
-  pub first : (surveyOf f).handed ≡ endedWithin n (surveyOf f).handed ++ others
+  pub first : (survey_of f).handed ≡ ended_within n (survey_of f).handed ++ others
 
-pub front : (f : List ℕ) (n : ℕ) → n ≤ length f → length f ≤ fileLimit → Front f n
+pub front : (f : List ℕ) (n : ℕ) → n ≤ length f → length f ≤ file_limit → Front f n
 front f n h k =
     let whole : take n f ++ drop n f ≡ f = take-append-drop n f in
-    let c = cut-rule f n (drop n f) h k (subst (λ (l : List ℕ). length l ≤ fileLimit) (sym whole) k) in
-    record { others = c.others; first = ap (λ (l : List ℕ). (surveyOf l).handed) (sym whole) ∙ c.first }
+    let c = cut_rule f n (drop n f) h k (subst (λ (l : List ℕ). length l ≤ file_limit) (sym whole) k) in
+    record { others = c.others; first = ap (λ (l : List ℕ). (survey_of l).handed) (sym whole) ∙ c.first }
 
-pub cut-by-survey : (f : List ℕ) (n : ℕ) (x : List ℕ) → n ≤ length f → length f ≤ fileLimit
+pub cut_by_survey : (f : List ℕ) (n : ℕ) (x : List ℕ) → n ≤ length f → length f ≤ file_limit
     → (cut : Surveying) → Promised cut → cut.file ≡ take n f ++ x → Readable cut.file cut.tables cut.seen → Restored f n x cut
-cut-by-survey f n x h k cut p same j =
-    let c = cut-rule f n x h k (subst (λ (l : List ℕ). length l ≤ fileLimit) same j.short) in
-    let a = handed-by-survey cut p j in
-    let hs = endedWithin n (surveyOf f).handed in
-    let first : (surveyOf cut.file).handed ≡ hs ++ c.others = ap (λ (l : List ℕ). (surveyOf l).handed) same ∙ c.first in
+cut_by_survey f n x h k cut p same j =
+    let c = cut_rule f n x h k (subst (λ (l : List ℕ). length l ≤ file_limit) same j.short) in
+    let a = handed_by_survey cut p j in
+    let hs = ended_within n (survey_of f).handed in
+    let first : (survey_of cut.file).handed ≡ hs ++ c.others = ap (λ (l : List ℕ). (survey_of l).handed) same ∙ c.first in
     let counted : cut.answer.sentences ≡ length hs + length c.others = a.sentences ∙ ap length first ∙ length-append hs c.others in
     record {
       others = c.others;
       first = first;
       count = counted;
       alone = λ e. counted ∙ ap (λ (l : List Handed). length hs + length l) (c.alone e) ∙ add-zero (length hs);
-      soundEnd = a.soundEnd ∙ ap last_end first;
-      filled = a.seen ∙ ap (λ (gs : List Handed). seenSet (numbers gs)) first;
+      sound_end = a.sound_end ∙ ap last_end first;
+      filled = a.seen ∙ ap (λ (gs : List Handed). seen_set (numbers gs)) first;
       seen = seen_first cut a.seen hs c.others first;
     }
 
 -- ---- the sound part
 
-pub length_part : (n : ℕ) (f : List ℕ) → length f ≤ fileLimit → length (take n f) ≤ fileLimit
+pub length_part : (n : ℕ) (f : List ℕ) → length f ≤ file_limit → length (take n f) ≤ file_limit
 length_part n f h = omega (arith, ap length (take-append-drop n f), length-append (take n f) (drop n f))
 
 -- buffers whose lengths are kept keep their fixed sizes
-pub still-sized : (tables seen tablesLeft seenLeft : List ℕ) → length tablesLeft ≡ length tables → length seenLeft ≡ length seen
-    → sheetsFit tables seen ≡ true → sheetsFit tablesLeft seenLeft ≡ true
-still-sized tables seen tablesLeft seenLeft t s e = rw (t, s) e
+pub still_sized : (tables seen tables_left seen_left : List ℕ) → length tables_left ≡ length tables → length seen_left ≡ length seen
+    → sheets_fit tables seen ≡ true → sheets_fit tables_left seen_left ≡ true
+still_sized tables seen tables_left seen_left t s e = rw (t, s) e
 
-pub sound-by-survey : (c part : Surveying) → Promised c → Promised part → part.file ≡ take c.answer.sound_end c.file
+pub sound_by_survey : (c part : Surveying) → Promised c → Promised part → part.file ≡ take c.answer.sound_end c.file
     → Readable c.file c.tables c.seen → Readable part.file part.tables part.seen
-    → SoundAlone c.file c.answer part.answer part.tablesLeft part.seenLeft
-sound-by-survey c part p q of_part k l = by (sound-part c.file k.short)
+    → SoundAlone c.file c.answer part.answer part.tables_left part.seen_left
+sound_by_survey c part p q of_part k l = by (sound_part_lem c.file k.short)
   where
     a : Filled c
-    a = handed-by-survey c p k
+    a = handed_by_survey c p k
 
     b : Filled part
-    b = handed-by-survey part q l
+    b = handed_by_survey part q l
 
-    end_is : c.answer.sound_end ≡ (surveyOf c.file).soundEnd
-    end_is = a.soundEnd ∙ sym (sound-end-is c.file)
+    end_is : c.answer.sound_end ≡ (survey_of c.file).sound_end
+    end_is = a.sound_end ∙ sym (sound_end_is c.file)
 
-    same : part.file ≡ soundPart c.file
+    same : part.file ≡ sound_part c.file
     same = of_part ∙ ap (λ (n : ℕ). take n c.file) end_is
 
-    by : ((surveyOf c.file).soundEnd ≡ 0) ⊎ SoundPart c.file → SoundAlone c.file c.answer part.answer part.tablesLeft part.seenLeft
+    by : ((survey_of c.file).sound_end ≡ 0) ⊎ SoundPart c.file → SoundAlone c.file c.answer part.answer part.tables_left part.seen_left
     by (inl z) = inl (end_is ∙ z)
     by (inr s) =
-        let handed = ap (λ (l : List ℕ). (surveyOf l).handed) same ∙ s.same in
-        let tables = ap (λ (l : List ℕ). (surveyOf l).tables) same ∙ s.tables in
+        let handed = ap (λ (l : List ℕ). (survey_of l).handed) same ∙ s.same in
+        let tables = ap (λ (l : List ℕ). (survey_of l).tables) same ∙ s.tables in
         inr (record {
-          accepted = b.refusal ∙ ap (λ (l : List ℕ). (surveyOf l).refusal) same ∙ s.accepted;
-          place = b.place ∙ ap (λ (l : List ℕ). (surveyOf l).place) same ∙ s.place ∙ sym end_is;
+          accepted = b.refusal ∙ ap (λ (l : List ℕ). (survey_of l).refusal) same ∙ s.accepted;
+          place = b.place ∙ ap (λ (l : List ℕ). (survey_of l).place) same ∙ s.place ∙ sym end_is;
           sentences = b.sentences ∙ ap length handed ∙ sym a.sentences;
-          soundEnd = b.soundEnd ∙ ap last_end handed ∙ sym a.soundEnd;
-          tables = b.tables ∙ ap tableSheet tables;
-          seen = b.seen ∙ ap (λ (gs : List Handed). seenSet (numbers gs)) handed;
+          sound_end = b.sound_end ∙ ap last_end handed ∙ sym a.sound_end;
+          tables = b.tables ∙ ap table_sheet tables;
+          seen = b.seen ∙ ap (λ (gs : List Handed). seen_set (numbers gs)) handed;
         })
 
 -- past its end the first n bytes are the whole file
-pub promised-part : (f : List ℕ) (n : ℕ) (tables seen : List ℕ) (answer : Surveyed) (tablesLeft seenLeft : List ℕ) → length f ≤ n
-    → Promised (surveying f tables seen answer tablesLeft seenLeft) → Promised (surveying (take n f) tables seen answer tablesLeft seenLeft)
-promised-part f n tables seen answer tablesLeft seenLeft h p = subst (λ (l : List ℕ). Promised (surveying l tables seen answer tablesLeft seenLeft)) (sym (take_all n f h)) p
+pub promised_part : (f : List ℕ) (n : ℕ) (tables seen : List ℕ) (answer : Surveyed) (tables_left seen_left : List ℕ) → length f ≤ n
+    → Promised (surveying f tables seen answer tables_left seen_left) → Promised (surveying (take n f) tables seen answer tables_left seen_left)
+promised_part f n tables seen answer tables_left seen_left h p = subst (λ (l : List ℕ). Promised (surveying l tables seen answer tables_left seen_left)) (sym (take_all n f h)) p

@@ -1,12 +1,12 @@
 // Demand 3, of surveys and openings: each the promise of a function that calls them and is proved from their contracts alone.
 // Nothing is required of what is lent.
 ghost use Rattle.std.specs.Prelude.{◌≡◌, List, [], ◌∷◌, ◌++◌, ℕ, ◌≤◌, length, take};
-ghost use Rattle.rules.specs.Numbers.{fileLimit};
+ghost use Rattle.rules.specs.Numbers.{file_limit};
 ghost use Rattle.rules.specs.Reading.{Handed};
-ghost use Rattle.rules.specs.Survey.{surveyOf};
+ghost use Rattle.rules.specs.Survey.{survey_of};
 ghost use Rattle.rules.specs.LentBuffers.{WithinLimit};
 ghost use Rattle.demands.specs.Surveying.{surveying, Readable, Promised};
-ghost use Rattle.opened_demands.specs.Calls.{FlatSized, AllFlatSized, left, leftThere};
+ghost use Rattle.opened_demands.specs.Calls.{FlatSized, AllFlatSized, left, left_there};
 ghost use Rattle.opened_demands.specs.OpenedRules.{OpenedByNumber, OpenedAtPlace};
 ghost use Rattle.cut_demands.specs.Cutting.{Restored, SoundAlone};
 ghost use Rattle.cut_demands.specs.Opening.{CutAlike};
@@ -15,7 +15,7 @@ use survey::Surveyed;
 
 // The first n bytes of any file f, with any bytes x behind them.
 pub fn restored(file: &[u8], sheet: &mut [u32], seen: &mut [u8]) -> Surveyed
-    ensures first { (f : List ℕ) (n : ℕ) (x : List ℕ) → n ≤ length f → length f ≤ fileLimit → file.now ≡ take n f ++ x
+    ensures first { (f : List ℕ) (n : ℕ) (x : List ℕ) → n ≤ length f → length f ≤ file_limit → file.now ≡ take n f ++ x
         → Readable file.now sheet.old seen.old
         → Restored f n x (surveying file.now sheet.old seen.old result sheet.new seen.new) }
     ensures whole { Promised (surveying file.now sheet.old seen.old result sheet.new seen.new) }
@@ -83,11 +83,11 @@ pub fn cut_opened(
     ensures alike { (n : ℕ) (x : List ℕ) (front : List Handed) (h : Handed) (back : List Handed)
         → n ≤ length file.now → WithinLimit file.now
         → restored.now ≡ take n file.now ++ x → WithinLimit restored.now
-        → (surveyOf file.now).handed ≡ front ++ (h ∷ back) → h.sentence.heading.number ≡ number
+        → (survey_of file.now).handed ≡ front ++ (h ∷ back) → h.sentence.heading.number ≡ number
         → AllFlatSized tables.old seen.old sheet.old edges.old
         → AllFlatSized tables2.old seen2.old sheet2.old edges2.old
-        → CutAlike h n x (leftThere result.first sheet.new edges.new)
-        (leftThere result.second sheet2.new edges2.new) }
+        → CutAlike h n x (left_there result.first sheet.new edges.new)
+        (left_there result.second sheet2.new edges2.new) }
     ensures whole { OpenedByNumber file.now number tables.old seen.old sheet.old edges.old
         (left result.first tables.new seen.new sheet.new edges.new) }
     ensures after { OpenedByNumber restored.now number tables2.old seen2.old sheet2.old edges2.old
@@ -110,14 +110,14 @@ pub fn cut_opened_at(
 ) -> Openings
     ensures alike { (n : ℕ) (x : List ℕ) (front : List Handed) (h : Handed) (back : List Handed) → WithinLimit file.now
         → restored.now ≡ take n file.now ++ x → WithinLimit restored.now
-        → (surveyOf file.now).handed ≡ front ++ (h ∷ back) → h.sentence.start ≡ place
+        → (survey_of file.now).handed ≡ front ++ (h ∷ back) → h.sentence.start ≡ place
         → FlatSized sheet.old edges.old → FlatSized sheet2.old edges2.old
-        → CutAlike h n x (leftThere result.first sheet.new edges.new)
-        (leftThere result.second sheet2.new edges2.new) }
+        → CutAlike h n x (left_there result.first sheet.new edges.new)
+        (left_there result.second sheet2.new edges2.new) }
     ensures whole { OpenedAtPlace file.now place sheet.old edges.old
-        (leftThere result.first sheet.new edges.new) }
+        (left_there result.first sheet.new edges.new) }
     ensures after { OpenedAtPlace restored.now place sheet2.old edges2.old
-        (leftThere result.second sheet2.new edges2.new) }
+        (left_there result.second sheet2.new edges2.new) }
 {
     let first = opening::open_flat_at(file, place, sheet, edges);
     let second = opening::open_flat_at(restored, place, sheet2, edges2);

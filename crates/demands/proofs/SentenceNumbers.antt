@@ -10,21 +10,21 @@ use borrow.Author.Tests.{eq-eqb}
 use Rattle.rules.specs.Lists.{member, Each}
 use Rattle.rules.specs.Sentences.{Sentence}
 use Rattle.rules.specs.Reading.{Handed, numbers}
-use Rattle.rules.specs.Sheets.{seenSet}
-use Rattle.rules.specs.Survey.{Survey, surveyOf}
-use Rattle.rules.proofs.EachElement.{each-then, each_both}
-use Rattle.rules.proofs.HandedKept.{handed-kept}
+use Rattle.rules.specs.Sheets.{seen_set}
+use Rattle.rules.specs.Survey.{Survey, survey_of}
+use Rattle.rules.proofs.EachElement.{each_then, each_both}
+use Rattle.rules.proofs.HandedKept.{handed_kept}
 use Rattle.seen.specs.Bits.{bit_at}
-use Rattle.seen.proofs.SeenSets.{seen-set-holds}
+use Rattle.seen.proofs.SeenSets.{seen_set_holds}
 use Rattle.demands.specs.Surveying.{number_of}
 
-pub in-range : (f : List ℕ) → Each (λ (h : Handed). number_of h ≤ 65535) (surveyOf f).handed
-in-range f = handed-kept (λ (v : Survey) (s : Sentence). s.heading.number ≤ 65535) (λ v s k. k.part.heading.number.1) f
+pub in_range : (f : List ℕ) → Each (λ (h : Handed). number_of h ≤ 65535) (survey_of f).handed
+in_range f = handed_kept (λ (v : Survey) (s : Sentence). s.heading.number ≤ 65535) (λ v s k. k.part.heading.number.1) f
 
 -- ---- each is in the seen set
 
-member-behind : (n m : ℕ) (ns : List ℕ) → member n ns ≡ true → member n (m ∷ ns) ≡ true
-member-behind n m ns e = by (eqb n m)
+member_behind : (n m : ℕ) (ns : List ℕ) → member n ns ≡ true → member n (m ∷ ns) ≡ true
+member_behind n m ns e = by (eqb n m)
   where
     by : (t : Bool) → (t || member n ns) ≡ true
     by true = refl
@@ -34,14 +34,14 @@ each_member : (hs others : List Handed) → Each (λ (h : Handed). member (numbe
 each_member [] others = tt
 each_member (h ∷ hs) others = (
   rw (eq-eqb (number_of h) (number_of h) refl),
-  each-then (λ (g : Handed). member (number_of g) (numbers (hs ++ others)) ≡ true) (λ (g : Handed). member (number_of g) (numbers ((h ∷ hs) ++ others)) ≡ true)
-      (λ g e. member-behind (number_of g) (number_of h) (numbers (hs ++ others)) e) hs (each_member hs others),
+  each_then (λ (g : Handed). member (number_of g) (numbers (hs ++ others)) ≡ true) (λ (g : Handed). member (number_of g) (numbers ((h ∷ hs) ++ others)) ≡ true)
+      (λ g e. member_behind (number_of g) (number_of h) (numbers (hs ++ others)) e) hs (each_member hs others),
 )
 
 pub each_seen : (hs others : List Handed) → Each (λ (h : Handed). number_of h ≤ 65535) hs
-    → Each (λ (h : Handed). bit_at (seenSet (numbers (hs ++ others))) (number_of h) ≡ true) hs
+    → Each (λ (h : Handed). bit_at (seen_set (numbers (hs ++ others))) (number_of h) ≡ true) hs
 each_seen hs others low =
-    each-then (λ (h : Handed). (number_of h ≤ 65535) × (member (number_of h) (numbers (hs ++ others)) ≡ true))
-    (λ (h : Handed). bit_at (seenSet (numbers (hs ++ others))) (number_of h) ≡ true)
-    (λ h b. seen-set-holds (numbers (hs ++ others)) (number_of h) (omega (arith, b.0)) ∙ b.1) hs
+    each_then (λ (h : Handed). (number_of h ≤ 65535) × (member (number_of h) (numbers (hs ++ others)) ≡ true))
+    (λ (h : Handed). bit_at (seen_set (numbers (hs ++ others))) (number_of h) ≡ true)
+    (λ h b. seen_set_holds (numbers (hs ++ others)) (number_of h) (omega (arith, b.0)) ∙ b.1) hs
     (each_both (λ (h : Handed). number_of h ≤ 65535) (λ (h : Handed). member (number_of h) (numbers (hs ++ others)) ≡ true) hs low (each_member hs others))

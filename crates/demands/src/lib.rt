@@ -1,7 +1,7 @@
 // Demands 1 and 2, each the promise of a function that calls the survey and is proved from the survey's contract alone. Nothing
 // is required of what is lent.
 ghost use Rattle.std.specs.Prelude.{◌≡◌, ◌↔◌, true, eqb};
-ghost use Rattle.rules.specs.Survey.{sheetsFit};
+ghost use Rattle.rules.specs.Survey.{sheets_fit};
 ghost use Rattle.rules.specs.Grammar.{Fits};
 ghost use Rattle.demands.specs.Surveying.{surveying, Promised, Answered};
 ghost use Rattle.demands.specs.Accepting.{ReadAsWritten};
@@ -18,7 +18,7 @@ pub fn told(file: &[u8], sheet: &mut [u32], seen: &mut [u8]) -> Surveyed
 
 // Demand 2: accepted exactly if it follows the paper, and then read as it is written.
 pub fn accepts(file: &[u8], sheet: &mut [u32], seen: &mut [u8]) -> bool
-    ensures exactly { sheetsFit sheet.old seen.old ≡ true → (result ≡ true) ↔ Fits file.now }
+    ensures exactly { sheets_fit sheet.old seen.old ≡ true → (result ≡ true) ↔ Fits file.now }
     ensures written { result ≡ true → ReadAsWritten file.now sheet.new seen.new }
     ensures whole { (answer : Surveyed) × (result ≡ eqb answer.refusal 0)
         × Promised (surveying file.now sheet.old seen.old answer sheet.new seen.new) }

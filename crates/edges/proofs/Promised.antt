@@ -9,123 +9,123 @@ use lib.Dec.{eqb}
 use lib.ListN.{length, drop, replicate, length-map, length-replicate}
 use borrow.Author.Tests.{ne_eqb}
 use Rattle.rules.specs.Lists.{pick}
-use Rattle.rules.specs.Sheets.{EdgeRecord, sentenceSheetSize}
+use Rattle.rules.specs.Sheets.{EdgeRecord, sentence_sheet_size}
 use Rattle.rules.specs.Sentences.{Sentence}
-use Rattle.rules.specs.Survey.{Survey, surveyOf, sheetsFit, fileFits}
-use Rattle.rules.specs.SentenceFrom.{sentenceFrom}
-use Rattle.rules.specs.Opening.{Opened, OpenedAt, afterOpening, afterOpeningAt, sentenceOf, opened, openedAs}
-use Rattle.opening.specs.FlatLists.{edgeRecords}
-use Rattle.opening.specs.Promise.{OpenedFlat, OpenedFlatAt, afterOpeningFlat, afterOpeningFlatAt}
+use Rattle.rules.specs.Survey.{Survey, survey_of, sheets_fit, file_fits}
+use Rattle.rules.specs.SentenceFrom.{sentence_from}
+use Rattle.rules.specs.Opening.{Opened, OpenedAt, after_opening, after_opening_at, sentence_of, opened, opened_as}
+use Rattle.opening.specs.FlatLists.{edge_records}
+use Rattle.opening.specs.Promise.{OpenedFlat, OpenedFlatAt, after_opening_flat, after_opening_flat_at}
 use Rattle.opening.specs.Promise as flat
-use Rattle.opening.proofs.Flattened.{length-records}
+use Rattle.opening.proofs.Flattened.{length_records}
 use Rattle.edges.specs.declared.Edge.{Edge}
-use Rattle.edges.specs.Edges.{firstEdges, filledBy}
-use Rattle.edges.specs.Promise.{asRecord, asRecords, outcome, outcomeAt}
-use Rattle.edges.proofs.Records.{filled-list}
+use Rattle.edges.specs.Edges.{first_edges, filled_by}
+use Rattle.edges.specs.Promise.{as_record, as_records, outcome, outcome_at}
+use Rattle.edges.proofs.Records.{filled_list}
 
-pub length-asRecords : (ys : List Edge) → length (asRecords ys) ≡ length ys
-unfolding asRecords
-length-asRecords ys = length-map ys asRecord
+pub length_as_records : (ys : List Edge) → length (as_records ys) ≡ length ys
+unfolding as_records
+length_as_records ys = length-map ys as_record
 
-pub and-false : (b : Bool) → (b && false) ≡ false
-and-false true = refl
-and-false false = refl
+pub and_false : (b : Bool) → (b && false) ≡ false
+and_false true = refl
+and_false false = refl
 
 -- what stays and what is filled of a list lent beside the numbers
 abbrev pub list : ℕ → List EdgeRecord → List EdgeRecord → List EdgeRecord
-list r lent filled = pick (eqb (filledBy r) 0) lent filled
+list r lent filled = pick (eqb (filled_by r) 0) lent filled
 
 abbrev pub zeros : List ℕ
 zeros = replicate 2048 0
 
-abbrev pub zeroList : List EdgeRecord
-zeroList = edgeRecords 512 zeros
+abbrev pub zero_list : List EdgeRecord
+zero_list = edge_records 512 zeros
 
 -- ---- by the place of its first line
 
 module _ (file : List ℕ) (at : ℕ) (sheet : List ℕ) where
-  abbrev byPlace : List EdgeRecord → OpenedAt
-  byPlace es = afterOpeningAt file at sheet es
+  abbrev by_place : List EdgeRecord → OpenedAt
+  by_place es = after_opening_at file at sheet es
 
   abbrev listed_at : List EdgeRecord → OpenedAt → OpenedAt
   listed_at es x = record { answer = x.answer; sheet = x.sheet; edges = list x.answer es x.edges }
 
-  listed-as : (es : List EdgeRecord) (s : Option Sentence) → listed_at es (openedAs s) ≡ openedAs s
-  listed-as es none = refl
-  listed-as es (some s) = refl
+  listed_as : (es : List EdgeRecord) (s : Option Sentence) → listed_at es (opened_as s) ≡ opened_as s
+  listed_as es none = refl
+  listed_as es (some s) = refl
 
-  listed-at : (es : List EdgeRecord) → length es ≡ 512 → listed_at es (byPlace zeroList) ≡ byPlace es
-  unfolding afterOpeningAt
-  listed-at es l = rw (length-records 512 zeros, l) (go (eqb (length sheet) sentenceSheetSize) (fileFits file)) where
-    go : (t u : Bool) → listed_at es (pick (t && true) (pick u (openedAs (sentenceFrom file at)) (record { answer = 2; sheet = sheet; edges = zeroList })) (record { answer = 1; sheet = sheet; edges = zeroList }))
-        ≡ pick (t && true) (pick u (openedAs (sentenceFrom file at)) (record { answer = 2; sheet = sheet; edges = es })) (record { answer = 1; sheet = sheet; edges = es })
-    go true true = listed-as es (sentenceFrom file at)
+  listed_at_lem : (es : List EdgeRecord) → length es ≡ 512 → listed_at es (by_place zero_list) ≡ by_place es
+  unfolding after_opening_at
+  listed_at_lem es l = rw (length_records 512 zeros, l) (go (eqb (length sheet) sentence_sheet_size) (file_fits file)) where
+    go : (t u : Bool) → listed_at es (pick (t && true) (pick u (opened_as (sentence_from file at)) (record { answer = 2; sheet = sheet; edges = zero_list })) (record { answer = 1; sheet = sheet; edges = zero_list }))
+        ≡ pick (t && true) (pick u (opened_as (sentence_from file at)) (record { answer = 2; sheet = sheet; edges = es })) (record { answer = 1; sheet = sheet; edges = es })
+    go true true = listed_as es (sentence_from file at)
     go true false = refl
     go false u = refl
 
-  by-numbers-at : afterOpeningFlatAt file at sheet zeros ≡ flat.flattenedAt (byPlace zeroList)
-  unfolding afterOpeningFlatAt
-  by-numbers-at = refl
+  by_numbers_at : after_opening_flat_at file at sheet zeros ≡ flat.flattened_at (by_place zero_list)
+  unfolding after_opening_flat_at
+  by_numbers_at = refl
 
   module _ (ys : List Edge) where
-    pub other-length-open-at : length ys ≢ 512 → outcomeAt 1 sheet ys ≡ byPlace (asRecords ys)
-    unfolding afterOpeningAt
-    other-length-open-at ne =
-        rw (length-asRecords ys, ne_eqb (length ys) 512 ne, and-false (eqb (length sheet) sentenceSheetSize)) refl
+    pub other_length_open_at : length ys ≢ 512 → outcome_at 1 sheet ys ≡ by_place (as_records ys)
+    unfolding after_opening_at
+    other_length_open_at ne =
+        rw (length_as_records ys, ne_eqb (length ys) 512 ne, and_false (eqb (length sheet) sentence_sheet_size)) refl
 
-    pub listed-open-at : (r k : ℕ) (sheet' numbers : List ℕ) (zs : List Edge) → length ys ≡ 512
-        → (flat.outcomeAt r sheet' numbers ≡ afterOpeningFlatAt file at sheet zeros) × (length numbers ≡ length zeros)
-        → k ≡ filledBy r → zs ≡ firstEdges numbers k ++ drop k ys → outcomeAt r sheet' zs ≡ byPlace (asRecords ys)
-    listed-open-at r k sheet' numbers zs l e ck full =
-        let x : flat.outcomeAt r sheet' numbers ≡ flat.flattenedAt (byPlace zeroList) = e.0 ∙ by-numbers-at in
-        let o : OpenedAt = byPlace zeroList in
+    pub listed_open_at : (r k : ℕ) (sheet' numbers : List ℕ) (zs : List Edge) → length ys ≡ 512
+        → (flat.outcome_at r sheet' numbers ≡ after_opening_flat_at file at sheet zeros) × (length numbers ≡ length zeros)
+        → k ≡ filled_by r → zs ≡ first_edges numbers k ++ drop k ys → outcome_at r sheet' zs ≡ by_place (as_records ys)
+    listed_open_at r k sheet' numbers zs l e ck full =
+        let x : flat.outcome_at r sheet' numbers ≡ flat.flattened_at (by_place zero_list) = e.0 ∙ by_numbers_at in
+        let o : OpenedAt = by_place zero_list in
         ap (λ (es : List EdgeRecord). record { answer = r; sheet = sheet'; edges = es })
-        (filled-list r k o.edges numbers ys zs ck l (ap (λ (y : OpenedFlatAt). y.edges) x) (e.1 ∙ length-replicate {A = ℕ} 2048 0) full)
-        ∙ ap (λ (y : OpenedFlatAt). record { answer = y.answer; sheet = y.sheet; edges = list y.answer (asRecords ys) o.edges }) x
-        ∙ listed-at (asRecords ys) (length-asRecords ys ∙ l)
+        (filled_list r k o.edges numbers ys zs ck l (ap (λ (y : OpenedFlatAt). y.edges) x) (e.1 ∙ length-replicate {A = ℕ} 2048 0) full)
+        ∙ ap (λ (y : OpenedFlatAt). record { answer = y.answer; sheet = y.sheet; edges = list y.answer (as_records ys) o.edges }) x
+        ∙ listed_at_lem (as_records ys) (length_as_records ys ∙ l)
 
 -- ---- by the sentence's number
 
 module _ (file : List ℕ) (n : ℕ) (tables seen sheet : List ℕ) where
-  abbrev byNumber : List EdgeRecord → Opened
-  byNumber es = afterOpening file n tables seen sheet es
+  abbrev by_number : List EdgeRecord → Opened
+  by_number es = after_opening file n tables seen sheet es
 
   abbrev listed : List EdgeRecord → Opened → Opened
   listed es x = record { answer = x.answer; tables = x.tables; seen = x.seen; sheet = x.sheet; edges = list x.answer es x.edges }
 
-  listed-opened : (es : List EdgeRecord) (v : Survey) (s : Option Sentence) → listed es (opened v s) ≡ opened v s
-  listed-opened es v none = refl
-  listed-opened es v (some s) = refl
+  listed_opened : (es : List EdgeRecord) (v : Survey) (s : Option Sentence) → listed es (opened v s) ≡ opened v s
+  listed_opened es v none = refl
+  listed_opened es v (some s) = refl
 
-  abbrev refusedBy : ℕ → List EdgeRecord → Opened
-  refusedBy r es = record { answer = r; tables = tables; seen = seen; sheet = sheet; edges = es }
+  abbrev refused_by : ℕ → List EdgeRecord → Opened
+  refused_by r es = record { answer = r; tables = tables; seen = seen; sheet = sheet; edges = es }
 
-  listed_by : (es : List EdgeRecord) → length es ≡ 512 → listed es (byNumber zeroList) ≡ byNumber es
-  unfolding afterOpening
-  listed_by es l = rw (length-records 512 zeros, l) (go (sheetsFit tables seen && eqb (length sheet) sentenceSheetSize) (fileFits file)) where
-    go : (t u : Bool) → listed es (pick (t && true) (pick u (opened (surveyOf file) (sentenceOf n (surveyOf file).handed)) (refusedBy 2 zeroList)) (refusedBy 1 zeroList))
-        ≡ pick (t && true) (pick u (opened (surveyOf file) (sentenceOf n (surveyOf file).handed)) (refusedBy 2 es)) (refusedBy 1 es)
-    go true true = listed-opened es (surveyOf file) (sentenceOf n (surveyOf file).handed)
+  listed_by : (es : List EdgeRecord) → length es ≡ 512 → listed es (by_number zero_list) ≡ by_number es
+  unfolding after_opening
+  listed_by es l = rw (length_records 512 zeros, l) (go (sheets_fit tables seen && eqb (length sheet) sentence_sheet_size) (file_fits file)) where
+    go : (t u : Bool) → listed es (pick (t && true) (pick u (opened (survey_of file) (sentence_of n (survey_of file).handed)) (refused_by 2 zero_list)) (refused_by 1 zero_list))
+        ≡ pick (t && true) (pick u (opened (survey_of file) (sentence_of n (survey_of file).handed)) (refused_by 2 es)) (refused_by 1 es)
+    go true true = listed_opened es (survey_of file) (sentence_of n (survey_of file).handed)
     go true false = refl
     go false u = refl
 
-  by-numbers : afterOpeningFlat file n tables seen sheet zeros ≡ flat.flattened (byNumber zeroList)
-  unfolding afterOpeningFlat
-  by-numbers = refl
+  by_numbers : after_opening_flat file n tables seen sheet zeros ≡ flat.flattened (by_number zero_list)
+  unfolding after_opening_flat
+  by_numbers = refl
 
   module _ (ys : List Edge) where
-    pub other-length-open-sentence : length ys ≢ 512 → outcome 1 tables seen sheet ys ≡ byNumber (asRecords ys)
-    unfolding afterOpening
-    other-length-open-sentence ne =
-        rw (length-asRecords ys, ne_eqb (length ys) 512 ne, and-false (sheetsFit tables seen && eqb (length sheet) sentenceSheetSize)) refl
+    pub other_length_open_sentence : length ys ≢ 512 → outcome 1 tables seen sheet ys ≡ by_number (as_records ys)
+    unfolding after_opening
+    other_length_open_sentence ne =
+        rw (length_as_records ys, ne_eqb (length ys) 512 ne, and_false (sheets_fit tables seen && eqb (length sheet) sentence_sheet_size)) refl
 
-    pub listed-open-sentence : (r k : ℕ) (tables' seen' sheet' numbers : List ℕ) (zs : List Edge) → length ys ≡ 512
-        → (flat.outcome r tables' seen' sheet' numbers ≡ afterOpeningFlat file n tables seen sheet zeros) × (length numbers ≡ length zeros)
-        → k ≡ filledBy r → zs ≡ firstEdges numbers k ++ drop k ys → outcome r tables' seen' sheet' zs ≡ byNumber (asRecords ys)
-    listed-open-sentence r k tables' seen' sheet' numbers zs l e ck full =
-        let x : flat.outcome r tables' seen' sheet' numbers ≡ flat.flattened (byNumber zeroList) = e.0 ∙ by-numbers in
-        let o : Opened = byNumber zeroList in
+    pub listed_open_sentence : (r k : ℕ) (tables' seen' sheet' numbers : List ℕ) (zs : List Edge) → length ys ≡ 512
+        → (flat.outcome r tables' seen' sheet' numbers ≡ after_opening_flat file n tables seen sheet zeros) × (length numbers ≡ length zeros)
+        → k ≡ filled_by r → zs ≡ first_edges numbers k ++ drop k ys → outcome r tables' seen' sheet' zs ≡ by_number (as_records ys)
+    listed_open_sentence r k tables' seen' sheet' numbers zs l e ck full =
+        let x : flat.outcome r tables' seen' sheet' numbers ≡ flat.flattened (by_number zero_list) = e.0 ∙ by_numbers in
+        let o : Opened = by_number zero_list in
         ap (λ (es : List EdgeRecord). record { answer = r; tables = tables'; seen = seen'; sheet = sheet'; edges = es })
-        (filled-list r k o.edges numbers ys zs ck l (ap (λ (y : OpenedFlat). y.edges) x) (e.1 ∙ length-replicate {A = ℕ} 2048 0) full)
-        ∙ ap (λ (y : OpenedFlat). record { answer = y.answer; tables = y.tables; seen = y.seen; sheet = y.sheet; edges = list y.answer (asRecords ys) o.edges }) x
-        ∙ listed_by (asRecords ys) (length-asRecords ys ∙ l)
+        (filled_list r k o.edges numbers ys zs ck l (ap (λ (y : OpenedFlat). y.edges) x) (e.1 ∙ length-replicate {A = ℕ} 2048 0) full)
+        ∙ ap (λ (y : OpenedFlat). record { answer = y.answer; tables = y.tables; seen = y.seen; sheet = y.sheet; edges = list y.answer (as_records ys) o.edges }) x
+        ∙ listed_by (as_records ys) (length_as_records ys ∙ l)

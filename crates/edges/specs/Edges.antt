@@ -3,8 +3,8 @@ use Rattle.std.specs.Prelude.{ℕ, ◌+◌, ◌*◌, List, map, get_or, eqb}
 use Rattle.rules.specs.Lists.{pick, counting}
 use Rattle.edges.specs.declared.Edge.{Edge}
 
-abbrev pub edgeAt : List ℕ → ℕ → Edge
-edgeAt ns k =
+abbrev pub edge_at : List ℕ → ℕ → Edge
+edge_at ns k =
     record {
       child = get_or ns (k * 4) 0;
       label = get_or ns (k * 4 + 1) 0;
@@ -13,9 +13,9 @@ edgeAt ns k =
     }
 
 -- as many as count
-unfoldable pub firstEdges : List ℕ → ℕ → List Edge
-firstEdges ns count = map (edgeAt ns) (counting 0 count)
+unfoldable pub first_edges : List ℕ → ℕ → List Edge
+first_edges ns count = map (edge_at ns) (counting 0 count)
 
 -- how many records an answer fills
-abbrev pub filledBy : ℕ → ℕ
-filledBy answer = pick (eqb answer 1) 0 (pick (eqb answer 2) 0 512)
+abbrev pub filled_by : ℕ → ℕ
+filled_by answer = pick (eqb answer 1) 0 (pick (eqb answer 2) 0 512)

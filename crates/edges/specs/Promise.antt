@@ -8,18 +8,18 @@ use Rattle.writing.specs.Promise.{answer_of}
 use Rattle.edges.specs.declared.Edge.{Edge}
 
 -- a record of code as one of the rules
-abbrev pub asRecord : Edge → EdgeRecord
-asRecord e = record { child = e.child; labelStart = e.label; labelLength = e.label_len; parent = e.parent }
+abbrev pub as_record : Edge → EdgeRecord
+as_record e = record { child = e.child; label_start = e.label; label_length = e.label_len; parent = e.parent }
 
-unfoldable pub asRecords : List Edge → List EdgeRecord
-asRecords es = map asRecord es
+unfoldable pub as_records : List Edge → List EdgeRecord
+as_records es = map as_record es
 
 abbrev pub outcome : ℕ → List ℕ → List ℕ → List ℕ → List Edge → Opened
-outcome r tables seen sheet edges = record { answer = r; tables = tables; seen = seen; sheet = sheet; edges = asRecords edges }
+outcome r tables seen sheet edges = record { answer = r; tables = tables; seen = seen; sheet = sheet; edges = as_records edges }
 
-abbrev pub outcomeAt : ℕ → List ℕ → List Edge → OpenedAt
-outcomeAt r sheet edges = record { answer = r; sheet = sheet; edges = asRecords edges }
+abbrev pub outcome_at : ℕ → List ℕ → List Edge → OpenedAt
+outcome_at r sheet edges = record { answer = r; sheet = sheet; edges = as_records edges }
 
-abbrev pub writtenOutcome : Written → List ℕ → List ℕ → List ℕ → List Edge → List ℕ → WritingOutcome
-writtenOutcome r tables seen sheet edges output =
-    record { answer = answer_of r; tables = tables; seen = seen; sheet = sheet; edges = asRecords edges; output = output }
+abbrev pub written_outcome : Written → List ℕ → List ℕ → List ℕ → List Edge → List ℕ → WritingOutcome
+written_outcome r tables seen sheet edges output =
+    record { answer = answer_of r; tables = tables; seen = seen; sheet = sheet; edges = as_records edges; output = output }

@@ -2,10 +2,10 @@
 mod plain_lists;
 
 ghost use Rattle.std.specs.Prelude.{◌≡◌, ◌<◌, ◌≤◌, ◌++◌, length, drop};
-ghost use Rattle.edges.specs.Edges.{edgeAt, firstEdges, filledBy};
-ghost use Rattle.rules.specs.Opening.{afterOpening, afterOpeningAt};
-ghost use Rattle.rules.specs.Writing.{afterWriting};
-ghost use Rattle.edges.specs.Promise.{asRecords, outcome, outcomeAt, writtenOutcome};
+ghost use Rattle.edges.specs.Edges.{edge_at, first_edges, filled_by};
+ghost use Rattle.rules.specs.Opening.{after_opening, after_opening_at};
+ghost use Rattle.rules.specs.Writing.{after_writing};
+ghost use Rattle.edges.specs.Promise.{as_records, outcome, outcome_at, written_outcome};
 
 use plain_lists::{open_numbers, open_numbers_at, write_numbers};
 use steps::refusals;
@@ -23,7 +23,7 @@ pub struct Edge {
 // The record of the four numbers at a place of the list.
 pub fn edge_at(numbers: &[u32; 2048], k: usize) -> Edge
     requires { k < 512 }
-    ensures { result ≡ edgeAt numbers.now k }
+    ensures { result ≡ edge_at numbers.now k }
 {
     let place = k * 4;
     Edge {
@@ -37,7 +37,7 @@ pub fn edge_at(numbers: &[u32; 2048], k: usize) -> Edge
 // The first records of the list are made of the numbers.
 pub fn fill(edges: &mut [Edge], numbers: &[u32; 2048], count: usize)
     requires { (count ≤ length edges.old) × (count ≤ 512) }
-    ensures { edges.new ≡ firstEdges numbers.now count ++ drop count edges.old }
+    ensures { edges.new ≡ first_edges numbers.now count ++ drop count edges.old }
 {
     let mut k = 0;
     while k < count {
@@ -48,7 +48,7 @@ pub fn fill(edges: &mut [Edge], numbers: &[u32; 2048], count: usize)
 
 // After 1 and 2 the list stays as it was.
 fn records_filled(answer: u32) -> usize
-    ensures { result ≡ filledBy answer }
+    ensures { result ≡ filled_by answer }
 {
     if answer == refusals::WRONG_SIZE {
         return 0;
@@ -68,7 +68,7 @@ pub fn open_sentence(
     sheet: &mut [u32],
     edges: &mut [Edge],
 ) -> u32
-    ensures { outcome result tables.new seen.new sheet.new edges.new ≡ afterOpening file.now number tables.old seen.old sheet.old (asRecords edges.old) }
+    ensures { outcome result tables.new seen.new sheet.new edges.new ≡ after_opening file.now number tables.old seen.old sheet.old (as_records edges.old) }
 {
     if edges.len() != 512 {
         return 1;
@@ -82,7 +82,7 @@ pub fn open_sentence(
 
 // The sentence that begins at a place.
 pub fn open_at(file: &[u8], place: u32, sheet: &mut [u32], edges: &mut [Edge]) -> u32
-    ensures { outcomeAt result sheet.new edges.new ≡ afterOpeningAt file.now place sheet.old (asRecords edges.old) }
+    ensures { outcome_at result sheet.new edges.new ≡ after_opening_at file.now place sheet.old (as_records edges.old) }
 {
     if edges.len() != 512 {
         return 1;
@@ -103,7 +103,7 @@ pub fn write_text(
     sheet: &mut [u32],
     edges: &mut [Edge],
 ) -> Written
-    ensures { writtenOutcome result tables.new seen.new sheet.new edges.new output.new ≡ afterWriting file.now tables.old seen.old sheet.old (asRecords edges.old) output.old }
+    ensures { written_outcome result tables.new seen.new sheet.new edges.new output.new ≡ after_writing file.now tables.old seen.old sheet.old (as_records edges.old) output.old }
 {
     if edges.len() != 512 {
         return Written {

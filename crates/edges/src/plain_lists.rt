@@ -13,13 +13,13 @@ pub fn open_numbers(
     sheet: &mut [u32],
     numbers: &mut [u32; 2048],
 ) -> u32
-    ensures { (flat.outcome result tables.new seen.new sheet.new numbers.new ≡ flat.afterOpeningFlat file.now number tables.old seen.old sheet.old numbers.old) × (length numbers.new ≡ length numbers.old) }
+    ensures { (flat.outcome result tables.new seen.new sheet.new numbers.new ≡ flat.after_opening_flat file.now number tables.old seen.old sheet.old numbers.old) × (length numbers.new ≡ length numbers.old) }
 {
     opening::open_flat(file, number, tables, seen, sheet, numbers)
 }
 
 pub fn open_numbers_at(file: &[u8], place: u32, sheet: &mut [u32], numbers: &mut [u32; 2048]) -> u32
-    ensures { (flat.outcomeAt result sheet.new numbers.new ≡ flat.afterOpeningFlatAt file.now place sheet.old numbers.old) × (length numbers.new ≡ length numbers.old) }
+    ensures { (flat.outcome_at result sheet.new numbers.new ≡ flat.after_opening_flat_at file.now place sheet.old numbers.old) × (length numbers.new ≡ length numbers.old) }
 {
     opening::open_flat_at(file, place, sheet, numbers)
 }
@@ -32,7 +32,7 @@ pub fn write_numbers(
     sheet: &mut [u32],
     numbers: &mut [u32; 2048],
 ) -> Written
-    ensures { (flatWriting.outcome result tables.new seen.new sheet.new numbers.new output.new ≡ flatWriting.afterWritingFlat file.now tables.old seen.old sheet.old numbers.old output.old) × (length numbers.new ≡ length numbers.old) }
+    ensures { (flatWriting.outcome result tables.new seen.new sheet.new numbers.new output.new ≡ flatWriting.after_writing_flat file.now tables.old seen.old sheet.old numbers.old output.old) × (length numbers.new ≡ length numbers.old) }
 {
     writing::write_flat(file, output, tables, seen, sheet, numbers)
 }

@@ -5,26 +5,26 @@ use mathlib.Core.Path.{◌≡◌, sym, ap, ap₂, ◌∙◌}
 use mathlib.Core.Bool.{Bool, true}
 use mathlib.Core.List.{List}
 use Rattle.rules.specs.Lists.{same}
-use Rattle.rules.specs.Explaining.{ExplainingOutcome, afterExplaining}
+use Rattle.rules.specs.Explaining.{ExplainingOutcome, after_explaining}
 use Rattle.rules.specs.LentBuffers.{SheetsSized, WithinLimit}
-use Rattle.rules.proofs.Same.{eq-same}
-use Rattle.rules.proofs.ExplainedExactly.{explaining-call}
-use Rattle.explaining.specs.Promise.{Placed, placed, PartTold, partTold, partOutcome}
+use Rattle.rules.proofs.Same.{eq_same}
+use Rattle.rules.proofs.ExplainedExactly.{explaining_call}
+use Rattle.explaining.specs.Promise.{Placed, placed, PartTold, part_told, part_outcome}
 use Rattle.explained_demands.specs.ExplainedAs.{SameAnswer}
 
 module _ (file list : List ℕ) (place : ℕ) (tag tables seen tables2 seen2 : List ℕ) where
   abbrev o : ExplainingOutcome
-  o = afterExplaining file list place tag tables seen
+  o = after_explaining file list place tag tables seen
 
   abbrev o2 : ExplainingOutcome
-  o2 = afterExplaining file list place tag tables2 seen2
+  o2 = after_explaining file list place tag tables2 seen2
 
-  same-lent : tables ≡ tables2 → seen ≡ seen2 → o ≡ o2
-  same-lent t s = ap₂ (afterExplaining file list place tag) t s
+  same_lent : tables ≡ tables2 → seen ≡ seen2 → o ≡ o2
+  same_lent t s = ap₂ (after_explaining file list place tag) t s
 
-  never-shows : WithinLimit file → WithinLimit list → SheetsSized tables seen → SheetsSized tables2 seen2 → o ≡ o2
-  never-shows w v k l =
-      (explaining-call file list place tag tables seen).told k w v ∙ sym ((explaining-call file list place tag tables2 seen2).told l w v)
+  never_shows : WithinLimit file → WithinLimit list → SheetsSized tables seen → SheetsSized tables2 seen2 → o ≡ o2
+  never_shows w v k l =
+      (explaining_call file list place tag tables seen).told k w v ∙ sym ((explaining_call file list place tag tables2 seen2).told l w v)
 
   -- by place and length
   module _ (left left2 : Placed) (p : left ≡ placed o) (q : left2 ≡ placed o2) where
@@ -44,29 +44,29 @@ module _ (file list : List ℕ) (place : ℕ) (tag tables seen tables2 seen2 : L
           ap (λ (x : Placed). x.seen) z,
         )
 
-    pub placed-only : tables ≡ tables2 → seen ≡ seen2 → SameLeft
-    placed-only t s = same_left (same-lent t s)
+    pub placed_only : tables ≡ tables2 → seen ≡ seen2 → SameLeft
+    placed_only t s = same_left (same_lent t s)
 
-    pub placed-fresh : WithinLimit file → WithinLimit list → SheetsSized tables seen → SheetsSized tables2 seen2 → SameLeft
-    placed-fresh w v k l = same_left (never-shows w v k l)
+    pub placed_fresh : WithinLimit file → WithinLimit list → SheetsSized tables seen → SheetsSized tables2 seen2 → SameLeft
+    placed_fresh w v k l = same_left (never_shows w v k l)
 
   -- as parts: whether they have the same bytes, and what else is left
   module _ (refusal : ℕ) (bytes tables' seen' : List ℕ) (refusal2 : ℕ) (bytes2 tables2' seen2' : List ℕ) (r : Bool) (compared : r ≡ same bytes bytes2)
-      (p : partOutcome refusal bytes tables' seen' ≡ partTold o) (q : partOutcome refusal2 bytes2 tables2' seen2' ≡ partTold o2) where
+      (p : part_outcome refusal bytes tables' seen' ≡ part_told o) (q : part_outcome refusal2 bytes2 tables2' seen2' ≡ part_told o2) where
     abbrev Alike : Type 0
     Alike = (r ≡ true) × (refusal ≡ refusal2) × (tables' ≡ tables2') × (seen' ≡ seen2')
 
     alike : o ≡ o2 → Alike
     alike e =
-        let z : partOutcome refusal bytes tables' seen' ≡ partOutcome refusal2 bytes2 tables2' seen2' = p ∙ ap partTold e ∙ sym q in (
-          compared ∙ eq-same bytes bytes2 (ap (λ (x : PartTold). x.bytes) z),
+        let z : part_outcome refusal bytes tables' seen' ≡ part_outcome refusal2 bytes2 tables2' seen2' = p ∙ ap part_told e ∙ sym q in (
+          compared ∙ eq_same bytes bytes2 (ap (λ (x : PartTold). x.bytes) z),
           ap (λ (x : PartTold). x.refusal) z,
           ap (λ (x : PartTold). x.tables) z,
           ap (λ (x : PartTold). x.seen) z,
         )
 
-    pub part-only : tables ≡ tables2 → seen ≡ seen2 → Alike
-    part-only t s = alike (same-lent t s)
+    pub part_only : tables ≡ tables2 → seen ≡ seen2 → Alike
+    part_only t s = alike (same_lent t s)
 
-    pub part-fresh : WithinLimit file → WithinLimit list → SheetsSized tables seen → SheetsSized tables2 seen2 → Alike
-    part-fresh w v k l = alike (never-shows w v k l)
+    pub part_fresh : WithinLimit file → WithinLimit list → SheetsSized tables seen → SheetsSized tables2 seen2 → Alike
+    part_fresh w v k l = alike (never_shows w v k l)

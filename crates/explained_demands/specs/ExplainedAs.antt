@@ -2,9 +2,9 @@
 -- file, then those of the list, then 26"; "every refusal returns the empty part"; sheets "end as zeros, or unchanged after 1 or 2".
 use Rattle.std.specs.Prelude.{ℕ, ◌≡◌, ◌≢◌, ◌↔◌, List, [], length, take, drop, replicate}
 use Rattle.std.proofs.Math.Option.{none, some}
-use Rattle.rules.specs.Texts.{Text, noText}
+use Rattle.rules.specs.Texts.{Text, no_text}
 use Rattle.rules.specs.Tables.{Row, table}
-use Rattle.rules.specs.Survey.{surveyOf}
+use Rattle.rules.specs.Survey.{survey_of}
 use Rattle.rules.specs.LentBuffers.{SheetsSized, WithinLimit, TooLong}
 use Rattle.rules.specs.ExplainingRules.{TagTablePlace, RowsTell, Unexplained, Accepted}
 use Rattle.explaining.specs.declared.Explained.{Explained}
@@ -35,7 +35,7 @@ Telling = ℕ → List ℕ → Text → Type 0
 
 pub record Refused (refusal : ℕ) (Part : Telling) (n : ℕ) : Type 0 where
   pub number : refusal ≡ n
-  pub empty : Part 0 [] noText
+  pub empty : Part 0 [] no_text
 
 pub record Granted (refusal : ℕ) (Part : Telling) (which : ℕ) (whole : List ℕ) (t : Text) : Type 0 where
   pub number : refusal ≡ 0
@@ -44,25 +44,25 @@ pub record Granted (refusal : ℕ) (Part : Telling) (which : ℕ) (whole : List 
 -- both files are read
 pub record Readable (file list tables seen : List ℕ) : Type 0 where
   pub sized : SheetsSized tables seen
-  pub file-within : WithinLimit file
-  pub list-within : WithinLimit list
+  pub file_within : WithinLimit file
+  pub list_within : WithinLimit list
 
 pub record ExplainedAs (file list : List ℕ) (place : ℕ) (tag tables seen : List ℕ) (refusal : ℕ) (Part : Telling)
     (tables' seen' : List ℕ) : Type 0 where
   pub wrong_size : (SheetsSized tables seen → ⊥) → Refused refusal Part 1 × (tables' ≡ tables) × (seen' ≡ seen)
-  pub file-too-long : SheetsSized tables seen → TooLong file → Refused refusal Part 2 × (tables' ≡ tables) × (seen' ≡ seen)
-  pub list-too-long : SheetsSized tables seen → WithinLimit file → TooLong list
+  pub file_too_long : SheetsSized tables seen → TooLong file → Refused refusal Part 2 × (tables' ≡ tables) × (seen' ≡ seen)
+  pub list_too_long : SheetsSized tables seen → WithinLimit file → TooLong list
       → Refused refusal Part 2 × (tables' ≡ tables) × (seen' ≡ seen)
   pub zeros : Readable file list tables seen → (tables' ≡ replicate 10759 0) × (seen' ≡ replicate 8192 0)
-  pub file-first : Readable file list tables seen → (surveyOf file).refusal ≢ 0 → Refused refusal Part (surveyOf file).refusal
-  pub then-list : Readable file list tables seen → Accepted file → (surveyOf list).refusal ≢ 0
-      → Refused refusal Part (surveyOf list).refusal
+  pub file_first : Readable file list tables seen → (survey_of file).refusal ≢ 0 → Refused refusal Part (survey_of file).refusal
+  pub then_list : Readable file list tables seen → Accepted file → (survey_of list).refusal ≢ 0
+      → Refused refusal Part (survey_of list).refusal
   -- the table decides, not the tag
-  pub by-file : Readable file list tables seen → Accepted file → Accepted list → (n : ℕ) (rs : List Row) (t : Text) → TagTablePlace n place
-      → table n (surveyOf file).tables ≡ some rs → RowsTell tag rs t → Granted refusal Part 1 file t
-  pub by-list : Readable file list tables seen → Accepted file → Accepted list → (n : ℕ) (rs : List Row) (t : Text) → TagTablePlace n place
-      → table n (surveyOf file).tables ≡ none → table n (surveyOf list).tables ≡ some rs
+  pub by_file : Readable file list tables seen → Accepted file → Accepted list → (n : ℕ) (rs : List Row) (t : Text) → TagTablePlace n place
+      → table n (survey_of file).tables ≡ some rs → RowsTell tag rs t → Granted refusal Part 1 file t
+  pub by_list : Readable file list tables seen → Accepted file → Accepted list → (n : ℕ) (rs : List Row) (t : Text) → TagTablePlace n place
+      → table n (survey_of file).tables ≡ none → table n (survey_of list).tables ≡ some rs
       → RowsTell tag rs t → Granted refusal Part 2 list t
   pub exactly : Readable file list tables seen → Accepted file → Accepted list
-      → (refusal ≡ 26) ↔ Unexplained (surveyOf file).tables (surveyOf list).tables place tag
-  pub refused : refusal ≢ 0 → Part 0 [] noText
+      → (refusal ≡ 26) ↔ Unexplained (survey_of file).tables (survey_of list).tables place tag
+  pub refused : refusal ≢ 0 → Part 0 [] no_text

@@ -2,14 +2,14 @@
 ghost use Rattle.std.specs.Prelude.{◌≡◌, true, ◌||◌, ◌+◌, ◌*◌, ◌≤◌, length};
 ghost use Rattle.rules.specs.Lists.{same};
 ghost use Rattle.rules.specs.Tables.{dashes, unknown};
-ghost use Rattle.rules.specs.Numbers.{fileLimit};
-ghost use Rattle.rules.specs.Sheets.{tableCount, rowWidth};
-ghost use Rattle.rules.specs.Survey.{surveyOf, sheetsFit};
-ghost use Rattle.table_sheet.specs.SheetRows.{rows_from, tablesIn};
+ghost use Rattle.rules.specs.Numbers.{file_limit};
+ghost use Rattle.rules.specs.Sheets.{table_count, row_width};
+ghost use Rattle.rules.specs.Survey.{survey_of, sheets_fit};
+ghost use Rattle.table_sheet.specs.SheetRows.{rows_from, tables_in};
 ghost use Rattle.table_sheet.specs.Standing.{Inside};
-ghost use Rattle.rules.specs.Explaining.{described, description, refusedBy, part_of, explained, afterExplaining};
+ghost use Rattle.rules.specs.Explaining.{described, description, refused_by, part_of, explained, after_explaining};
 ghost use Rattle.rules.specs.ExplainingRules.{TagsApart};
-ghost use Rattle.explaining.specs.Promise.{asExplained, placed, placeOutcome, partTold, partOutcome, tagCount, Telling};
+ghost use Rattle.explaining.specs.Promise.{as_explained, placed, place_outcome, part_told, part_outcome, tag_count, Telling};
 
 use steps::refusals;
 use table_sheet::Found;
@@ -34,7 +34,7 @@ pub struct Explained {
 }
 
 fn refused(refusal: u32) -> Explained
-    ensures { result ≡ asExplained (refusedBy refusal) }
+    ensures { result ≡ as_explained (refused_by refusal) }
 {
     Explained {
         refusal,
@@ -67,8 +67,8 @@ fn is_reserved(tag: &[u8]) -> bool
 
 // The description of a tag by the rows from a place on.
 fn describe(file: &[u8], sheet: &[u32], place: usize, rows: usize, tag: &[u8], of: u32) -> Explained
-    requires { (place + rowWidth * rows ≤ length sheet.now) × Inside file.now sheet.now place rows × TagsApart (rows_from file.now sheet.now place rows) }
-    ensures { result ≡ asExplained (part_of of (described tag.now (rows_from file.now sheet.now place rows))) }
+    requires { (place + row_width * rows ≤ length sheet.now) × Inside file.now sheet.now place rows × TagsApart (rows_from file.now sheet.now place rows) }
+    ensures { result ≡ as_explained (part_of of (described tag.now (rows_from file.now sheet.now place rows))) }
 {
     let found = table_sheet::seek_tag(file, sheet, place, rows, tag);
     if let Found::Row(row) = found {
@@ -83,8 +83,8 @@ fn describe(file: &[u8], sheet: &[u32], place: usize, rows: usize, tag: &[u8], o
 
 // How many rows and one a tag table has, by its place in document 01's order; 0 for any other, and if it isn't there.
 fn tag_count(sheet: &[u32], table: u32) -> usize
-    requires { tableCount ≤ length sheet.now }
-    ensures { result ≡ tagCount sheet.now table }
+    requires { table_count ≤ length sheet.now }
+    ensures { result ≡ tag_count sheet.now table }
 {
     if table < FIRST_TAG_TABLE {
         return 0;
@@ -98,7 +98,7 @@ fn tag_count(sheet: &[u32], table: u32) -> usize
 // What the tables of one file tell, with the file's own number.
 fn look_up(file: &[u8], sheet: &[u32], table: u32, tag: &[u8], of: u32) -> Explained
     requires { Telling file.now sheet.now }
-    ensures { result ≡ asExplained (part_of of (description (tablesIn file.now sheet.now) table tag.now)) }
+    ensures { result ≡ as_explained (part_of of (description (tables_in file.now sheet.now) table tag.now)) }
 {
     let count = tag_count(sheet, table);
     if count == 0 {
@@ -117,8 +117,8 @@ fn explain_read(
     sheet: &mut [u32],
     seen: &mut [u8],
 ) -> Explained
-    requires { (sheetsFit sheet.old seen.old ≡ true) × (length file.now ≤ fileLimit) × (length list.now ≤ fileLimit) }
-    ensures { result ≡ asExplained (explained (surveyOf file.now) (surveyOf list.now) table tag.now) }
+    requires { (sheets_fit sheet.old seen.old ≡ true) × (length file.now ≤ file_limit) × (length list.now ≤ file_limit) }
+    ensures { result ≡ as_explained (explained (survey_of file.now) (survey_of list.now) table tag.now) }
 {
     let first = survey::survey(file, sheet, seen);
     if first.refusal != 0 {
@@ -145,7 +145,7 @@ pub fn explain_place(
     sheet: &mut [u32],
     seen: &mut [u8],
 ) -> Explained
-    ensures { placeOutcome result sheet.new seen.new ≡ placed (afterExplaining file.now list.now table tag.now sheet.old seen.old) }
+    ensures { place_outcome result sheet.new seen.new ≡ placed (after_explaining file.now list.now table tag.now sheet.old seen.old) }
 {
     if !survey::sheets_fit(sheet, seen) {
         return refused(refusals::WRONG_SIZE);
@@ -172,7 +172,7 @@ pub fn explain<'a>(
     sheet: &mut [u32],
     seen: &mut [u8],
 ) -> &'a [u8]
-    ensures { partOutcome refusal.new result.now sheet.new seen.new ≡ partTold (afterExplaining file.now list.now table tag.now sheet.old seen.old) }
+    ensures { part_outcome refusal.new result.now sheet.new seen.new ≡ part_told (after_explaining file.now list.now table tag.now sheet.old seen.old) }
 {
     let told = explain_place(file, list, table, tag, sheet, seen);
     *refusal = told.refusal;

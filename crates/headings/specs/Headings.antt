@@ -5,12 +5,12 @@ use Rattle.std.proofs.Math.Option.{Option, none, some}
 use Rattle.rules.specs.Lists.{empty}
 use Rattle.rules.specs.Texts.{Text, trim}
 use Rattle.rules.specs.Columns.{Column, columns, column, written, fields}
-use Rattle.rules.specs.Numbers.{sentenceNumber, originId, date, number, signedId}
+use Rattle.rules.specs.Numbers.{sentence_number, origin_id, date, number, signed_id}
 use Rattle.rules.specs.Rules.{Rule, rule}
 use Rattle.rules.specs.Tables.{Tables, origins, editors, present}
-use Rattle.rules.specs.Sentences.{knownEditor, knownOrigin}
+use Rattle.rules.specs.Sentences.{known_editor, known_origin}
 use Rattle.columns.specs.Listing.{span_of}
-use Rattle.steps.specs.Faults.{faultIn, unlessFault}
+use Rattle.steps.specs.Faults.{fault_in, unless_fault}
 use Rattle.steps.specs.declared.HeadingSaid.{HeadingSaid}
 use Rattle.steps.specs.declared.Step.{Step}
 use Rattle.steps.specs.declared.Step.TheVariants.{SentenceBegins}
@@ -22,21 +22,21 @@ use Rattle.headings.specs.declared.bos.FourNumbers.TheVariants.{Good, Bad}
 abbrev pub whole : List Column → Bool
 whole cs = ltb 4 (length cs) && empty (fields (drop 5 cs))
 
-abbrev pub fourOf : Option ℕ → Option ℕ → Option ℕ → Option ℕ → FourNumbers
-fourOf none e d o = Bad 1
-fourOf (some n) none d o = Bad 2
-fourOf (some n) (some e) none o = Bad 3
-fourOf (some n) (some e) (some d) none = Bad 4
-fourOf (some n) (some e) (some d) (some o) = Good (record { number = n; editor1 = e; date = d; origin = o })
+abbrev pub four_of : Option ℕ → Option ℕ → Option ℕ → Option ℕ → FourNumbers
+four_of none e d o = Bad 1
+four_of (some n) none d o = Bad 2
+four_of (some n) (some e) none o = Bad 3
+four_of (some n) (some e) (some d) none = Bad 4
+four_of (some n) (some e) (some d) (some o) = Good (record { number = n; editor1 = e; date = d; origin = o })
 
-unfoldable pub numbersOn : List Column → FourNumbers
-numbersOn cs =
-    fourOf (number sentenceNumber (written cs 1).bytes) (signedId (written cs 2).bytes) (number date (written cs 3).bytes)
-    (number originId (written cs 4).bytes)
+unfoldable pub numbers_on : List Column → FourNumbers
+numbers_on cs =
+    four_of (number sentence_number (written cs 1).bytes) (signed_id (written cs 2).bytes) (number date (written cs 3).bytes)
+    (number origin_id (written cs 4).bytes)
 
 -- the step of a line whose columns and numbers are good
-abbrev pub saidHeading : List Column → HeadingNumbers → Step
-saidHeading cs x =
+abbrev pub said_heading : List Column → HeadingNumbers → Step
+said_heading cs x =
     SentenceBegins
     (record {
       number = x.number;
@@ -47,15 +47,15 @@ saidHeading cs x =
     })
 
 -- what a heading cites
-abbrev pub citingRules : Tables → (ℕ → Bool) → Text → HeadingSaid → List Rule
-citingRules ts used line h =
+abbrev pub citing_rules : Tables → (ℕ → Bool) → Text → HeadingSaid → List Rule
+citing_rules ts used line h =
     rule 13 line (present origins ts && present editors ts)
     ∷ rule 14 line (not (used h.number))
-    ∷ rule 15 (written (columns line) 2) (knownEditor ts h.editor1)
-    ∷ rule 15 (written (columns line) 4) (knownOrigin ts h.origin)
+    ∷ rule 15 (written (columns line) 2) (known_editor ts h.editor1)
+    ∷ rule 15 (written (columns line) 4) (known_origin ts h.origin)
     ∷ []
 
 -- the step of a line that says this heading
-unfoldable pub judgedHeading : Tables → (ℕ → Bool) → Text → HeadingSaid → Step
-unfolding faultIn
-judgedHeading ts used line h = unlessFault (faultIn (citingRules ts used line h)) (SentenceBegins h)
+unfoldable pub judged_heading : Tables → (ℕ → Bool) → Text → HeadingSaid → Step
+unfolding fault_in
+judged_heading ts used line h = unless_fault (fault_in (citing_rules ts used line h)) (SentenceBegins h)

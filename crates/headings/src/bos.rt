@@ -1,13 +1,13 @@
 // #BOS: its columns, its four numbers, and what it cites.
 ghost use Rattle.std.specs.Prelude.{◌≡◌, List, ℕ, ◌≤◌, ◌<◌, length};
-ghost use Rattle.rules.specs.Bytes.{classTable};
-ghost use Rattle.rules.specs.Numbers.{sentenceNumber, originId};
-ghost use Rattle.rules.specs.Sheets.{seenSetSize};
-ghost use Rattle.columns.specs.Listing.{line_of, columnsOf, Listed};
+ghost use Rattle.rules.specs.Bytes.{class_table};
+ghost use Rattle.rules.specs.Numbers.{sentence_number, origin_id};
+ghost use Rattle.rules.specs.Sheets.{seen_set_size};
+ghost use Rattle.columns.specs.Listing.{line_of, columns_of, Listed};
 ghost use Rattle.seen.specs.Bits.{bit_at};
-ghost use Rattle.table_sheet.specs.SheetRows.{tablesIn};
+ghost use Rattle.table_sheet.specs.SheetRows.{tables_in};
 ghost use Rattle.citations.specs.Tabled.{Counted};
-ghost use Rattle.headings.specs.Headings.{whole, numbersOn, saidHeading, judgedHeading};
+ghost use Rattle.headings.specs.Headings.{whole, numbers_on, said_heading, judged_heading};
 
 use columns::listing::{Line, Places, column_text, text_from};
 use numbers::{Date, EditorId, Number, OriginId, SentenceNumber};
@@ -30,7 +30,7 @@ const COMMENT: usize = 6;
 // Five columns, and behind them nothing or a comment.
 pub fn has_columns(file: &[u8], line: Line, places: &Places) -> bool
     requires { Listed file.now line places.now }
-    ensures { result ≡ whole (columnsOf file.now line) }
+    ensures { result ≡ whole (columns_of file.now line) }
 {
     if line.columns < PERCENTS {
         return false;
@@ -57,8 +57,8 @@ pub enum FourNumbers {
 }
 
 pub fn read_numbers(file: &[u8], line: Line, places: &Places, classes: &[u8; 256]) -> FourNumbers
-    requires { (classes.now ≡ classTable) × Listed file.now line places.now × (4 < line.columns) }
-    ensures { result ≡ numbersOn (columnsOf file.now line) }
+    requires { (classes.now ≡ class_table) × Listed file.now line places.now × (4 < line.columns) }
+    ensures { result ≡ numbers_on (columns_of file.now line) }
 {
     let read = SentenceNumber::read(column_text(file, line, places, NUMBER), classes);
     let Number::Good(number) = read else {
@@ -87,7 +87,7 @@ pub fn read_numbers(file: &[u8], line: Line, places: &Places, classes: &[u8; 256
 // What a heading says whose columns and numbers are good.
 pub fn say_heading(line: Line, places: &Places, four: HeadingNumbers) -> Step
     requires { (file : List ℕ) × Listed file line places.now }
-    ensures { (file : List ℕ) → Listed file line places.now → result ≡ saidHeading (columnsOf file line) four }
+    ensures { (file : List ℕ) → Listed file line places.now → result ≡ said_heading (columns_of file line) four }
 {
     let comment = text_from(line, places, COMMENT);
     Step::SentenceBegins(HeadingSaid {
@@ -107,8 +107,8 @@ pub fn judge_cited(
     seen: &[u8],
     said: HeadingSaid,
 ) -> Step
-    requires { Counted sheet.now × (length seen.now ≡ seenSetSize) × (said.number ≤ sentenceNumber.highest) × (said.origin ≤ originId.highest) × (4 < line.columns) × ((file : List ℕ) × Listed file line places.now) }
-    ensures { (file : List ℕ) → Listed file line places.now → result ≡ judgedHeading (tablesIn file sheet.now) (bit_at seen.now) (line_of file line) said }
+    requires { Counted sheet.now × (length seen.now ≡ seen_set_size) × (said.number ≤ sentence_number.highest) × (said.origin ≤ origin_id.highest) × (4 < line.columns) × ((file : List ℕ) × Listed file line places.now) }
+    ensures { (file : List ℕ) → Listed file line places.now → result ≡ judged_heading (tables_in file sheet.now) (bit_at seen.now) (line_of file line) said }
 {
     if !citations::is_present(sheet, table_sheet::ORIGINS) {
         return refused(refusals::TABLE_MISSING, line.start);

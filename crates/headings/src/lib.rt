@@ -2,14 +2,14 @@
 mod bos;
 
 ghost use Rattle.std.specs.Prelude.{◌≡◌, length};
-ghost use Rattle.rules.specs.Bytes.{classTable};
-ghost use Rattle.rules.specs.Lines.{takenAs, sentenceBegins, sentenceEnds};
+ghost use Rattle.rules.specs.Bytes.{class_table};
+ghost use Rattle.rules.specs.Lines.{taken_as, sentence_begins, sentence_ends};
 ghost use Rattle.rules.specs.Rules.{checked};
-ghost use Rattle.rules.specs.Sentences.{SoFar, headingWritten, headingIn, headingOf, end_of};
-ghost use Rattle.rules.specs.Sheets.{seenSetSize};
+ghost use Rattle.rules.specs.Sentences.{SoFar, heading_written, heading_in, heading_of, end_of};
+ghost use Rattle.rules.specs.Sheets.{seen_set_size};
 ghost use Rattle.columns.specs.Listing.{line_of, Listed};
 ghost use Rattle.seen.specs.Bits.{bit_at};
-ghost use Rattle.table_sheet.specs.SheetRows.{tablesIn};
+ghost use Rattle.table_sheet.specs.SheetRows.{tables_in};
 ghost use Rattle.citations.specs.Tabled.{Counted};
 ghost use Rattle.steps.specs.Steps.{step_of};
 
@@ -20,8 +20,8 @@ use steps::{Step, refusals, refused};
 
 // #BOS number editor date origin, and a comment. What it cites isn't asked.
 pub fn heading_alone(file: &[u8], line: Line, places: &Places, classes: &[u8; 256]) -> Step
-    requires { (classes.now ≡ classTable) × Listed file.now line places.now }
-    ensures { result ≡ step_of (takenAs sentenceBegins (checked (headingWritten (line_of file.now line)) (headingIn (line_of file.now line)))) }
+    requires { (classes.now ≡ class_table) × Listed file.now line places.now }
+    ensures { result ≡ step_of (taken_as sentence_begins (checked (heading_written (line_of file.now line)) (heading_in (line_of file.now line)))) }
 {
     if !bos::has_columns(file, line, places) {
         return refused(refusals::WRONG_COLUMNS, line.start);
@@ -42,8 +42,8 @@ pub fn heading_line(
     seen: &[u8],
     classes: &[u8; 256],
 ) -> Step
-    requires { (classes.now ≡ classTable) × Listed file.now line places.now × Counted sheet.now × (length seen.now ≡ seenSetSize) }
-    ensures { result ≡ step_of (takenAs sentenceBegins (headingOf (tablesIn file.now sheet.now) (bit_at seen.now) (line_of file.now line))) }
+    requires { (classes.now ≡ class_table) × Listed file.now line places.now × Counted sheet.now × (length seen.now ≡ seen_set_size) }
+    ensures { result ≡ step_of (taken_as sentence_begins (heading_of (tables_in file.now sheet.now) (bit_at seen.now) (line_of file.now line))) }
 {
     let alone = heading_alone(file, line, places, classes);
     let Step::SentenceBegins(said) = alone else {
@@ -64,8 +64,8 @@ pub fn end_line(
     no_absent: bool,
     classes: &[u8; 256],
 ) -> Step
-    requires { (classes.now ≡ classTable) × Listed file.now line places.now }
-    ensures { (s : SoFar) → s.number ≡ number → s.no-gap ≡ no_gap → s.no-absent ≡ no_absent → result ≡ step_of (takenAs (λ n. sentenceEnds) (end_of s (line_of file.now line))) }
+    requires { (classes.now ≡ class_table) × Listed file.now line places.now }
+    ensures { (s : SoFar) → s.number ≡ number → s.no-gap ≡ no_gap → s.no_absent ≡ no_absent → result ≡ step_of (taken_as (λ n. sentence_ends) (end_of s (line_of file.now line))) }
 {
     if line.columns != END_COLUMNS {
         return refused(refusals::WRONG_COLUMNS, line.start);

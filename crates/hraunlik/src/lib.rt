@@ -1,12 +1,12 @@
 // The library for programs in other languages. A slice is lent as two arguments, its place and its length.
 ghost use Rattle.std.specs.Prelude.{◌≡◌};
-ghost use Rattle.rules.specs.Survey.{afterSurvey};
-ghost use Rattle.rules.specs.Index.{afterIndexing};
+ghost use Rattle.rules.specs.Survey.{after_survey};
+ghost use Rattle.rules.specs.Index.{after_indexing};
 ghost use Rattle.opening.specs.Promise as flat;
-ghost use Rattle.rules.specs.Explaining.{afterExplaining};
-ghost use Rattle.writing.specs.Promise.{afterWritingFlat};
+ghost use Rattle.rules.specs.Explaining.{after_explaining};
+ghost use Rattle.writing.specs.Promise.{after_writing_flat};
 ghost use Rattle.explaining.specs.Promise.{placed};
-ghost use Rattle.hraunlik.specs.Promise.{outcome, indexed, writtenTold, explainedTold};
+ghost use Rattle.hraunlik.specs.Promise.{outcome, indexed, written_told, explained_told};
 
 // Answers with the refusal, 0 if the file is accepted; the other three numbers go where the caller wants them.
 #[unsafe(no_mangle)]
@@ -18,7 +18,7 @@ pub extern "C" fn hraunlik_survey(
     sentences: &mut u32,
     sound_end: &mut u32,
 ) -> u32
-    ensures { outcome result place.new sentences.new sound_end.new tables.new seen.new ≡ afterSurvey file.now tables.old seen.old }
+    ensures { outcome result place.new sentences.new sound_end.new tables.new seen.new ≡ after_survey file.now tables.old seen.old }
 {
     let answer = survey::survey(file, tables, seen);
     *place = answer.place;
@@ -38,7 +38,7 @@ pub extern "C" fn hraunlik_index(
     sentences: &mut u32,
     sound_end: &mut u32,
 ) -> u32
-    ensures { indexed result place.new sentences.new sound_end.new tables.new seen.new places.new ≡ afterIndexing file.now tables.old seen.old places.old }
+    ensures { indexed result place.new sentences.new sound_end.new tables.new seen.new places.new ≡ after_indexing file.now tables.old seen.old places.old }
 {
     let told = survey::index(file, tables, seen, places);
     *place = told.place;
@@ -57,7 +57,7 @@ pub extern "C" fn hraunlik_open(
     sheet: &mut [u32],
     edges: &mut [u32],
 ) -> u32
-    ensures { flat.outcome result tables.new seen.new sheet.new edges.new ≡ flat.afterOpeningFlat file.now number tables.old seen.old sheet.old edges.old }
+    ensures { flat.outcome result tables.new seen.new sheet.new edges.new ≡ flat.after_opening_flat file.now number tables.old seen.old sheet.old edges.old }
 {
     opening::open_flat(file, number, tables, seen, sheet, edges)
 }
@@ -69,7 +69,7 @@ pub extern "C" fn hraunlik_open_at(
     sheet: &mut [u32],
     edges: &mut [u32],
 ) -> u32
-    ensures { flat.outcomeAt result sheet.new edges.new ≡ flat.afterOpeningFlatAt file.now place sheet.old edges.old }
+    ensures { flat.outcome_at result sheet.new edges.new ≡ flat.after_opening_flat_at file.now place sheet.old edges.old }
 {
     opening::open_flat_at(file, place, sheet, edges)
 }
@@ -86,7 +86,7 @@ pub extern "C" fn hraunlik_write(
     place: &mut u32,
     length: &mut u32,
 ) -> u32
-    ensures { writtenTold result place.new length.new tables.new seen.new sheet.new edges.new output.new ≡ afterWritingFlat file.now tables.old seen.old sheet.old edges.old output.old }
+    ensures { written_told result place.new length.new tables.new seen.new sheet.new edges.new output.new ≡ after_writing_flat file.now tables.old seen.old sheet.old edges.old output.old }
 {
     let told = writing::write_flat(file, output, tables, seen, sheet, edges);
     *place = told.place;
@@ -108,7 +108,7 @@ pub extern "C" fn hraunlik_explain(
     start: &mut u32,
     length: &mut u32,
 ) -> u32
-    ensures { explainedTold result of.new start.new length.new tables.new seen.new ≡ placed (afterExplaining file.now list.now table tag.now tables.old seen.old) }
+    ensures { explained_told result of.new start.new length.new tables.new seen.new ≡ placed (after_explaining file.now list.now table tag.now tables.old seen.old) }
 {
     let told = explaining::explain_place(file, list, table, tag, tables, seen);
     *of = told.of;

@@ -1,13 +1,13 @@
 // Demand 1, of two surveys and of the index: each the promise of a function that calls them and is proved from their contracts
 // and those of openings alone. Nothing is required of what is lent.
 ghost use Rattle.std.specs.Prelude.{◌≡◌, get_or};
-ghost use Rattle.rules.specs.Index.{afterIndexing};
+ghost use Rattle.rules.specs.Index.{after_indexing};
 ghost use Rattle.rules.specs.LentBuffers.{WithinLimit};
 ghost use Rattle.rules.specs.IndexRules.{IndexSized};
 ghost use Rattle.demands.specs.Surveying.{surveying, Readable, SameOutcome};
-ghost use Rattle.opened_demands.specs.Calls.{FlatSized, AllFlatSized, left, leftThere};
+ghost use Rattle.opened_demands.specs.Calls.{FlatSized, AllFlatSized, left, left_there};
 ghost use Rattle.opened_demands.specs.OpenedRules.{OpenedByNumber};
-ghost use Rattle.indexed_demands.specs.Entries.{indexLeft, OpenedAtEntry, SameThere};
+ghost use Rattle.indexed_demands.specs.Entries.{index_left, OpenedAtEntry, SameThere};
 
 use survey::Surveyed;
 
@@ -49,12 +49,12 @@ pub fn indexed_twice(
     places2: &mut [u32],
 ) -> Two
     ensures only { tables.old ≡ tables2.old → seen.old ≡ seen2.old → places.old ≡ places2.old
-        → indexLeft result.first tables.new seen.new places.new
-        ≡ indexLeft result.second tables2.new seen2.new places2.new }
+        → index_left result.first tables.new seen.new places.new
+        ≡ index_left result.second tables2.new seen2.new places2.new }
     ensures fresh { WithinLimit file.now → IndexSized tables.old seen.old places.old
         → IndexSized tables2.old seen2.old places2.old
-        → indexLeft result.first tables.new seen.new places.new
-        ≡ indexLeft result.second tables2.new seen2.new places2.new }
+        → index_left result.first tables.new seen.new places.new
+        ≡ index_left result.second tables2.new seen2.new places2.new }
 {
     let first = survey::index(file, tables, seen, places);
     let second = survey::index(file, tables2, seen2, places2);
@@ -72,7 +72,7 @@ fn entry_of(places: &[u32], number: u32) -> u32
 }
 
 fn open_entry(file: &[u8], entry: u32, sheet: &mut [u32], edges: &mut [u32]) -> u32
-    ensures { OpenedAtEntry file.now entry sheet.old edges.old (leftThere result sheet.new edges.new) }
+    ensures { OpenedAtEntry file.now entry sheet.old edges.old (left_there result sheet.new edges.new) }
 {
     if entry == 0 {
         return 24;
@@ -105,15 +105,15 @@ pub fn by_index(
 ) -> There
     ensures same { WithinLimit file.now → IndexSized tables.old seen.old places.old
         → AllFlatSized tables2.old seen2.old sheet.old edges.old → FlatSized sheet2.old edges2.old
-        → SameThere result.entry (leftThere result.by_number sheet.new edges.new)
-        (leftThere result.at_entry sheet2.new edges2.new) }
-    ensures index { indexLeft result.told tables.new seen.new places.new
-        ≡ afterIndexing file.now tables.old seen.old places.old }
+        → SameThere result.entry (left_there result.by_number sheet.new edges.new)
+        (left_there result.at_entry sheet2.new edges2.new) }
+    ensures index { index_left result.told tables.new seen.new places.new
+        ≡ after_indexing file.now tables.old seen.old places.old }
     ensures entry { result.entry ≡ get_or places.new number 0 }
     ensures number { OpenedByNumber file.now number tables2.old seen2.old sheet.old edges.old
         (left result.by_number tables2.new seen2.new sheet.new edges.new) }
     ensures there { OpenedAtEntry file.now result.entry sheet2.old edges2.old
-        (leftThere result.at_entry sheet2.new edges2.new) }
+        (left_there result.at_entry sheet2.new edges2.new) }
 {
     let told = survey::index(file, tables, seen, places);
     let entry = entry_of(places, number);

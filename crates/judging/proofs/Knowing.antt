@@ -7,24 +7,24 @@ use mathlib.Core.Option.{none}
 use mathlib.Core.List.{List, ◌++◌}
 use lib.ListN.{length, get_or}
 use Rattle.rules.specs.Lists.{every, member}
-use Rattle.rules.specs.Numbers.{wordLimit, edgeLimit, sentenceNumber}
+use Rattle.rules.specs.Numbers.{word_limit, edge_limit, sentence_number}
 use Rattle.rules.specs.Tables.{Tables, Row, table}
-use Rattle.rules.specs.Sentences.{Sentence, listed, edgesOf}
-use Rattle.rules.specs.Sheets.{tableCount, tableSheet}
-use Rattle.rules.specs.Phases.{Phase, start, top, in_table, inSentence, behindSentence, tablesAt}
+use Rattle.rules.specs.Sentences.{Sentence, listed, edges_of}
+use Rattle.rules.specs.Sheets.{table_count, table_sheet}
+use Rattle.rules.specs.Phases.{Phase, start, top, in_table, in_sentence, behind_sentence, tables_at}
 use Rattle.rules.proofs.NoGap.{NewNumbers}
 use Rattle.rules.proofs.NoAbsent.{climbing}
-use Rattle.table_sheet.specs.OpenSheets.{openSheet}
+use Rattle.table_sheet.specs.OpenSheets.{open_sheet}
 use Rattle.table_sheet.specs.Standing.{RowsHaveRoom, TablesHaveRoom, RowsStand, TablesStand}
 use Rattle.nodes.specs.NodeLines.{marked}
 
 -- rows of a table that is being read stand in the sheet already, its count is still 0
-abbrev pub sheetOf : Phase → List ℕ
-sheetOf start = tableSheet (tablesAt start)
-sheetOf (top p) = tableSheet p.tables
-sheetOf (in_table p n rs) = openSheet p.tables n rs
-sheetOf (inSentence p s) = tableSheet p.tables
-sheetOf (behindSentence p) = tableSheet p.tables
+abbrev pub sheet_of : Phase → List ℕ
+sheet_of start = table_sheet (tables_at start)
+sheet_of (top p) = table_sheet p.tables
+sheet_of (in_table p n rs) = open_sheet p.tables n rs
+sheet_of (in_sentence p s) = table_sheet p.tables
+sheet_of (behind_sentence p) = table_sheet p.tables
 
 -- ---- what is known
 
@@ -34,7 +34,7 @@ pub record TablesKept (file : List ℕ) (ts : Tables) : Type 0 where
 
 pub record RowsKept (file : List ℕ) (ts : Tables) (n : ℕ) (rs : List Row) : Type 0 where
   pub tables : TablesKept file ts
-  pub place : n < tableCount
+  pub place : n < table_count
   pub absent : table n ts ≡ none
   pub few : RowsHaveRoom rs
   pub stand : RowsStand file rs
@@ -42,10 +42,10 @@ pub record RowsKept (file : List ℕ) (ts : Tables) (n : ℕ) (rs : List Row) : 
 -- ns are the numbers of the sentences handed out
 pub record SentenceKept (file ns : List ℕ) (ts : Tables) (s : Sentence) : Type 0 where
   pub tables : TablesKept file ts
-  pub number : s.heading.number ≤ sentenceNumber.highest
+  pub number : s.heading.number ≤ sentence_number.highest
   pub unused : member s.heading.number ns ≡ false
-  pub words : length s.words ≤ wordLimit
-  pub edges : edgesOf s ≤ edgeLimit
+  pub words : length s.words ≤ word_limit
+  pub edges : edges_of s ≤ edge_limit
   pub numbered : NewNumbers s.phrases
   pub climb : every climbing (s.words ++ s.phrases) ≡ true
 
@@ -53,8 +53,8 @@ abbrev pub Known : List ℕ → List ℕ → Phase → Type 0
 Known file ns start = Unit {0}
 Known file ns (top p) = TablesKept file p.tables
 Known file ns (in_table p n rs) = RowsKept file p.tables n rs
-Known file ns (inSentence p s) = SentenceKept file ns p.tables s
-Known file ns (behindSentence p) = TablesKept file p.tables
+Known file ns (in_sentence p s) = SentenceKept file ns p.tables s
+Known file ns (behind_sentence p) = TablesKept file p.tables
 
 -- no mark is larger than this
 abbrev pub Stamped : List ℕ → ℕ → Type 0
@@ -70,5 +70,5 @@ abbrev pub Marks : List ℕ → ℕ → Phase → Type 0
 Marks marks count start = Stamped marks count
 Marks marks count (top p) = Stamped marks count
 Marks marks count (in_table p n rs) = Stamped marks count
-Marks marks count (inSentence p s) = Telling marks count s
-Marks marks count (behindSentence p) = Stamped marks count
+Marks marks count (in_sentence p s) = Telling marks count s
+Marks marks count (behind_sentence p) = Stamped marks count

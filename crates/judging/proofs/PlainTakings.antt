@@ -11,42 +11,42 @@ use lib.Dec.{ltb}
 use lib.ListN.{length, get_or, drop}
 use Rattle.rules.specs.Lists.{pick, bytes, same}
 use Rattle.rules.specs.Bytes.{percents, ignored}
-use Rattle.rules.specs.Texts.{Text, reads, behindHash}
+use Rattle.rules.specs.Texts.{Text, reads, behind_hash}
 use Rattle.rules.specs.Columns.{Column, written}
-use Rattle.rules.specs.Numbers.{phraseNumber}
+use Rattle.rules.specs.Numbers.{phrase_number}
 use Rattle.rules.specs.Rules.{Verdict, granted}
 use Rattle.rules.specs.Tables.{Tables}
 use Rattle.rules.specs.Sentences.{SoFar}
-use Rattle.rules.specs.Nodes.{word_of, phraseOf}
-use Rattle.rules.specs.Keywords.{firstColumn, hashAndDigits}
-use Rattle.rules.specs.Lines.{Taking, ignoredLine, takenAs, word_line, phraseLine, amongNodes}
+use Rattle.rules.specs.Nodes.{word_of, phrase_of}
+use Rattle.rules.specs.Keywords.{first_column, hash_and_digits}
+use Rattle.rules.specs.Lines.{Taking, ignored_line, taken_as, word_line, phrase_line, among_nodes}
 use Rattle.rules.proofs.LineKinds.{number_digits}
-use Rattle.rules.proofs.Same.{same-eq}
-use Rattle.columns.specs.Listing.{line_of, columnsOf, Listed}
+use Rattle.rules.proofs.Same.{same_eq}
+use Rattle.columns.specs.Listing.{line_of, columns_of, Listed}
 use Rattle.columns.specs.declared.listing.Line.{Line}
-use Rattle.columns.proofs.FirstBytes.{first-here, ignored-short, ignored-first}
+use Rattle.columns.proofs.FirstBytes.{first_here, ignored_short, ignored_first}
 use Rattle.columns.proofs.ListedColumns as listed
-use Rattle.table_sheet.specs.SheetRows.{tablesIn}
+use Rattle.table_sheet.specs.SheetRows.{tables_in}
 use Rattle.steps.specs.Steps.{step_of}
-use Rattle.nodes.specs.NodeLines.{phraseIn, marked}
-use Rattle.nodes.proofs.PlainColumns.{other-first, some_bytes, first_byte, not-percents}
-use Rattle.judging.specs.States.{tallyIn}
-use Rattle.judging.specs.Judging.{soFarBy, lineBy, judgedBy}
+use Rattle.nodes.specs.NodeLines.{phrase_in, marked}
+use Rattle.nodes.proofs.PlainColumns.{other_first, some_bytes, first_byte_lem, not_percents}
+use Rattle.judging.specs.States.{tally_in}
+use Rattle.judging.specs.Judging.{so_far_by, line_by, judged_by}
 use Rattle.judging.specs.PlainLines.{PlainBy}
-use Rattle.judging.specs.PlainStarts.{StartsPlain, firstByte, sentenceLine}
+use Rattle.judging.specs.PlainStarts.{StartsPlain, first_byte, sentence_line}
 use Rattle.judging.specs.declared.plain.Plain.{Plain}
 use Rattle.judging.specs.declared.state.Tally.{Tally}
 use Rattle.judging.specs.declared.state.Phase.{Phase}
 use Rattle.judging.specs.declared.state.Phase.TheVariants.{InSentence}
 use Rattle.judging.specs.declared.state.State.{State}
-use Rattle.judging.proofs.FirstColumns.{row_other, word_row, hash-other, hash-digits, nodes-word, nodes-phrase}
+use Rattle.judging.proofs.FirstColumns.{row_other, word_row, hash_other, hash_digits, nodes_word, nodes_phrase}
 
 -- # and digits isn't #EOS
-digits-no-end : (xs : List ℕ) → hashAndDigits xs ≡ true → same xs (bytes "#EOS") ≡ false
-digits-no-end xs e = by (same xs (bytes "#EOS")) refl
+digits_no_end : (xs : List ℕ) → hash_and_digits xs ≡ true → same xs (bytes "#EOS") ≡ false
+digits_no_end xs e = by (same xs (bytes "#EOS")) refl
   where
     by : (t : Bool) → same xs (bytes "#EOS") ≡ t → t ≡ false
-    by true q = absurd (let z : ◌≡◌ {A = ℕ} 0 1 = cc (ap hashAndDigits (same-eq xs (bytes "#EOS") q)) in omega arith)
+    by true q = absurd (let z : ◌≡◌ {A = ℕ} 0 1 = cc (ap hash_and_digits (same_eq xs (bytes "#EOS") q)) in omega arith)
     by false q = refl
 
 -- ---- the line
@@ -59,10 +59,10 @@ module _ (file : List ℕ) (line : Line) (places : List ℕ) (p : StartsPlain fi
   text = line_of file line
 
   abbrev cs : List Column
-  cs = columnsOf file line
+  cs = columns_of file line
 
   abbrev byte : ℕ
-  byte = firstByte file line
+  byte = first_byte file line
 
   there : 0 < line.columns
   there = omega (arith, p.five)
@@ -70,47 +70,47 @@ module _ (file : List ℕ) (line : Line) (places : List ℕ) (p : StartsPlain fi
   columned : 0 < length cs
   columned = omega (arith, there, l.counted)
 
-  its-first : firstColumn text ≡ written cs 0
-  its-first = first-here text columned (sym (listed.start-at file line places l 0 there) ∙ p.here)
+  its_first : first_column text ≡ written cs 0
+  its_first = first_here text columned (sym (listed.start_at file line places l 0 there) ∙ p.here)
 
   begins : get_or (written cs 0).bytes 0 0 ≡ byte
-  begins = first_byte file line places l 0 there ∙ ap (λ (n : ℕ). get_or file n 0) p.here
+  begins = first_byte_lem file line places l 0 there ∙ ap (λ (n : ℕ). get_or file n 0) p.here
 
-  pub no-comment : (byte ≡ 37 → ⊥) → reads percents (written cs 0) ≡ false
-  no-comment n = not-percents file line places l 0 there (λ e. n (sym (ap (λ (n : ℕ). get_or file n 0) p.here) ∙ e))
+  pub no_comment : (byte ≡ 37 → ⊥) → reads percents (written cs 0) ≡ false
+  no_comment n = not_percents file line places l 0 there (λ e. n (sym (ap (λ (n : ℕ). get_or file n 0) p.here) ∙ e))
 
-  not-ignored : (byte ≡ 37 → ⊥) → ignored text.bytes ≡ false
-  not-ignored n = by (ltb (length text.bytes) 2) refl
+  not_ignored : (byte ≡ 37 → ⊥) → ignored text.bytes ≡ false
+  not_ignored n = by (ltb (length text.bytes) 2) refl
     where
       by : (t : Bool) → ltb (length text.bytes) 2 ≡ t → ignored text.bytes ≡ false
-      by true q = ignored-short line.start text.bytes columned (ltb-true (length text.bytes) 2 q)
+      by true q = ignored_short line.start text.bytes columned (ltb-true (length text.bytes) 2 q)
       by false q =
           let long = ltb-false (length text.bytes) 2 q in
-          ignored-first line.start text.bytes columned long
-          (λ e. n (sym (listed.first_byte file line places l (omega (arith, long, listed.line-length file line places l))) ∙ e))
+          ignored_first line.start text.bytes columned long
+          (λ e. n (sym (listed.first_byte_lem file line places l (omega (arith, long, listed.line_length file line places l))) ∙ e))
 
   module _ (format : ℕ) (ts : Tables) (s : SoFar) where
     abbrev taken : Verdict Taking
-    taken = sentenceLine text format ts s
+    taken = sentence_line text format ts s
 
-    judged : ignored text.bytes ≡ false → step_of taken ≡ step_of (amongNodes text (firstColumn text) format ts s)
-    judged e = ap (λ (t : Bool). step_of (pick t (granted ignoredLine) (amongNodes text (firstColumn text) format ts s))) e
+    judged : ignored text.bytes ≡ false → step_of taken ≡ step_of (among_nodes text (first_column text) format ts s)
+    judged e = ap (λ (t : Bool). step_of (pick t (granted ignored_line) (among_nodes text (first_column text) format ts s))) e
 
-    pub word-taken : (byte ≡ 37 → ⊥) → (byte ≡ 35 → ⊥) → step_of taken ≡ step_of (takenAs word_line (word_of format ts s text))
-    word-taken n m =
+    pub word_taken : (byte ≡ 37 → ⊥) → (byte ≡ 35 → ⊥) → step_of taken ≡ step_of (taken_as word_line (word_of format ts s text))
+    word_taken n m =
         let xs = (written cs 0).bytes in
         let other : get_or xs 0 0 ≡ 35 → ⊥ = λ e. m (sym begins ∙ e) in
-        judged (not-ignored n)
+        judged (not_ignored n)
         ∙ sym
-        (nodes-word text xs (ap (λ (t : Text). t.bytes) (sym its-first)) format ts s refl (other-first 35 (bytes "EOS") xs other) refl (hash-other xs other) (λ n. refl)
-        (word_row 0 xs (other-first 35 [] xs other) ∙ row_other 0 xs (some_bytes file line places l 0 there) other))
+        (nodes_word text xs (ap (λ (t : Text). t.bytes) (sym its_first)) format ts s refl (other_first 35 (bytes "EOS") xs other) refl (hash_other xs other) (λ n. refl)
+        (word_row 0 xs (other_first 35 [] xs other) ∙ row_other 0 xs (some_bytes file line places l 0 there) other))
 
-    pub phrase-taken : (n : ℕ) → byte ≡ 35 → phraseIn (behindHash (written cs 0)) ≡ some n → step_of taken ≡ step_of (takenAs phraseLine (phraseOf format ts s text))
-    phrase-taken n e q =
+    pub phrase_taken : (n : ℕ) → byte ≡ 35 → phrase_in (behind_hash (written cs 0)) ≡ some n → step_of taken ≡ step_of (taken_as phrase_line (phrase_of format ts s text))
+    phrase_taken n e q =
         let xs = (written cs 0).bytes in
-        let hash : hashAndDigits xs ≡ true = hash-digits xs (begins ∙ e) ∙ number_digits phraseNumber (drop 1 xs) n q in
-        judged (not-ignored (λ z. omega (arith, e, z)))
-        ∙ sym (nodes-phrase text xs (ap (λ (t : Text). t.bytes) (sym its-first)) format ts s refl (digits-no-end xs hash) refl hash)
+        let hash : hash_and_digits xs ≡ true = hash_digits xs (begins ∙ e) ∙ number_digits phrase_number (drop 1 xs) n q in
+        judged (not_ignored (λ z. omega (arith, e, z)))
+        ∙ sym (nodes_phrase text xs (ap (λ (t : Text). t.bytes) (sym its_first)) format ts s refl (digits_no_end xs hash) refl hash)
 
 -- ---- a number that has no mark
 
@@ -120,12 +120,12 @@ unmarked marks stamp n h e = rw (le-leb 500 n h, ne_eqb (get_or marks (n - 500) 
 -- ---- where a sentence is being read
 
 module _ (file : List ℕ) (line : Line) (s : State) (sheet seen marks : List ℕ) (t : Tally) (r : Plain) where
-  pub plain-judged : s.phase ≡ InSentence t
-      → PlainBy (columnsOf file line) t.words
-      (sentenceLine (line_of file line) s.format (tablesIn file sheet) (soFarBy t marks (s.handed + 1))) r
-      → PlainBy (columnsOf file line) (tallyIn s.phase).words (judgedBy file (line_of file line) s sheet seen marks) r
-  unfolding judgedBy lineBy
-  plain-judged e h =
+  pub plain_judged : s.phase ≡ InSentence t
+      → PlainBy (columns_of file line) t.words
+      (sentence_line (line_of file line) s.format (tables_in file sheet) (so_far_by t marks (s.handed + 1))) r
+      → PlainBy (columns_of file line) (tally_in s.phase).words (judged_by file (line_of file line) s sheet seen marks) r
+  unfolding judged_by line_by
+  plain_judged e h =
       subst
-      (λ (p : Phase). PlainBy (columnsOf file line) (tallyIn p).words (pick (ignored (line_of file line).bytes) (granted ignoredLine) (lineBy file (line_of file line) s sheet seen marks p)) r)
+      (λ (p : Phase). PlainBy (columns_of file line) (tally_in p).words (pick (ignored (line_of file line).bytes) (granted ignored_line) (line_by file (line_of file line) s sheet seen marks p)) r)
       (sym e) h

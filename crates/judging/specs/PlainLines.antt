@@ -4,16 +4,16 @@ use Rattle.std.specs.Prelude.{ℕ, ◌≡◌, List}
 use Rattle.rules.specs.Columns.{Column, written}
 use Rattle.rules.specs.Rules.{Verdict}
 use Rattle.rules.specs.Lines.{Taking}
-use Rattle.columns.specs.Listing.{span_of, noSpan}
+use Rattle.columns.specs.Listing.{span_of, no_span}
 use Rattle.steps.specs.Steps.{step_of}
 use Rattle.steps.specs.declared.Step.TheVariants as steps
-use Rattle.nodes.specs.PlainNodes.{plainSaid}
+use Rattle.nodes.specs.PlainNodes.{plain_said}
 use Rattle.judging.specs.declared.plain.Plain.{Plain}
 use Rattle.judging.specs.declared.plain.Plain.TheVariants.{Word, Phrase, Other}
 
 -- the line's columns, how many words stand in front of it, what the judge takes it for
 module _ (cs : List Column) (words : ℕ) (v : Verdict Taking) where
   abbrev pub PlainBy : Plain → Type 0
-  PlainBy (Word its-parent) = step_of v ≡ steps.Word (plainSaid cs (span_of (written cs 0)) words its-parent)
-  PlainBy (Phrase its-number its-parent) = step_of v ≡ steps.Phrase (plainSaid cs noSpan its-number its-parent)
+  PlainBy (Word its_parent) = step_of v ≡ steps.Word (plain_said cs (span_of (written cs 0)) words its_parent)
+  PlainBy (Phrase its_number its_parent) = step_of v ≡ steps.Phrase (plain_said cs no_span its_number its_parent)
   PlainBy Other = Unit {0}

@@ -7,8 +7,8 @@ use Rattle.rules.specs.Texts.{Text}
 use Rattle.rules.specs.Rules.{Verdict, granted}
 use Rattle.rules.specs.Tables.{Tables}
 use Rattle.rules.specs.Sentences.{SoFar}
-use Rattle.rules.specs.Keywords.{firstColumn}
-use Rattle.rules.specs.Lines.{Taking, ignoredLine, amongNodes}
+use Rattle.rules.specs.Keywords.{first_column}
+use Rattle.rules.specs.Lines.{Taking, ignored_line, among_nodes}
 use Rattle.columns.specs.Listing.{Listed}
 use Rattle.columns.specs.declared.listing.Line.{Line}
 
@@ -18,9 +18,9 @@ pub record StartsPlain (file : List ℕ) (line : Line) (places : List ℕ) : Typ
   pub here : get_or places 0 0 ≡ line.start
 
 -- the line's first byte
-abbrev pub firstByte : List ℕ → Line → ℕ
-firstByte file line = get_or file line.start 0
+abbrev pub first_byte : List ℕ → Line → ℕ
+first_byte file line = get_or file line.start 0
 
-abbrev pub sentenceLine : Text → ℕ → Tables → SoFar → Verdict Taking
-sentenceLine line format ts s =
-    pick (ignored line.bytes) (granted ignoredLine) (amongNodes line (firstColumn line) format ts s)
+abbrev pub sentence_line : Text → ℕ → Tables → SoFar → Verdict Taking
+sentence_line line format ts s =
+    pick (ignored line.bytes) (granted ignored_line) (among_nodes line (first_column line) format ts s)

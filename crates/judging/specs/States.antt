@@ -1,7 +1,7 @@
 -- What a reading keeps: where it stands, as rules/Phases has it, and what it has counted.
 use Rattle.std.specs.Prelude.{ℕ, ◌+◌, Bool, true, false, ◌++◌, length}
-use Rattle.rules.specs.Sentences.{Sentence, edgesOf}
-use Rattle.rules.specs.Highest.{larger, largest, highestPhrase, highestParent}
+use Rattle.rules.specs.Sentences.{Sentence, edges_of}
+use Rattle.rules.specs.Highest.{larger, largest, highest_phrase, highest_parent}
 use Rattle.rules.specs.Phases as rules
 use Rattle.steps.specs.declared.NodeSaid.{NodeSaid}
 use Rattle.judging.specs.declared.state.Tally.{Tally}
@@ -10,8 +10,8 @@ use Rattle.judging.specs.declared.state.Phase.TheVariants.{Start, Top, InTable, 
 use Rattle.judging.specs.declared.state.State.{State}
 
 -- of a sentence of a number whose #BOS line starts at a place
-abbrev pub firstTally : ℕ → ℕ → Tally
-firstTally at n =
+abbrev pub first_tally : ℕ → ℕ → Tally
+first_tally at n =
     record { start = at; number = n; words = 0; phrases = 0; edges = 0; highest_phrase = 499; highest_parent = 0 }
 
 abbrev pub tally_of : Sentence → Tally
@@ -21,57 +21,57 @@ tally_of s =
       number = s.heading.number;
       words = length s.words;
       phrases = length s.phrases;
-      edges = edgesOf s;
-      highest_phrase = highestPhrase s.phrases;
-      highest_parent = largest highestParent (s.words ++ s.phrases);
+      edges = edges_of s;
+      highest_phrase = highest_phrase s.phrases;
+      highest_parent = largest highest_parent (s.words ++ s.phrases);
     }
 
-abbrev pub phaseOf : rules.Phase → Phase
-phaseOf rules.start = Start
-phaseOf (rules.top p) = Top
-phaseOf (rules.in_table p n rs) = InTable n (length rs)
-phaseOf (rules.inSentence p s) = InSentence (tally_of s)
-phaseOf (rules.behindSentence p) = Behind
+abbrev pub phase_of : rules.Phase → Phase
+phase_of rules.start = Start
+phase_of (rules.top p) = Top
+phase_of (rules.in_table p n rs) = InTable n (length rs)
+phase_of (rules.in_sentence p s) = InSentence (tally_of s)
+phase_of (rules.behind_sentence p) = Behind
 
 -- of a reading that has handed out so many sentences, the last of which ends there
 abbrev pub state_of : ℕ → ℕ → rules.Phase → State
 state_of count end phase =
-    record { phase = phaseOf phase; format = rules.formatAt phase; handed = count; sound_end = end }
+    record { phase = phase_of phase; format = rules.format_at phase; handed = count; sound_end = end }
 
 -- ---- what a reading has, wherever it stands
 
-abbrev pub expectsNodes : Phase → Bool
-expectsNodes Start = false
-expectsNodes Top = false
-expectsNodes (InTable n rows) = false
-expectsNodes (InSentence t) = true
-expectsNodes Behind = false
+abbrev pub expects_nodes : Phase → Bool
+expects_nodes Start = false
+expects_nodes Top = false
+expects_nodes (InTable n rows) = false
+expects_nodes (InSentence t) = true
+expects_nodes Behind = false
 
-abbrev pub tableOpen : Phase → ℕ
-tableOpen Start = 0
-tableOpen Top = 0
-tableOpen (InTable n rows) = n
-tableOpen (InSentence t) = 0
-tableOpen Behind = 0
+abbrev pub table_open : Phase → ℕ
+table_open Start = 0
+table_open Top = 0
+table_open (InTable n rows) = n
+table_open (InSentence t) = 0
+table_open Behind = 0
 
-abbrev pub rowsOpen : Phase → ℕ
-rowsOpen Start = 0
-rowsOpen Top = 0
-rowsOpen (InTable n rows) = rows
-rowsOpen (InSentence t) = 0
-rowsOpen Behind = 0
+abbrev pub rows_open : Phase → ℕ
+rows_open Start = 0
+rows_open Top = 0
+rows_open (InTable n rows) = rows
+rows_open (InSentence t) = 0
+rows_open Behind = 0
 
-abbrev pub tallyIn : Phase → Tally
-tallyIn Start = firstTally 0 0
-tallyIn Top = firstTally 0 0
-tallyIn (InTable n rows) = firstTally 0 0
-tallyIn (InSentence t) = t
-tallyIn Behind = firstTally 0 0
+abbrev pub tally_in : Phase → Tally
+tally_in Start = first_tally 0 0
+tally_in Top = first_tally 0 0
+tally_in (InTable n rows) = first_tally 0 0
+tally_in (InSentence t) = t
+tally_in Behind = first_tally 0 0
 
 -- ---- one node more
 
-abbrev pub countedWord : Tally → NodeSaid → Tally
-countedWord t n =
+abbrev pub counted_word : Tally → NodeSaid → Tally
+counted_word t n =
     record {
       start = t.start;
       number = t.number;
@@ -82,8 +82,8 @@ countedWord t n =
       highest_parent = larger t.highest_parent n.highest;
     }
 
-abbrev pub countedPhrase : Tally → NodeSaid → Tally
-countedPhrase t n =
+abbrev pub counted_phrase : Tally → NodeSaid → Tally
+counted_phrase t n =
     record {
       start = t.start;
       number = t.number;

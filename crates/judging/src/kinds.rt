@@ -1,7 +1,7 @@
 // The kinds of lines, by how they begin.
 ghost use Rattle.std.specs.Prelude.{◌≡◌, ℕ};
-ghost use Rattle.rules.specs.Bytes.{classTable};
-ghost use Rattle.rules.specs.Keywords.{hashAndDigits, startsRow, startsWord};
+ghost use Rattle.rules.specs.Bytes.{class_table};
+ghost use Rattle.rules.specs.Keywords.{hash_and_digits, starts_row, starts_word};
 
 use texts::same_text;
 
@@ -9,7 +9,7 @@ pub const HASH: u8 = 35;
 
 // It begins with neither # nor white.
 pub fn starts_row(first: &[u8]) -> bool
-    ensures { (start : ℕ) → result ≡ startsRow (record { start = start; bytes = first.now }) }
+    ensures { (start : ℕ) → result ≡ starts_row (record { start = start; bytes = first.now }) }
 {
     if first.len() == 0 {
         return false;
@@ -22,7 +22,7 @@ pub fn starts_row(first: &[u8]) -> bool
 
 // A word may be a lone #.
 pub fn starts_word(first: &[u8]) -> bool
-    ensures { (start : ℕ) → result ≡ startsWord (record { start = start; bytes = first.now }) }
+    ensures { (start : ℕ) → result ≡ starts_word (record { start = start; bytes = first.now }) }
 {
     if same_text(first, b"#") {
         return true;
@@ -31,8 +31,8 @@ pub fn starts_word(first: &[u8]) -> bool
 }
 
 pub fn hash_and_digits(first: &[u8], classes: &[u8; 256]) -> bool
-    requires { classes.now ≡ classTable }
-    ensures { result ≡ hashAndDigits first.now }
+    requires { classes.now ≡ class_table }
+    ensures { result ≡ hash_and_digits first.now }
 {
     if first.len() == 0 {
         return false;

@@ -4,20 +4,20 @@ pub mod plain;
 pub mod state;
 
 ghost use Rattle.std.specs.Prelude.{◌≡◌, List, ℕ, ◌+◌, ◌≤◌};
-ghost use Rattle.rules.specs.Bytes.{classTable};
-ghost use Rattle.rules.specs.Numbers.{fileLimit};
-ghost use Rattle.rules.specs.Keywords.{firstColumn};
+ghost use Rattle.rules.specs.Bytes.{class_table};
+ghost use Rattle.rules.specs.Numbers.{file_limit};
+ghost use Rattle.rules.specs.Keywords.{first_column};
 ghost use Rattle.rules.specs.Sentences.{end_of};
-ghost use Rattle.rules.specs.Sheets.{rowPlace};
-ghost use Rattle.rules.specs.Lines.{takenAs, sentenceEnds, at_start, behindOne, atTop, amongRows, amongNodes};
+ghost use Rattle.rules.specs.Sheets.{row_place};
+ghost use Rattle.rules.specs.Lines.{taken_as, sentence_ends, at_start, behind_one, at_top, among_rows, among_nodes};
 ghost use Rattle.columns.specs.Listing.{line_of, Listed};
 ghost use Rattle.seen.specs.Bits.{bit_at};
-ghost use Rattle.table_sheet.specs.SheetRows.{rows_from, tablesIn};
+ghost use Rattle.table_sheet.specs.SheetRows.{rows_from, tables_in};
 ghost use Rattle.table_sheet.specs.Outlines.{Outlined};
 ghost use Rattle.citations.specs.Tabled.{Tabled};
 ghost use Rattle.steps.specs.Steps.{step_of};
 ghost use Rattle.tables.specs.RowRules.{RowsReady};
-ghost use Rattle.judging.specs.Judging.{soFarBy, judgedBy, First, Ready, Countable, Judgeable, RowsOutlined};
+ghost use Rattle.judging.specs.Judging.{so_far_by, judged_by, First, Ready, Countable, Judgeable, RowsOutlined};
 
 use columns::listing;
 use columns::listing::{Line, Places};
@@ -26,8 +26,8 @@ use steps::{Step, refusals};
 use texts::same_text;
 
 fn at_start(file: &[u8], line: Line, places: &Places, first: &[u8], classes: &[u8; 256]) -> Step
-    requires { (classes.now ≡ classTable) × First file.now line places.now first.now }
-    ensures { result ≡ step_of (at_start (line_of file.now line) (firstColumn (line_of file.now line))) }
+    requires { (classes.now ≡ class_table) × First file.now line places.now first.now }
+    ensures { result ≡ step_of (at_start (line_of file.now line) (first_column (line_of file.now line))) }
 {
     if same_text(first, b"#FORMAT") {
         return tables::format_line(file, line, places, classes);
@@ -44,8 +44,8 @@ fn behind_one(
     seen: &[u8],
     classes: &[u8; 256],
 ) -> Step
-    requires { (classes.now ≡ classTable) × First file.now line places.now first.now × Ready file.now sheet.now seen.now }
-    ensures { result ≡ step_of (behindOne (line_of file.now line) (firstColumn (line_of file.now line)) (tablesIn file.now sheet.now) (bit_at seen.now)) }
+    requires { (classes.now ≡ class_table) × First file.now line places.now first.now × Ready file.now sheet.now seen.now }
+    ensures { result ≡ step_of (behind_one (line_of file.now line) (first_column (line_of file.now line)) (tables_in file.now sheet.now) (bit_at seen.now)) }
 {
     if same_text(first, b"#BOS") {
         return headings::heading_line(file, line, places, sheet, seen, classes);
@@ -62,8 +62,8 @@ fn at_top(
     seen: &[u8],
     classes: &[u8; 256],
 ) -> Step
-    requires { (classes.now ≡ classTable) × First file.now line places.now first.now × Ready file.now sheet.now seen.now }
-    ensures { result ≡ step_of (atTop (line_of file.now line) (firstColumn (line_of file.now line)) (tablesIn file.now sheet.now) (bit_at seen.now)) }
+    requires { (classes.now ≡ class_table) × First file.now line places.now first.now × Ready file.now sheet.now seen.now }
+    ensures { result ≡ step_of (at_top (line_of file.now line) (first_column (line_of file.now line)) (tables_in file.now sheet.now) (bit_at seen.now)) }
 {
     if same_text(first, b"#BOT") {
         return tables::table_begin_line(file, line, places, sheet);
@@ -82,8 +82,8 @@ fn among_rows(
     outlines: &[u8; table_sheet::OUTLINES],
     classes: &[u8; 256],
 ) -> Step
-    requires { (classes.now ≡ classTable) × First file.now line places.now first.now × RowsReady file.now sheet.now table rows × Outlined outlines.now file.now sheet.now table (rowPlace table 0) rows }
-    ensures { result ≡ step_of (amongRows (line_of file.now line) (firstColumn (line_of file.now line)) table (rows_from file.now sheet.now (rowPlace table 0) rows)) }
+    requires { (classes.now ≡ class_table) × First file.now line places.now first.now × RowsReady file.now sheet.now table rows × Outlined outlines.now file.now sheet.now table (row_place table 0) rows }
+    ensures { result ≡ step_of (among_rows (line_of file.now line) (first_column (line_of file.now line)) table (rows_from file.now sheet.now (row_place table 0) rows)) }
 {
     if same_text(first, b"#EOT") {
         return tables::table_end_line(file, line, places, table);
@@ -105,8 +105,8 @@ fn among_rows(
 
 // #EOS: the highest phrase and the highest parent tell whether there is a gap, or an absent parent.
 fn end_of(file: &[u8], line: Line, places: &Places, t: Tally, classes: &[u8; 256]) -> Step
-    requires { (classes.now ≡ classTable) × Listed file.now line places.now × (t.phrases ≤ fileLimit) }
-    ensures { (marks : List ℕ) (stamp : ℕ) → result ≡ step_of (takenAs (λ n. sentenceEnds) (end_of (soFarBy t marks stamp) (line_of file.now line))) }
+    requires { (classes.now ≡ class_table) × Listed file.now line places.now × (t.phrases ≤ file_limit) }
+    ensures { (marks : List ℕ) (stamp : ℕ) → result ≡ step_of (taken_as (λ n. sentence_ends) (end_of (so_far_by t marks stamp) (line_of file.now line))) }
 {
     let last = 499 + t.phrases;
     let no_gap = t.highest_phrase == last;
@@ -126,8 +126,8 @@ pub fn among_nodes(
     marks: &[u32; state::MARKS],
     classes: &[u8; 256],
 ) -> Step
-    requires { (classes.now ≡ classTable) × First file.now line places.now first.now × Tabled file.now sheet.now × Countable t handed }
-    ensures { (format : ℕ) → result ≡ step_of (amongNodes (line_of file.now line) (firstColumn (line_of file.now line)) format (tablesIn file.now sheet.now) (soFarBy t marks.now (handed + 1))) }
+    requires { (classes.now ≡ class_table) × First file.now line places.now first.now × Tabled file.now sheet.now × Countable t handed }
+    ensures { (format : ℕ) → result ≡ step_of (among_nodes (line_of file.now line) (first_column (line_of file.now line)) format (tables_in file.now sheet.now) (so_far_by t marks.now (handed + 1))) }
 {
     if same_text(first, b"#EOS") {
         return end_of(file, line, places, t, classes);
@@ -166,8 +166,8 @@ pub fn judge(
     marks: &[u32; state::MARKS],
     classes: &[u8; 256],
 ) -> Step
-    requires { (classes.now ≡ classTable) × Listed file.now line places.now × Judgeable file.now s sheet.now seen.now s.phase × RowsOutlined outlines.now file.now sheet.now s.phase }
-    ensures { result ≡ step_of (judgedBy file.now (line_of file.now line) s sheet.now seen.now marks.now) }
+    requires { (classes.now ≡ class_table) × Listed file.now line places.now × Judgeable file.now s sheet.now seen.now s.phase × RowsOutlined outlines.now file.now sheet.now s.phase }
+    ensures { result ≡ step_of (judged_by file.now (line_of file.now line) s sheet.now seen.now marks.now) }
 {
     if listing::is_ignored(file, line) {
         return Step::Ignored;

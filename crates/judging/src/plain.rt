@@ -1,14 +1,14 @@
 // A quick way for ordinary lines of words and phrases. What it takes, the judge would take with the same step; all else is
 // left to the judge.
 ghost use Rattle.std.specs.Prelude.{List, ◌≡◌, ◌≢◌, ℕ, ◌+◌, ◌≤◌};
-ghost use Rattle.rules.specs.Numbers.{edgeLimit};
-ghost use Rattle.columns.specs.Listing.{line_of, columnsOf, Listed};
-ghost use Rattle.table_sheet.specs.SheetRows.{tablesIn};
+ghost use Rattle.rules.specs.Numbers.{edge_limit};
+ghost use Rattle.columns.specs.Listing.{line_of, columns_of, Listed};
+ghost use Rattle.table_sheet.specs.SheetRows.{tables_in};
 ghost use Rattle.citations.specs.Tabled.{Tabled};
-ghost use Rattle.judging.specs.States.{tallyIn};
-ghost use Rattle.judging.specs.Judging.{soFarBy, judgedBy, Countable, Judgeable};
+ghost use Rattle.judging.specs.States.{tally_in};
+ghost use Rattle.judging.specs.Judging.{so_far_by, judged_by, Countable, Judgeable};
 ghost use Rattle.judging.specs.PlainLines.{PlainBy};
-ghost use Rattle.judging.specs.PlainStarts.{StartsPlain, firstByte, sentenceLine};
+ghost use Rattle.judging.specs.PlainStarts.{StartsPlain, first_byte, sentence_line};
 
 use crate::kinds::HASH;
 use crate::state::{MARKS, Phase, State, Tally};
@@ -34,8 +34,8 @@ fn word_at(
     sheet: &[u32],
     hints: &[u8; table_sheet::HINTS],
 ) -> Plain
-    requires { StartsPlain file.now line places.now × Tabled file.now sheet.now × (t.edges ≤ edgeLimit) × (firstByte file.now line ≢ 37) × (firstByte file.now line ≢ 35) }
-    ensures { (format : ℕ) (marks : List ℕ) (stamp : ℕ) → PlainBy (columnsOf file.now line) t.words (sentenceLine (line_of file.now line) format (tablesIn file.now sheet.now) (soFarBy t marks stamp)) result }
+    requires { StartsPlain file.now line places.now × Tabled file.now sheet.now × (t.edges ≤ edge_limit) × (first_byte file.now line ≢ 37) × (first_byte file.now line ≢ 35) }
+    ensures { (format : ℕ) (marks : List ℕ) (stamp : ℕ) → PlainBy (columns_of file.now line) t.words (sentence_line (line_of file.now line) format (tables_in file.now sheet.now) (so_far_by t marks stamp)) result }
 {
     if t.phrases != 0 || WORD_LIMIT <= t.words {
         return Plain::Other;
@@ -57,8 +57,8 @@ fn phrase_at(
     sheet: &[u32],
     hints: &[u8; table_sheet::HINTS],
 ) -> Plain
-    requires { StartsPlain file.now line places.now × Tabled file.now sheet.now × (firstByte file.now line ≡ 35) }
-    ensures { (format : ℕ) (t : Tally) → t.edges ≤ edgeLimit → PlainBy (columnsOf file.now line) t.words (sentenceLine (line_of file.now line) format (tablesIn file.now sheet.now) (soFarBy t marks.now stamp)) result }
+    requires { StartsPlain file.now line places.now × Tabled file.now sheet.now × (first_byte file.now line ≡ 35) }
+    ensures { (format : ℕ) (t : Tally) → t.edges ≤ edge_limit → PlainBy (columns_of file.now line) t.words (sentence_line (line_of file.now line) format (tables_in file.now sheet.now) (so_far_by t marks.now stamp)) result }
 {
     let number = nodes::plain::plain_number(file, line, places);
     if number == 0 {
@@ -85,7 +85,7 @@ pub fn plain_node(
     marks: &[u32; MARKS],
 ) -> Plain
     requires { Listed file.now line places.now × Tabled file.now sheet.now × Countable t handed }
-    ensures { (format : ℕ) → PlainBy (columnsOf file.now line) t.words (sentenceLine (line_of file.now line) format (tablesIn file.now sheet.now) (soFarBy t marks.now (handed + 1))) result }
+    ensures { (format : ℕ) → PlainBy (columns_of file.now line) t.words (sentence_line (line_of file.now line) format (tables_in file.now sheet.now) (so_far_by t marks.now (handed + 1))) result }
 {
     if line.columns != ORDINARY {
         return Plain::Other;
@@ -114,7 +114,7 @@ pub fn plain_line(
     marks: &[u32; MARKS],
 ) -> Plain
     requires { Listed file.now line places.now × ((seen : List ℕ) × Judgeable file.now s sheet.now seen s.phase) }
-    ensures { (seen : List ℕ) → PlainBy (columnsOf file.now line) (tallyIn s.phase).words (judgedBy file.now (line_of file.now line) s sheet.now seen marks.now) result }
+    ensures { (seen : List ℕ) → PlainBy (columns_of file.now line) (tally_in s.phase).words (judged_by file.now (line_of file.now line) s sheet.now seen marks.now) result }
 {
     let phase = s.phase;
     match phase {

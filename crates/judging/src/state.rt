@@ -1,8 +1,8 @@
 // Where a reading stands, as the rules have it, and what it counts.
 ghost use Rattle.std.specs.Prelude.{◌≡◌, ◌+◌, ◌≤◌};
-ghost use Rattle.rules.specs.Numbers.{fileLimit};
+ghost use Rattle.rules.specs.Numbers.{file_limit};
 ghost use Rattle.rules.specs.Phases.{start};
-ghost use Rattle.judging.specs.States.{firstTally, expectsNodes, tableOpen, rowsOpen, tallyIn, countedWord, countedPhrase, moved, state_of};
+ghost use Rattle.judging.specs.States.{first_tally, expects_nodes, table_open, rows_open, tally_in, counted_word, counted_phrase, moved, state_of};
 
 use steps::NodeSaid;
 
@@ -41,7 +41,7 @@ pub struct State {
 }
 
 pub fn first_tally(start: u32, number: u32) -> Tally
-    ensures { result ≡ firstTally start number }
+    ensures { result ≡ first_tally start number }
 {
     Tally {
         start,
@@ -58,7 +58,7 @@ pub fn first_tally(start: u32, number: u32) -> Tally
 
 // Whether words and phrases, or #EOS, can come next.
 pub fn expects_nodes(phase: Phase) -> bool
-    ensures { result ≡ expectsNodes phase }
+    ensures { result ≡ expects_nodes phase }
 {
     match phase {
         Phase::Start => false,
@@ -70,7 +70,7 @@ pub fn expects_nodes(phase: Phase) -> bool
 }
 
 pub fn table_in(phase: Phase) -> u32
-    ensures { result ≡ tableOpen phase }
+    ensures { result ≡ table_open phase }
 {
     match phase {
         Phase::Start => 0,
@@ -82,7 +82,7 @@ pub fn table_in(phase: Phase) -> u32
 }
 
 pub fn rows_in(phase: Phase) -> u32
-    ensures { result ≡ rowsOpen phase }
+    ensures { result ≡ rows_open phase }
 {
     match phase {
         Phase::Start => 0,
@@ -94,7 +94,7 @@ pub fn rows_in(phase: Phase) -> u32
 }
 
 pub fn tally_in(phase: Phase) -> Tally
-    ensures { result ≡ tallyIn phase }
+    ensures { result ≡ tally_in phase }
 {
     match phase {
         Phase::Start => first_tally(0, 0),
@@ -108,8 +108,8 @@ pub fn tally_in(phase: Phase) -> Tally
 // ---- what it counts
 
 pub fn with_word(t: Tally, node: NodeSaid) -> Tally
-    requires { (t.words ≤ fileLimit) × (t.edges + node.edges ≤ fileLimit) }
-    ensures { result ≡ countedWord t node }
+    requires { (t.words ≤ file_limit) × (t.edges + node.edges ≤ file_limit) }
+    ensures { result ≡ counted_word t node }
 {
     Tally {
         start: t.start,
@@ -123,8 +123,8 @@ pub fn with_word(t: Tally, node: NodeSaid) -> Tally
 }
 
 pub fn with_phrase(t: Tally, node: NodeSaid) -> Tally
-    requires { (t.phrases ≤ fileLimit) × (t.edges + node.edges ≤ fileLimit) }
-    ensures { result ≡ countedPhrase t node }
+    requires { (t.phrases ≤ file_limit) × (t.edges + node.edges ≤ file_limit) }
+    ensures { result ≡ counted_phrase t node }
 {
     Tally {
         start: t.start,

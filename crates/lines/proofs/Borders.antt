@@ -9,9 +9,9 @@ use mathlib.Core.List.{List, [], ◌∷◌, ◌++◌}
 use lib.ListN.{length}
 use Rattle.rules.specs.Lists.{pick}
 use Rattle.rules.specs.Bytes.{white}
-use Rattle.rules.specs.Columns.{Column, goesOn, withFirst, lastByte, columnsFrom}
-use Rattle.rules.proofs.ColumnLaws.{columns-white, columns-on, columns-last}
-use Rattle.columns.specs.Listing.{behindText, places_of}
+use Rattle.rules.specs.Columns.{Column, goes_on, with_first, last_byte, columns_from}
+use Rattle.rules.proofs.ColumnLaws.{columns_white, columns_on, columns_last}
+use Rattle.columns.specs.Listing.{behind_text, places_of}
 
 abbrev pub differ : Bool → Bool → Bool
 differ a b = pick a (not b) b
@@ -23,55 +23,55 @@ borders inside at (b ∷ bs) =
     let on = borders (not (white b)) (suc at) bs in
     pick (differ (not (white b)) inside) (at ∷ on) on
 
-pub borders-end : (inside : Bool) (at : ℕ) → borders inside at [] ≡ pick inside (at ∷ []) []
+pub borders_end : (inside : Bool) (at : ℕ) → borders inside at [] ≡ pick inside (at ∷ []) []
 unfolding borders
-borders-end inside at = refl
+borders_end inside at = refl
 
-pub borders-step : (inside : Bool) (at b : ℕ) (bs : List ℕ)
+pub borders_step : (inside : Bool) (at b : ℕ) (bs : List ℕ)
     → borders inside at (b ∷ bs) ≡ pick (differ (not (white b)) inside) (at ∷ borders (not (white b)) (suc at) bs) (borders (not (white b)) (suc at) bs)
 unfolding borders
-borders-step inside at b bs = refl
+borders_step inside at b bs = refl
 
 -- where no column goes on, one that went on in front ends
-column-ends : (at : ℕ) (bs : List ℕ) → goesOn bs ≡ false → borders true at bs ≡ at ∷ borders false at bs
+column_ends : (at : ℕ) (bs : List ℕ) → goes_on bs ≡ false → borders true at bs ≡ at ∷ borders false at bs
 unfolding borders
-column-ends at [] g = refl
-column-ends at (b ∷ bs) g = rw g refl
+column_ends at [] g = refl
+column_ends at (b ∷ bs) g = rw g refl
 
-column-begins : (at : ℕ) (bs : List ℕ) → goesOn bs ≡ true → borders false at bs ≡ at ∷ borders true at bs
+column_begins : (at : ℕ) (bs : List ℕ) → goes_on bs ≡ true → borders false at bs ≡ at ∷ borders true at bs
 unfolding borders
-column-begins at [] g = absurd (let z : ◌≡◌ {A = ℕ} 0 1 = cc in omega arith)
-column-begins at (b ∷ bs) g = rw g refl
+column_begins at [] g = absurd (let z : ◌≡◌ {A = ℕ} 0 1 = cc in omega arith)
+column_begins at (b ∷ bs) g = rw g refl
 
 -- one byte in front of a column leaves its end where it is
-first_byte : (at b : ℕ) (cs : List Column) (ends : List ℕ) → places_of cs ≡ suc at ∷ ends → places_of (withFirst at b cs) ≡ at ∷ ends
+first_byte_lem : (at b : ℕ) (cs : List Column) (ends : List ℕ) → places_of cs ≡ suc at ∷ ends → places_of (with_first at b cs) ≡ at ∷ ends
 unfolding places_of
-first_byte at b [] ends e = absurd (let z : ◌≡◌ {A = ℕ} 0 1 = cc in omega arith)
-first_byte at b (c ∷ cs) ends e =
+first_byte_lem at b [] ends e = absurd (let z : ◌≡◌ {A = ℕ} 0 1 = cc in omega arith)
+first_byte_lem at b (c ∷ cs) ends e =
     let s : c.text.start ≡ suc at = cc in
-    let r : behindText c.text ∷ places_of cs ≡ ends = cc in
-    let k : at + suc (length c.text.bytes) ≡ behindText c.text = omega arith in
+    let r : behind_text c.text ∷ places_of cs ≡ ends = cc in
+    let k : at + suc (length c.text.bytes) ≡ behind_text c.text = omega arith in
     ap (λ (n : ℕ). at ∷ n ∷ places_of cs) k ∙ ap (λ (l : List ℕ). at ∷ l) r
 
-places-last : (at b : ℕ) (bs : List ℕ) (cs : List Column) → places_of (lastByte at b bs ∷ cs) ≡ at ∷ suc at ∷ places_of cs
+places_last : (at b : ℕ) (bs : List ℕ) (cs : List Column) → places_of (last_byte at b bs ∷ cs) ≡ at ∷ suc at ∷ places_of cs
 unfolding places_of
-places-last at b bs cs = let k : at + 1 ≡ suc at = omega arith in ap (λ (n : ℕ). at ∷ n ∷ places_of cs) k
+places_last at b bs cs = let k : at + 1 ≡ suc at = omega arith in ap (λ (n : ℕ). at ∷ n ∷ places_of cs) k
 
-pub borders-list : (at : ℕ) (bs : List ℕ) → places_of (columnsFrom at bs) ≡ borders false at bs
-unfolding columnsFrom places_of borders
-borders-list at [] = refl
-borders-list at (b ∷ bs) = by (white b) refl (goesOn bs) refl (borders-list (suc at) bs)
+pub borders_list : (at : ℕ) (bs : List ℕ) → places_of (columns_from at bs) ≡ borders false at bs
+unfolding columns_from places_of borders
+borders_list at [] = refl
+borders_list at (b ∷ bs) = by (white b) refl (goes_on bs) refl (borders_list (suc at) bs)
   where
-    by : (w : Bool) → white b ≡ w → (g : Bool) → goesOn bs ≡ g → places_of (columnsFrom (suc at) bs) ≡ borders false (suc at) bs
-        → places_of (columnsFrom at (b ∷ bs)) ≡ borders false at (b ∷ bs)
-    by true e g h ih = ap places_of (columns-white at b bs e) ∙ ih ∙ sym (borders-step false at b bs ∙ rw e refl)
+    by : (w : Bool) → white b ≡ w → (g : Bool) → goes_on bs ≡ g → places_of (columns_from (suc at) bs) ≡ borders false (suc at) bs
+        → places_of (columns_from at (b ∷ bs)) ≡ borders false at (b ∷ bs)
+    by true e g h ih = ap places_of (columns_white at b bs e) ∙ ih ∙ sym (borders_step false at b bs ∙ rw e refl)
     by false e true h ih =
-        ap places_of (columns-on at b bs e h)
-        ∙ first_byte at b (columnsFrom (suc at) bs) (borders true (suc at) bs) (ih ∙ column-begins (suc at) bs h)
-        ∙ sym (borders-step false at b bs ∙ rw e refl)
+        ap places_of (columns_on at b bs e h)
+        ∙ first_byte_lem at b (columns_from (suc at) bs) (borders true (suc at) bs) (ih ∙ column_begins (suc at) bs h)
+        ∙ sym (borders_step false at b bs ∙ rw e refl)
     by false e false h ih =
-        ap places_of (columns-last at b bs e h)
-        ∙ places-last at b bs (columnsFrom (suc at) bs)
+        ap places_of (columns_last at b bs e h)
+        ∙ places_last at b bs (columns_from (suc at) bs)
         ∙ ap (λ (l : List ℕ). at ∷ suc at ∷ l) ih
-        ∙ ap (λ (l : List ℕ). at ∷ l) (sym (column-ends (suc at) bs h))
-        ∙ sym (borders-step false at b bs ∙ rw e refl)
+        ∙ ap (λ (l : List ℕ). at ∷ l) (sym (column_ends (suc at) bs h))
+        ∙ sym (borders_step false at b bs ∙ rw e refl)

@@ -5,40 +5,40 @@ use native.Mathlib.Omega.{arith}
 use mathlib.Core.Path.{◌≡◌, sym, ap, ◌∙◌, subst}
 use mathlib.Core.List.{List}
 use lib.ListN.{length}
-use Rattle.rules.specs.Numbers.{lineLimit, fileLimit}
+use Rattle.rules.specs.Numbers.{line_limit, file_limit}
 use Rattle.rules.specs.Columns as lines
 use Rattle.columns.specs.Splices.{splice}
-use Rattle.columns.specs.Listing.{textBetween, places_of, Listed}
+use Rattle.columns.specs.Listing.{text_between, places_of, Listed}
 use Rattle.columns.specs.declared.listing.Line as listing
-use Rattle.columns.proofs.ListedColumns.{now-listed}
-use Rattle.lines.specs.LineEnds.{lineEnd}
-use Rattle.lines.specs.NextLines.{lineEndOf, ListedBy, ReadAtOnce}
+use Rattle.columns.proofs.ListedColumns.{now_listed}
+use Rattle.lines.specs.LineEnds.{line_end}
+use Rattle.lines.specs.NextLines.{line_end_of, ListedBy, ReadAtOnce}
 use Rattle.lines.specs.declared.LineEnd.{LineEnd}
 use Rattle.lines.specs.declared.LineEnd.TheVariants.{At}
 use Rattle.lines.specs.declared.NextLine.{NextLine}
 use Rattle.lines.specs.declared.NextLine.TheVariants.{Line}
 use Rattle.lines.specs.declared.at_once.AtOnce.{AtOnce}
 use Rattle.lines.specs.declared.at_once.AtOnce.TheVariants as once
-use Rattle.lines.proofs.Lines.{at-behind, at-below, at_place, at-short}
+use Rattle.lines.proofs.Lines.{at_behind, at_below, at_place, at_short}
 
 module _ (file : List ℕ) (from : ℕ) where
   abbrev Found : NextLine → List ℕ → Type 0
-  Found r places = (lineEndOf r ≡ lineEnd file from) × ListedBy file from r places
+  Found r places = (line_end_of r ≡ line_end file from) × ListedBy file from r places
 
-  pub found-at-once : (r : AtOnce) (places : List ℕ) (l : listing.Line) → ReadAtOnce file from r places → r ≡ once.Line l → Found (Line l) places
-  found-at-once r places l h e =
+  pub found_at_once : (r : AtOnce) (places : List ℕ) (l : listing.Line) → ReadAtOnce file from r places → r ≡ once.Line l → Found (Line l) places
+  found_at_once r places l h e =
       let t = subst (λ (x : AtOnce). ReadAtOnce file from x places) e h in
       (sym t.0, (t.1, t.2))
 
-  pub found-twice : (e : ℕ) (lent : List ℕ) (l : listing.Line) (places : List ℕ) → length file ≤ fileLimit → lineEnd file from ≡ At e
-      → (l ≡ record { start = from; end = e; columns = length (lines.columns (textBetween file from e)) }) × (places ≡ splice 0 (places_of (lines.columns (textBetween file from e))) lent)
+  pub found_twice : (e : ℕ) (lent : List ℕ) (l : listing.Line) (places : List ℕ) → length file ≤ file_limit → line_end file from ≡ At e
+      → (l ≡ record { start = from; end = e; columns = length (lines.columns (text_between file from e)) }) × (places ≡ splice 0 (places_of (lines.columns (text_between file from e))) lent)
       → Found (Line l) places
-  found-twice e lent l places m q h =
-      let o = at-behind file from e q in
-      let i : e ≤ length file = omega (arith, at-below file from e q) in
-      let s : e ≤ from + lineLimit = omega (arith, at_place file from e q, at-short file from e q) in (
+  found_twice e lent l places m q h =
+      let o = at_behind file from e q in
+      let i : e ≤ length file = omega (arith, at_below file from e q) in
+      let s : e ≤ from + line_limit = omega (arith, at_place file from e q, at_short file from e q) in (
         ap (λ (x : listing.Line). At x.end) h.0 ∙ sym q,
-        (ap (λ (x : listing.Line). x.start) h.0, now-listed file from e lent l places o i s m h),
+        (ap (λ (x : listing.Line). x.start) h.0, now_listed file from e lent l places o i s m h),
       )
 
   -- ---- what was told of a line that is read
@@ -47,11 +47,11 @@ module _ (file : List ℕ) (from : ℕ) where
     told : Found (Line l) places
     told = subst (λ (x : NextLine). Found x places) is h
 
-    pub told-end : lineEnd file from ≡ At l.end
-    told-end = sym told.0
+    pub told_end : line_end file from ≡ At l.end
+    told_end = sym told.0
 
-    pub told-start : l.start ≡ from
-    told-start = told.1.0
+    pub told_start : l.start ≡ from
+    told_start = told.1.0
 
-    pub told-listed : Listed file l places
-    told-listed = told.1.1
+    pub told_listed : Listed file l places
+    told_listed = told.1.1

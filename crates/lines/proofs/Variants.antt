@@ -10,8 +10,8 @@ use types.Run.{OneOf}
 use Rattle.rules.specs.Lists.{member}
 use Rattle.rules.proofs.Conjunctions.{or_left, or_right}
 
-pub not-among : (c : ℕ) (ks : List ℕ) → member c ks ≡ false → OneOf ks c → ⊥
-not-among c [] h o = o
-not-among c (k ∷ []) h e = eqb-false c k (or_left (eqb c k) false h) e
-not-among c (k ∷ j ∷ ks) h (inl e) = eqb-false c k (or_left (eqb c k) (member c (j ∷ ks)) h) e
-not-among c (k ∷ j ∷ ks) h (inr o) = not-among c (j ∷ ks) (or_right (eqb c k) (member c (j ∷ ks)) h) o
+pub not_among : (c : ℕ) (ks : List ℕ) → member c ks ≡ false → OneOf ks c → ⊥
+not_among c [] h o = o
+not_among c (k ∷ []) h e = eqb-false c k (or_left (eqb c k) false h) e
+not_among c (k ∷ j ∷ ks) h (inl e) = eqb-false c k (or_left (eqb c k) (member c (j ∷ ks)) h) e
+not_among c (k ∷ j ∷ ks) h (inr o) = not_among c (j ∷ ks) (or_right (eqb c k) (member c (j ∷ ks)) h) o

@@ -3,7 +3,7 @@
 use Rattle.std.specs.Prelude.{ℕ, ◌+◌, Bool, List, [], ◌∷◌, length, drop, leb, eqb}
 use Rattle.rules.specs.Lists.{pick, every, any}
 use Rattle.rules.specs.Bytes.{newline, legal}
-use Rattle.rules.specs.Numbers.{lineLimit}
+use Rattle.rules.specs.Numbers.{line_limit}
 use Rattle.lines.specs.declared.LineEnd.{LineEnd}
 use Rattle.lines.specs.declared.LineEnd.TheVariants.{At, Unended, Illegal, TooLong}
 
@@ -11,26 +11,26 @@ abbrev pub ends : ℕ → Bool
 ends b = eqb b newline
 
 -- a newline is among the bytes
-abbrev pub hasEnd : List ℕ → Bool
-hasEnd bs = any ends bs
+abbrev pub has_end : List ℕ → Bool
+has_end bs = any ends bs
 
 -- the bytes in front of the first newline
-unfoldable pub firstLine : List ℕ → List ℕ
-firstLine [] = []
-firstLine (b ∷ bs) = let more = b ∷ firstLine bs in pick (ends b) [] more
+unfoldable pub first_line : List ℕ → List ℕ
+first_line [] = []
+first_line (b ∷ bs) = let more = b ∷ first_line bs in pick (ends b) [] more
 
 -- of a line that starts at a place: whether it is ended, whether its bytes are legal, and how many they are
-unfoldable pub endFound : ℕ → Bool → Bool → ℕ → LineEnd
-endFound from ended sound n = pick ended (pick sound (pick (leb n lineLimit) (At (from + n)) TooLong) Illegal) Unended
+unfoldable pub end_found : ℕ → Bool → Bool → ℕ → LineEnd
+end_found from ended sound n = pick ended (pick sound (pick (leb n line_limit) (At (from + n)) TooLong) Illegal) Unended
 
-unfoldable pub lineEnd : List ℕ → ℕ → LineEnd
-lineEnd file from =
+unfoldable pub line_end : List ℕ → ℕ → LineEnd
+line_end file from =
     let rest = drop from file in
-    endFound from (hasEnd rest) (every legal (firstLine rest)) (length (firstLine rest))
+    end_found from (has_end rest) (every legal (first_line rest)) (length (first_line rest))
 
 -- document 01's number, 0 for a line that may be read
-abbrev pub lineRefusal : LineEnd → ℕ
-lineRefusal (At e) = 0
-lineRefusal Unended = 3
-lineRefusal Illegal = 4
-lineRefusal TooLong = 5
+abbrev pub line_refusal : LineEnd → ℕ
+line_refusal (At e) = 0
+line_refusal Unended = 3
+line_refusal Illegal = 4
+line_refusal TooLong = 5

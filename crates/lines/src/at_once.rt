@@ -1,8 +1,8 @@
 // One pass along a line finds its end and lists its columns. What it doubts is left to those who look twice.
 ghost use Rattle.std.specs.Prelude.{◌≡◌, ◌+◌, ◌≤◌, length};
-ghost use Rattle.rules.specs.Bytes.{classTable};
-ghost use Rattle.rules.specs.Numbers.{lineLimit, fileLimit};
-ghost use Rattle.lines.specs.NextLines.{lineBetween, ReadAtOnce};
+ghost use Rattle.rules.specs.Bytes.{class_table};
+ghost use Rattle.rules.specs.Numbers.{line_limit, file_limit};
+ghost use Rattle.lines.specs.NextLines.{line_between, ReadAtOnce};
 
 use columns::listing::Line;
 
@@ -18,7 +18,7 @@ pub enum AtOnce {
 // Where the pass ends at the latest, so that there is a place for each of its bytes.
 fn last_place(len: usize, from: usize) -> usize
     requires { from ≤ len }
-    ensures { (from ≤ result) × (result ≤ len) × (result ≤ from + lineLimit) }
+    ensures { (from ≤ result) × (result ≤ len) × (result ≤ from + line_limit) }
 {
     if PLACES < len - from {
         return from + PLACES;
@@ -27,7 +27,7 @@ fn last_place(len: usize, from: usize) -> usize
 }
 
 fn line_between(start: usize, end: usize, columns: usize) -> AtOnce
-    ensures { result ≡ lineBetween start end columns }
+    ensures { result ≡ line_between start end columns }
 {
     AtOnce::Line(Line {
         start,
@@ -38,7 +38,7 @@ fn line_between(start: usize, end: usize, columns: usize) -> AtOnce
 
 // A byte's place is stored at once, and kept if a column begins or ends there: no branch depends on the columns.
 pub fn read_at_once(file: &[u8], from: usize, classes: &[u8; 256], places: &mut [u32]) -> AtOnce
-    requires { (from ≤ length file.now) × (classes.now ≡ classTable) × (length file.now ≤ fileLimit) × (length places.old ≡ 4096) }
+    requires { (from ≤ length file.now) × (classes.now ≡ class_table) × (length file.now ≤ file_limit) × (length places.old ≡ 4096) }
     ensures { ReadAtOnce file.now from result places.new }
 {
     let last = last_place(file.len(), from);

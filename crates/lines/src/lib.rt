@@ -2,10 +2,10 @@
 mod at_once;
 
 ghost use Rattle.std.specs.Prelude.{◌≡◌, ◌≤◌, length};
-ghost use Rattle.rules.specs.Bytes.{classTable};
-ghost use Rattle.rules.specs.Numbers.{fileLimit};
-ghost use Rattle.lines.specs.LineEnds.{lineEnd};
-ghost use Rattle.lines.specs.NextLines.{lineEndOf, ListedBy};
+ghost use Rattle.rules.specs.Bytes.{class_table};
+ghost use Rattle.rules.specs.Numbers.{file_limit};
+ghost use Rattle.lines.specs.LineEnds.{line_end};
+ghost use Rattle.lines.specs.NextLines.{line_end_of, ListedBy};
 
 use at_once::{AtOnce, read_at_once};
 use columns::listing::{Line, ORDINARY, Places, read_line};
@@ -25,8 +25,8 @@ pub enum LineEnd {
 
 // A newline is of class 0 too, so that a legal byte costs one test.
 pub fn line_end(file: &[u8], from: usize, classes: &[u8; 256]) -> LineEnd
-    requires { (from ≤ length file.now) × (classes.now ≡ classTable) }
-    ensures { result ≡ lineEnd file.now from }
+    requires { (from ≤ length file.now) × (classes.now ≡ class_table) }
+    ensures { result ≡ line_end file.now from }
 {
     let mut at = from;
     let mut sound = true;
@@ -60,8 +60,8 @@ pub enum NextLine {
 
 // The line's end is looked for, then the reader lists its columns in `places`.
 fn read_twice(file: &[u8], from: usize, classes: &[u8; 256], places: &mut Places) -> NextLine
-    requires { (from ≤ length file.now) × (classes.now ≡ classTable) × (length file.now ≤ fileLimit) }
-    ensures { (lineEndOf result ≡ lineEnd file.now from) × ListedBy file.now from result places.new }
+    requires { (from ≤ length file.now) × (classes.now ≡ class_table) × (length file.now ≤ file_limit) }
+    ensures { (line_end_of result ≡ line_end file.now from) × ListedBy file.now from result places.new }
 {
     let found = line_end(file, from, classes);
     match found {
@@ -82,8 +82,8 @@ fn find_line(
     classes: &[u8; 256],
     places: &mut Places,
 ) -> NextLine
-    requires { (from ≤ length file.now) × (classes.now ≡ classTable) × (length file.now ≤ fileLimit) }
-    ensures { (lineEndOf result ≡ lineEnd file.now from) × ListedBy file.now from result places.new }
+    requires { (from ≤ length file.now) × (classes.now ≡ class_table) × (length file.now ≤ file_limit) }
+    ensures { (line_end_of result ≡ line_end file.now from) × ListedBy file.now from result places.new }
 {
     if !of_node {
         return read_twice(file, from, classes, places);
@@ -105,8 +105,8 @@ pub fn next_line(
     classes: &[u8; 256],
     places: &mut Places,
 ) -> NextLine
-    requires { (from ≤ length file.now) × (classes.now ≡ classTable) × (length file.now ≤ fileLimit) }
-    ensures { (lineEndOf result ≡ lineEnd file.now from) × ListedBy file.now from result places.new }
+    requires { (from ≤ length file.now) × (classes.now ≡ class_table) × (length file.now ≤ file_limit) }
+    ensures { (line_end_of result ≡ line_end file.now from) × ListedBy file.now from result places.new }
 {
     find_line(file, from, of_node, false, classes, places)
 }
@@ -118,8 +118,8 @@ pub fn next_of_sentence(
     classes: &[u8; 256],
     places: &mut Places,
 ) -> NextLine
-    requires { (from ≤ length file.now) × (classes.now ≡ classTable) × (length file.now ≤ fileLimit) }
-    ensures { (lineEndOf result ≡ lineEnd file.now from) × ListedBy file.now from result places.new }
+    requires { (from ≤ length file.now) × (classes.now ≡ class_table) × (length file.now ≤ file_limit) }
+    ensures { (line_end_of result ≡ line_end file.now from) × ListedBy file.now from result places.new }
 {
     find_line(file, from, true, true, classes, places)
 }

@@ -11,8 +11,8 @@ pub record FirstParent : Type 0 where
   pub seen : List ℕ
   pub sheet : List ℕ
 
-abbrev pub firstParentOf : Opened → FirstParent
-firstParentOf o = record { parent = (get_or o.edges 0 no_edge).parent; tables = o.tables; seen = o.seen; sheet = o.sheet }
+abbrev pub first_parent_of : Opened → FirstParent
+first_parent_of o = record { parent = (get_or o.edges 0 no_edge).parent; tables = o.tables; seen = o.seen; sheet = o.sheet }
 
 abbrev pub outcome : ℕ → List ℕ → List ℕ → List ℕ → FirstParent
 outcome r tables seen sheet = record { parent = r; tables = tables; seen = seen; sheet = sheet }
@@ -23,11 +23,11 @@ pub record FirstParentAt : Type 0 where
   pub parent : ℕ
   pub sheet : List ℕ
 
-abbrev pub firstParentAt : OpenedAt → FirstParentAt
-firstParentAt o = record { parent = (get_or o.edges 0 no_edge).parent; sheet = o.sheet }
+abbrev pub first_parent_at : OpenedAt → FirstParentAt
+first_parent_at o = record { parent = (get_or o.edges 0 no_edge).parent; sheet = o.sheet }
 
-abbrev pub outcomeAt : ℕ → List ℕ → FirstParentAt
-outcomeAt r sheet = record { parent = r; sheet = sheet }
+abbrev pub outcome_at : ℕ → List ℕ → FirstParentAt
+outcome_at r sheet = record { parent = r; sheet = sheet }
 
 -- ---- of a writing
 
@@ -41,5 +41,5 @@ pub record TextLength : Type 0 where
 abbrev pub length_of : WritingOutcome → TextLength
 length_of o = record { written = o.answer.written; tables = o.tables; seen = o.seen; sheet = o.sheet; output = o.output }
 
-abbrev pub outcomeOf : ℕ → List ℕ → List ℕ → List ℕ → List ℕ → TextLength
-outcomeOf r tables seen sheet output = record { written = r; tables = tables; seen = seen; sheet = sheet; output = output }
+abbrev pub outcome_of : ℕ → List ℕ → List ℕ → List ℕ → List ℕ → TextLength
+outcome_of r tables seen sheet output = record { written = r; tables = tables; seen = seen; sheet = sheet; output = output }

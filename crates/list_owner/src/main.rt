@@ -1,9 +1,9 @@
 // A program that owns a list of edge records: it lends the list to openings and to a writing, has it back filled, and reads a
 // record of it.
 ghost use Rattle.std.specs.Prelude.{◌≡◌};
-ghost use Rattle.rules.specs.Opening.{afterOpening, afterOpeningAt, noEdges};
-ghost use Rattle.rules.specs.Writing.{afterWriting};
-ghost use Rattle.list_owner.specs.Promise.{outcome, firstParentOf, outcomeAt, firstParentAt, outcomeOf, length_of};
+ghost use Rattle.rules.specs.Opening.{after_opening, after_opening_at, no_edges};
+ghost use Rattle.rules.specs.Writing.{after_writing};
+ghost use Rattle.list_owner.specs.Promise.{outcome, first_parent_of, outcome_at, first_parent_at, outcome_of, length_of};
 
 use edges::Edge;
 
@@ -15,7 +15,7 @@ fn first_secondary_parent(
     seen: &mut [u8],
     sheet: &mut [u32],
 ) -> u32
-    ensures { outcome result tables.new seen.new sheet.new ≡ firstParentOf (afterOpening file.now number tables.old seen.old sheet.old noEdges) }
+    ensures { outcome result tables.new seen.new sheet.new ≡ first_parent_of (after_opening file.now number tables.old seen.old sheet.old no_edges) }
 {
     let mut list = [Edge {
         child: 0,
@@ -30,7 +30,7 @@ fn first_secondary_parent(
 
 // The same, of the sentence that begins at a place.
 fn first_parent_at(file: &[u8], place: u32, sheet: &mut [u32]) -> u32
-    ensures { outcomeAt result sheet.new ≡ firstParentAt (afterOpeningAt file.now place sheet.old noEdges) }
+    ensures { outcome_at result sheet.new ≡ first_parent_at (after_opening_at file.now place sheet.old no_edges) }
 {
     let mut list = [Edge {
         child: 0,
@@ -51,8 +51,8 @@ fn tidy_length(
     seen: &mut [u8],
     sheet: &mut [u32],
 ) -> u32
-    ensures { outcomeOf result tables.new seen.new sheet.new output.new
-        ≡ length_of (afterWriting file.now tables.old seen.old sheet.old noEdges output.old) }
+    ensures { outcome_of result tables.new seen.new sheet.new output.new
+        ≡ length_of (after_writing file.now tables.old seen.old sheet.old no_edges output.old) }
 {
     let mut list = [Edge {
         child: 0,

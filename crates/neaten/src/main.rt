@@ -2,8 +2,8 @@
 // line that `tell` prints.
 ghost use Rattle.std.specs.Prelude.{◌≡◌, [], ◌∷◌, ◌≤◌, length};
 ghost use Rattle.io.specs.Counts.{IsPrefixLen};
-ghost use Rattle.rules.specs.Tidy.{digitsOf, keywordLine};
-ghost use Rattle.survey.specs.Promise.{asSurveyed};
+ghost use Rattle.rules.specs.Tidy.{digits_of, keyword_line};
+ghost use Rattle.survey.specs.Promise.{as_surveyed};
 ghost use Rattle.printing.specs.Over.{Put};
 ghost use Rattle.writing.specs.Promise.{answer_of};
 ghost use Rattle.neaten.specs.Answers.{surveyed, writtenInto};
@@ -19,7 +19,7 @@ const SPACE: u8 = 32;
 const NEWLINE: u8 = 10;
 
 fn survey_file(file: &[u8]) -> Surveyed
-    ensures { result ≡ asSurveyed (surveyed file.now).answer }
+    ensures { result ≡ as_surveyed (surveyed file.now).answer }
 {
     let mut tables = [0u32; table_sheet::SIZE];
     let mut seen = [0u8; seen::SIZE];
@@ -39,7 +39,7 @@ fn write_tidy(file: &[u8], output: &mut [u8]) -> Written
 // Four numbers of at most ten digits, each with a byte behind it.
 fn put_answer(told: Surveyed, line: &mut [u8]) -> usize
     requires { 44 ≤ length line.old }
-    ensures { Put 44 (keywordLine (digitsOf told.refusal ∷ digitsOf told.place ∷ digitsOf told.sentences ∷ digitsOf told.sound_end ∷ [])) 0 line.old result line.new × IsPrefixLen result line.new }
+    ensures { Put 44 (keyword_line (digits_of told.refusal ∷ digits_of told.place ∷ digits_of told.sentences ∷ digits_of told.sound_end ∷ [])) 0 line.old result line.new × IsPrefixLen result line.new }
 {
     let refused = printing::digits::put_number(told.refusal, line, 0);
     let placed = printing::put_number_column(SPACE, told.place, line, refused);

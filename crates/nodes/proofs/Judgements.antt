@@ -8,21 +8,21 @@ use borrow.Author.Tests.{eqb-true, eqb-false, ne_eqb, eq-eqb}
 use lib.Dec.{eqb}
 use Rattle.rules.specs.Lists.{pick}
 use Rattle.rules.specs.Rules.{Rule}
-use Rattle.steps.specs.Faults.{brokenBy, faultIn, or_else}
+use Rattle.steps.specs.Faults.{broken_by, fault_in, or_else}
 use Rattle.steps.specs.declared.Fault.{Fault}
-use Rattle.nodes.specs.NodeLines.{unlessFaulty}
+use Rattle.nodes.specs.NodeLines.{unless_faulty}
 use Rattle.nodes.specs.declared.pairs.Judged.TheVariants.{Fine, Faulty}
 
 -- ---- rules one after the other
 
 module _ (r : Rule) (rs : List Rule) where
-  pub stops : r.holds ≡ false → faultIn (r ∷ rs) ≡ brokenBy r
-  unfolding faultIn
-  stops e = ap (λ (t : Bool). pick t (faultIn rs) (brokenBy r)) e
+  pub stops : r.holds ≡ false → fault_in (r ∷ rs) ≡ broken_by r
+  unfolding fault_in
+  stops e = ap (λ (t : Bool). pick t (fault_in rs) (broken_by r)) e
 
-  pub passes : r.holds ≡ true → faultIn (r ∷ rs) ≡ faultIn rs
-  unfolding faultIn
-  passes e = ap (λ (t : Bool). pick t (faultIn rs) (brokenBy r)) e
+  pub passes : r.holds ≡ true → fault_in (r ∷ rs) ≡ fault_in rs
+  unfolding fault_in
+  passes e = ap (λ (t : Bool). pick t (fault_in rs) (broken_by r)) e
 
 -- ---- groups one after the other
 
@@ -37,28 +37,28 @@ pub record Refuted (f g : Fault) : Type 0 where
   pub some : f.number ≡ 0 → ⊥
 
 module _ (f : Fault) where
-  pub first-decides : (g : Fault) → (f.number ≡ 0 → ⊥) → or_else f g ≡ f
-  first-decides g n = rw (ne_eqb f.number 0 n)
+  pub first_decides : (g : Fault) → (f.number ≡ 0 → ⊥) → or_else f g ≡ f
+  first_decides g n = rw (ne_eqb f.number 0 n)
 
-  pub others-decide : (g : Fault) → f.number ≡ 0 → or_else f g ≡ g
-  others-decide g e = rw (eq-eqb f.number 0 e)
+  pub others_decide : (g : Fault) → f.number ≡ 0 → or_else f g ≡ g
+  others_decide g e = rw (eq-eqb f.number 0 e)
 
   module _ (parent highest : ℕ) where
-    pub faulty : (f.number ≡ 0 → ⊥) → Faulty f ≡ unlessFaulty f parent highest
+    pub faulty : (f.number ≡ 0 → ⊥) → Faulty f ≡ unless_faulty f parent highest
     faulty n = rw (ne_eqb f.number 0 n)
 
-    pub fine : f.number ≡ 0 → Fine parent highest ≡ unlessFaulty f parent highest
+    pub fine : f.number ≡ 0 → Fine parent highest ≡ unless_faulty f parent highest
     fine e = rw (eq-eqb f.number 0 e)
 
-    pub fine-tells : (p h : ℕ) → unlessFaulty f parent highest ≡ Fine p h → Told f parent highest p h
-    fine-tells p h q = by (eqb f.number 0) refl q
+    pub fine_tells : (p h : ℕ) → unless_faulty f parent highest ≡ Fine p h → Told f parent highest p h
+    fine_tells p h q = by (eqb f.number 0) refl q
       where
         by : (t : Bool) → eqb f.number 0 ≡ t → pick t (Fine parent highest) (Faulty f) ≡ Fine p h → Told f parent highest p h
         by true e q = record { none = eqb-true f.number 0 e; itself = cc; top = cc }
         by false e q = absurd (let z : ◌≡◌ {A = ℕ} 0 1 = cc in omega arith)
 
-    pub faulty-tells : (g : Fault) → unlessFaulty f parent highest ≡ Faulty g → Refuted f g
-    faulty-tells g q = by (eqb f.number 0) refl q
+    pub faulty_tells : (g : Fault) → unless_faulty f parent highest ≡ Faulty g → Refuted f g
+    faulty_tells g q = by (eqb f.number 0) refl q
       where
         by : (t : Bool) → eqb f.number 0 ≡ t → pick t (Fine parent highest) (Faulty f) ≡ Faulty g → Refuted f g
         by true e q = absurd (let z : ◌≡◌ {A = ℕ} 0 1 = cc in omega arith)
@@ -70,9 +70,9 @@ pub record Decides (all g others : Fault) : Type 0 where
 
 module _ {all g others : Fault} (d : Decides all g others) (f : Fault) (e : f ≡ g) where
   pub pass_on : f.number ≡ 0 → others ≡ all
-  pass_on z = sym (others-decide g others (ap (λ (x : Fault). x.number) (sym e) ∙ z)) ∙ d.is
+  pass_on z = sym (others_decide g others (ap (λ (x : Fault). x.number) (sym e) ∙ z)) ∙ d.is
 
-  pub faulty-here : (parent highest : ℕ) → (f.number ≡ 0 → ⊥) → Faulty f ≡ unlessFaulty all parent highest
-  faulty-here parent highest n =
+  pub faulty_here : (parent highest : ℕ) → (f.number ≡ 0 → ⊥) → Faulty f ≡ unless_faulty all parent highest
+  faulty_here parent highest n =
       faulty f parent highest n
-      ∙ ap (λ (x : Fault). unlessFaulty x parent highest) (sym (first-decides f others n) ∙ ap (λ (x : Fault). or_else x others) e ∙ d.is)
+      ∙ ap (λ (x : Fault). unless_faulty x parent highest) (sym (first_decides f others n) ∙ ap (λ (x : Fault). or_else x others) e ∙ d.is)

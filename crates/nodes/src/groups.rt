@@ -1,12 +1,12 @@
 // The rules of a node line's fields, group by group: the tags, the parent, and the pairs behind them.
 ghost use Rattle.std.specs.Prelude.{◌≡◌, ℕ, ◌<◌};
-ghost use Rattle.rules.specs.Bytes.{classTable};
+ghost use Rattle.rules.specs.Bytes.{class_table};
 ghost use Rattle.rules.specs.Numbers.{value};
-ghost use Rattle.rules.specs.Nodes.{itsParent, parentsWritten, tagsShort, tagsKnown, parentsAllowed};
-ghost use Rattle.table_sheet.specs.SheetRows.{tablesIn};
+ghost use Rattle.rules.specs.Nodes.{its_parent, parents_written, tags_short, tags_known, parents_allowed};
+ghost use Rattle.table_sheet.specs.SheetRows.{tables_in};
 ghost use Rattle.citations.specs.Tabled.{Tabled};
-ghost use Rattle.steps.specs.Faults.{faultIn};
-ghost use Rattle.nodes.specs.NodeLines.{fields_of, Whole, firstFault, highestIn, unlessFaulty};
+ghost use Rattle.steps.specs.Faults.{fault_in};
+ghost use Rattle.nodes.specs.NodeLines.{fields_of, Whole, first_fault, highest_in, unless_faulty};
 
 use crate::pairs::Judged;
 use crate::{fields, pairs};
@@ -31,8 +31,8 @@ fn parents_written(
     count: usize,
     classes: &[u8; 256],
 ) -> Judged
-    requires { (classes.now ≡ classTable) × Whole file.now line places.now count }
-    ensures { (format : ℕ) → result ≡ unlessFaulty (faultIn (parentsWritten format (fields_of file.now line))) (value (itsParent format (fields_of file.now line))) (highestIn format (fields_of file.now line)) }
+    requires { (classes.now ≡ class_table) × Whole file.now line places.now count }
+    ensures { (format : ℕ) → result ≡ unless_faulty (fault_in (parents_written format (fields_of file.now line))) (value (its_parent format (fields_of file.now line))) (highest_in format (fields_of file.now line)) }
 {
     let read = numbers::read_parent(fields::field(file, line, places, 4), classes);
     let Number::Good(parent) = read else {
@@ -44,7 +44,7 @@ fn parents_written(
 // 10
 fn tags_short(file: &[u8], line: Line, places: &Places, count: usize, table: usize) -> Fault
     requires { Whole file.now line places.now count }
-    ensures { (format : ℕ) → result ≡ faultIn (tagsShort format (fields_of file.now line) table) }
+    ensures { (format : ℕ) → result ≡ fault_in (tags_short format (fields_of file.now line) table) }
 {
     if !fields::is_short(file, line, places, 1, table) {
         return fields::fault_at(places, refusals::BAD_TEXT, 1);
@@ -69,7 +69,7 @@ fn tags_known(
     hints: &[u8; table_sheet::HINTS],
 ) -> Fault
     requires { Whole file.now line places.now count × Tabled file.now sheet.now × (table < 7) }
-    ensures { (format : ℕ) → result ≡ faultIn (tagsKnown format (fields_of file.now line) (tablesIn file.now sheet.now) table) }
+    ensures { (format : ℕ) → result ≡ fault_in (tags_known format (fields_of file.now line) (tables_in file.now sheet.now) table) }
 {
     if !fields::is_known(file, line, places, 1, table, sheet, hints) {
         return fields::fault_at(places, refusals::UNKNOWN_TAG, 1);
@@ -93,8 +93,8 @@ fn parents_allowed(
     parent: u32,
     classes: &[u8; 256],
 ) -> Fault
-    requires { (classes.now ≡ classTable) × Whole file.now line places.now count × (parent ≡ value (itsParent 0 (fields_of file.now line))) }
-    ensures { (format : ℕ) → result ≡ faultIn (parentsAllowed format (fields_of file.now line) number) }
+    requires { (classes.now ≡ class_table) × Whole file.now line places.now count × (parent ≡ value (its_parent 0 (fields_of file.now line))) }
+    ensures { (format : ℕ) → result ≡ fault_in (parents_allowed format (fields_of file.now line) number) }
 {
     if !fields::has_parent(file, line, places, number, parent) {
         return fields::fault_at(places, refusals::WRONG_PARENT, 4);
@@ -112,8 +112,8 @@ pub fn judge(
     hints: &[u8; table_sheet::HINTS],
     classes: &[u8; 256],
 ) -> Judged
-    requires { (classes.now ≡ classTable) × Whole file.now line places.now own.count × Tabled file.now sheet.now × (own.tags < 7) }
-    ensures { (format : ℕ) → result ≡ unlessFaulty (firstFault format (fields_of file.now line) (tablesIn file.now sheet.now) own.tags own.number own.limits) (value (itsParent format (fields_of file.now line))) (highestIn format (fields_of file.now line)) }
+    requires { (classes.now ≡ class_table) × Whole file.now line places.now own.count × Tabled file.now sheet.now × (own.tags < 7) }
+    ensures { (format : ℕ) → result ≡ unless_faulty (first_fault format (fields_of file.now line) (tables_in file.now sheet.now) own.tags own.number own.limits) (value (its_parent format (fields_of file.now line))) (highest_in format (fields_of file.now line)) }
 {
     let count = own.count;
     let limits = own.limits;

@@ -5,21 +5,21 @@ mod pairs;
 pub mod plain;
 
 ghost use Rattle.std.specs.Prelude.{◌≡◌, not, ◌&&◌, List, ℕ, ◌+◌, ◌-◌, ◌≤◌, ◌/◌, length, leb, ltb};
-ghost use Rattle.rules.specs.Bytes.{classTable};
+ghost use Rattle.rules.specs.Bytes.{class_table};
 ghost use Rattle.rules.specs.Texts.{Text};
 ghost use Rattle.rules.specs.Columns.{comment};
-ghost use Rattle.rules.specs.Numbers.{fileLimit, wordLimit, edgeLimit, phraseNumber, value};
+ghost use Rattle.rules.specs.Numbers.{file_limit, word_limit, edge_limit, phrase_number, value};
 ghost use Rattle.rules.specs.Lists.{pick};
 ghost use Rattle.rules.specs.Sentences.{SoFar};
-ghost use Rattle.rules.specs.Lines.{takenAs, word_line, phraseLine};
-ghost use Rattle.rules.specs.Nodes.{itsParent, node_of, shaped, word_of, phraseOf};
-ghost use Rattle.rules.specs.Highest.{highestParent};
-ghost use Rattle.columns.specs.Listing.{line_of, columnsOf, span_of, Listed};
-ghost use Rattle.table_sheet.specs.SheetRows.{tablesIn};
+ghost use Rattle.rules.specs.Lines.{taken_as, word_line, phrase_line};
+ghost use Rattle.rules.specs.Nodes.{its_parent, node_of, shaped, word_of, phrase_of};
+ghost use Rattle.rules.specs.Highest.{highest_parent};
+ghost use Rattle.columns.specs.Listing.{line_of, columns_of, span_of, Listed};
+ghost use Rattle.table_sheet.specs.SheetRows.{tables_in};
 ghost use Rattle.citations.specs.Tabled.{Tabled};
-ghost use Rattle.steps.specs.Faults.{noFault};
-ghost use Rattle.steps.specs.Steps.{nodeSaid, step_of};
-ghost use Rattle.nodes.specs.NodeLines.{columnLimit, fields_of, phraseCount, marked, Whole};
+ghost use Rattle.steps.specs.Faults.{no_fault};
+ghost use Rattle.steps.specs.Steps.{node_said, step_of};
+ghost use Rattle.nodes.specs.NodeLines.{column_limit, fields_of, phrase_count, marked, Whole};
 
 use columns::listing;
 use columns::listing::{Line, Places, Span};
@@ -39,7 +39,7 @@ fn is_shaped(count: usize) -> bool
 }
 
 fn count_pairs(count: usize) -> u32
-    requires { (5 ≤ count) × (count ≤ columnLimit) }
+    requires { (5 ≤ count) × (count ≤ column_limit) }
     ensures { result ≡ (count - 5) / 2 }
 {
     ((count - 5) / 2) as u32
@@ -51,8 +51,8 @@ pub const WORD_LIMIT: u32 = 500;
 const EDGE_LIMIT: u32 = 512;
 
 fn has_room(words: u32, edges: u32, count: usize) -> bool
-    requires { (edges ≤ edgeLimit) × (5 ≤ count) × (count ≤ columnLimit) }
-    ensures { result ≡ (ltb words wordLimit && leb (edges + (count - 5) / 2) edgeLimit) }
+    requires { (edges ≤ edge_limit) × (5 ≤ count) × (count ≤ column_limit) }
+    ensures { result ≡ (ltb words word_limit && leb (edges + (count - 5) / 2) edge_limit) }
 {
     if WORD_LIMIT <= words {
         return false;
@@ -61,7 +61,7 @@ fn has_room(words: u32, edges: u32, count: usize) -> bool
 }
 
 fn fault_of(line: Line, number: u32) -> Fault
-    requires { line.start ≤ fileLimit }
+    requires { line.start ≤ file_limit }
     ensures { result ≡ record { number = number; place = line.start } }
 {
     let place = line.start as u32;
@@ -69,8 +69,8 @@ fn fault_of(line: Line, number: u32) -> Fault
 }
 
 fn word_limits(line: Line, words: u32, edges: u32, count: usize) -> Fault
-    requires { (line.start ≤ fileLimit) × (edges ≤ edgeLimit) × (5 ≤ count) × (count ≤ columnLimit) }
-    ensures { result ≡ pick (ltb words wordLimit && leb (edges + (count - 5) / 2) edgeLimit) noFault (record { number = 16; place = line.start }) }
+    requires { (line.start ≤ file_limit) × (edges ≤ edge_limit) × (5 ≤ count) × (count ≤ column_limit) }
+    ensures { result ≡ pick (ltb words word_limit && leb (edges + (count - 5) / 2) edge_limit) no_fault (record { number = 16; place = line.start }) }
 {
     if has_room(words, edges, count) {
         return Fault {
@@ -90,8 +90,8 @@ fn phrase_limits(
     edges: u32,
     count: usize,
 ) -> Fault
-    requires { (line.start ≤ fileLimit) × (edges ≤ edgeLimit) × (5 ≤ count) × (count ≤ columnLimit) × (phraseNumber.lowest ≤ number) × (number ≤ phraseNumber.highest) × (length marks.now ≡ phraseCount) }
-    ensures { result ≡ pick (leb (edges + (count - 5) / 2) edgeLimit) (pick (not (marked marks.now stamp number)) noFault (record { number = 17; place = line.start })) (record { number = 16; place = line.start }) }
+    requires { (line.start ≤ file_limit) × (edges ≤ edge_limit) × (5 ≤ count) × (count ≤ column_limit) × (phrase_number.lowest ≤ number) × (number ≤ phrase_number.highest) × (length marks.now ≡ phrase_count) }
+    ensures { result ≡ pick (leb (edges + (count - 5) / 2) edge_limit) (pick (not (marked marks.now stamp number)) no_fault (record { number = 17; place = line.start })) (record { number = 16; place = line.start }) }
 {
     if !has_room(0, edges, count) {
         return fault_of(line, refusals::SENTENCE_FULL);
@@ -116,7 +116,7 @@ fn node_said(
     highest: u32,
 ) -> NodeSaid
     requires { (file : List ℕ) × Whole file line places.now count }
-    ensures { (file : List ℕ) (format : ℕ) (t : Text) → Whole file line places.now count → word ≡ span_of t → parent ≡ value (itsParent format (fields_of file line)) → highest ≡ highestParent (node_of format (fields_of file line) number t (comment (columnsOf file line))) → result ≡ nodeSaid (node_of format (fields_of file line) number t (comment (columnsOf file line))) }
+    ensures { (file : List ℕ) (format : ℕ) (t : Text) → Whole file line places.now count → word ≡ span_of t → parent ≡ value (its_parent format (fields_of file line)) → highest ≡ highest_parent (node_of format (fields_of file line) number t (comment (columns_of file line))) → result ≡ node_said (node_of format (fields_of file line) number t (comment (columns_of file line))) }
 {
     let tag = listing::column_span(line, places, 1);
     let morphology = listing::column_span(line, places, 2);
@@ -148,8 +148,8 @@ pub fn word_line(
     hints: &[u8; table_sheet::HINTS],
     classes: &[u8; 256],
 ) -> Step
-    requires { (classes.now ≡ classTable) × Listed file.now line places.now × Tabled file.now sheet.now × (edges ≤ edgeLimit) }
-    ensures { (format : ℕ) (s : SoFar) → s.words ≡ words → s.no-phrase ≡ no_phrase → s.edges ≡ edges → result ≡ step_of (takenAs word_line (word_of format (tablesIn file.now sheet.now) s (line_of file.now line))) }
+    requires { (classes.now ≡ class_table) × Listed file.now line places.now × Tabled file.now sheet.now × (edges ≤ edge_limit) }
+    ensures { (format : ℕ) (s : SoFar) → s.words ≡ words → s.no_phrase ≡ no_phrase → s.edges ≡ edges → result ≡ step_of (taken_as word_line (word_of format (tables_in file.now sheet.now) s (line_of file.now line))) }
 {
     let start = line.start;
     if !no_phrase {
@@ -188,8 +188,8 @@ pub fn phrase_line(
     hints: &[u8; table_sheet::HINTS],
     classes: &[u8; 256],
 ) -> Step
-    requires { (classes.now ≡ classTable) × Listed file.now line places.now × Tabled file.now sheet.now × (edges ≤ edgeLimit) × (length marks.now ≡ phraseCount) }
-    ensures { (format : ℕ) (s : SoFar) → s.edges ≡ edges → ((n : ℕ) → s.given-before n ≡ marked marks.now stamp n) → result ≡ step_of (takenAs phraseLine (phraseOf format (tablesIn file.now sheet.now) s (line_of file.now line))) }
+    requires { (classes.now ≡ class_table) × Listed file.now line places.now × Tabled file.now sheet.now × (edges ≤ edge_limit) × (length marks.now ≡ phrase_count) }
+    ensures { (format : ℕ) (s : SoFar) → s.edges ≡ edges → ((n : ℕ) → s.given_before n ≡ marked marks.now stamp n) → result ≡ step_of (taken_as phrase_line (phrase_of format (tables_in file.now sheet.now) s (line_of file.now line))) }
 {
     let start = line.start;
     let count = listing::count_fields(file, line, places);

@@ -1,11 +1,11 @@
 // The pairs of secondary label and secondary parent behind a line's fifth field: columns 5 and 6, 7 and 8, and so on.
 ghost use Rattle.std.specs.Prelude.{◌≡◌, map};
-ghost use Rattle.rules.specs.Bytes.{classTable};
+ghost use Rattle.rules.specs.Bytes.{class_table};
 ghost use Rattle.rules.specs.Highest.{larger};
-ghost use Rattle.table_sheet.specs.SheetRows.{tablesIn};
+ghost use Rattle.table_sheet.specs.SheetRows.{tables_in};
 ghost use Rattle.citations.specs.Tabled.{Tabled};
-ghost use Rattle.steps.specs.Faults.{faultIn};
-ghost use Rattle.nodes.specs.NodeLines.{fields_of, pairsFrom, Whole, parentWritten, labelShort, labelKnown, parentDiffers, highestOf, unlessFaulty};
+ghost use Rattle.steps.specs.Faults.{fault_in};
+ghost use Rattle.nodes.specs.NodeLines.{fields_of, pairs_from, Whole, parent_written, label_short, label_known, parent_differs, highest_of, unless_faulty};
 
 use crate::fields;
 use columns::listing::{Line, Places};
@@ -28,8 +28,8 @@ pub fn parents_written(
     parent: u32,
     classes: &[u8; 256],
 ) -> Judged
-    requires { (classes.now ≡ classTable) × Whole file.now line places.now count }
-    ensures { result ≡ unlessFaulty (faultIn (map parentWritten (pairsFrom (fields_of file.now line) 5))) parent (larger parent (highestOf (pairsFrom (fields_of file.now line) 5))) }
+    requires { (classes.now ≡ class_table) × Whole file.now line places.now count }
+    ensures { result ≡ unless_faulty (fault_in (map parent_written (pairs_from (fields_of file.now line) 5))) parent (larger parent (highest_of (pairs_from (fields_of file.now line) 5))) }
 {
     let mut highest = parent;
     let mut k = 5;
@@ -47,7 +47,7 @@ pub fn parents_written(
 // 10
 pub fn labels_short(file: &[u8], line: Line, places: &Places, count: usize) -> Fault
     requires { Whole file.now line places.now count }
-    ensures { result ≡ faultIn (map labelShort (pairsFrom (fields_of file.now line) 5)) }
+    ensures { result ≡ fault_in (map label_short (pairs_from (fields_of file.now line) 5)) }
 {
     let mut k = 5;
     while k < count {
@@ -72,7 +72,7 @@ pub fn labels_known(
     hints: &[u8; table_sheet::HINTS],
 ) -> Fault
     requires { Whole file.now line places.now count × Tabled file.now sheet.now }
-    ensures { result ≡ faultIn (map (labelKnown (tablesIn file.now sheet.now)) (pairsFrom (fields_of file.now line) 5)) }
+    ensures { result ≡ fault_in (map (label_known (tables_in file.now sheet.now)) (pairs_from (fields_of file.now line) 5)) }
 {
     let mut k = 5;
     while k < count {
@@ -104,8 +104,8 @@ pub fn parents_differ(
     number: u32,
     classes: &[u8; 256],
 ) -> Fault
-    requires { (classes.now ≡ classTable) × Whole file.now line places.now count }
-    ensures { result ≡ faultIn (map (parentDiffers number) (pairsFrom (fields_of file.now line) 5)) }
+    requires { (classes.now ≡ class_table) × Whole file.now line places.now count }
+    ensures { result ≡ fault_in (map (parent_differs number) (pairs_from (fields_of file.now line) 5)) }
 {
     let mut k = 5;
     while k < count {

@@ -3,13 +3,13 @@
 use Rattle.std.specs.Prelude.{ℕ, Bool, List, eqb, ltb, leb}
 use Rattle.std.proofs.Math.Option.{Option}
 use Rattle.rules.specs.Lists.{pick}
-use Rattle.rules.specs.Numbers.{phraseNumber, number, parentNumber}
+use Rattle.rules.specs.Numbers.{phrase_number, number, parent_number}
 use Rattle.numbers.specs.declared.NodeRange.{NodeRange}
 use Rattle.numbers.specs.declared.NodeRange.TheVariants.{Root, Word, Phrase, Above}
 
 abbrev pub range_of : ℕ → NodeRange
-range_of n = pick (eqb n 0) Root (pick (ltb n phraseNumber.lowest) Word (pick (leb n phraseNumber.highest) Phrase Above))
+range_of n = pick (eqb n 0) Root (pick (ltb n phrase_number.lowest) Word (pick (leb n phrase_number.highest) Phrase Above))
 
 -- a phrase's number, or 0 where the root may stand
-abbrev pub phraseOrRoot : Bool → List ℕ → Option ℕ
-phraseOrRoot or-root xs = pick or-root (parentNumber xs) (number phraseNumber xs)
+abbrev pub phrase_or_root : Bool → List ℕ → Option ℕ
+phrase_or_root or_root xs = pick or_root (parent_number xs) (number phrase_number xs)

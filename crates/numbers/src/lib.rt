@@ -4,12 +4,12 @@ pub mod quick;
 
 ghost use Rattle.std.specs.Prelude.{◌≡◌};
 ghost use Rattle.rules.specs.Lists.{same, bytes};
-ghost use Rattle.rules.specs.Bytes.{classTable};
-ghost use Rattle.rules.specs.Numbers.{plain, number, sentenceNumber, originId, date, formatNumber, phraseNumber, signedId, parentNumber};
+ghost use Rattle.rules.specs.Bytes.{class_table};
+ghost use Rattle.rules.specs.Numbers.{plain, number, sentence_number, origin_id, date, format_number, phrase_number, signed_id, parent_number};
 ghost use Rattle.rules.specs.Keywords.{digits};
 ghost use Rattle.rules.specs.Highest.{larger};
 ghost use Rattle.numbers.specs.Answers.{as_number, kind};
-ghost use Rattle.numbers.specs.Ranges.{range_of, phraseOrRoot};
+ghost use Rattle.numbers.specs.Ranges.{range_of, phrase_or_root};
 
 const DIGIT_CLASS: u8 = 2;
 
@@ -36,7 +36,7 @@ fn is_plain(s: &[u8]) -> bool
 
 // Once the value is past the highest, the number is bad whatever follows: nothing overflows.
 fn read_within(s: &[u8], classes: &[u8; 256], lowest: u32, highest: u32) -> Number
-    requires { classes.now ≡ classTable }
+    requires { classes.now ≡ class_table }
     ensures { result ≡ as_number (number (kind lowest highest) s.now) }
 {
     if !is_plain(s) {
@@ -73,8 +73,8 @@ impl SentenceNumber {
     pub const HIGHEST: u32 = 65535;
 
     pub fn read(s: &[u8], classes: &[u8; 256]) -> Number
-        requires { classes.now ≡ classTable }
-        ensures { result ≡ as_number (number sentenceNumber s.now) }
+        requires { classes.now ≡ class_table }
+        ensures { result ≡ as_number (number sentence_number s.now) }
     {
         read_within(s, classes, SentenceNumber::LOWEST, SentenceNumber::HIGHEST)
     }
@@ -89,8 +89,8 @@ impl OriginId {
     pub const HIGHEST: u32 = 65535;
 
     pub fn read(s: &[u8], classes: &[u8; 256]) -> Number
-        requires { classes.now ≡ classTable }
-        ensures { result ≡ as_number (number originId s.now) }
+        requires { classes.now ≡ class_table }
+        ensures { result ≡ as_number (number origin_id s.now) }
     {
         read_within(s, classes, OriginId::LOWEST, OriginId::HIGHEST)
     }
@@ -105,7 +105,7 @@ impl Date {
     pub const HIGHEST: u32 = 4294967295;
 
     pub fn read(s: &[u8], classes: &[u8; 256]) -> Number
-        requires { classes.now ≡ classTable }
+        requires { classes.now ≡ class_table }
         ensures { result ≡ as_number (number date s.now) }
     {
         read_within(s, classes, Date::LOWEST, Date::HIGHEST)
@@ -121,8 +121,8 @@ impl FormatNumber {
     pub const HIGHEST: u32 = 65535;
 
     pub fn read(s: &[u8], classes: &[u8; 256]) -> Number
-        requires { classes.now ≡ classTable }
-        ensures { result ≡ as_number (number formatNumber s.now) }
+        requires { classes.now ≡ class_table }
+        ensures { result ≡ as_number (number format_number s.now) }
     {
         read_within(s, classes, FormatNumber::LOWEST, FormatNumber::HIGHEST)
     }
@@ -138,8 +138,8 @@ impl PhraseNumber {
     pub const HIGHEST: u32 = 999;
 
     pub fn read(s: &[u8], classes: &[u8; 256]) -> Number
-        requires { classes.now ≡ classTable }
-        ensures { result ≡ as_number (number phraseNumber s.now) }
+        requires { classes.now ≡ class_table }
+        ensures { result ≡ as_number (number phrase_number s.now) }
     {
         read_node(s, classes, false)
     }
@@ -169,8 +169,8 @@ const HIGHEST_READ: u32 = 4294967295;
 
 // A phrase's number, or 0 where the root may stand: the digits are read first, and their range decides.
 fn read_node(s: &[u8], classes: &[u8; 256], or_root: bool) -> Number
-    requires { classes.now ≡ classTable }
-    ensures { result ≡ as_number (phraseOrRoot or_root s.now) }
+    requires { classes.now ≡ class_table }
+    ensures { result ≡ as_number (phrase_or_root or_root s.now) }
 {
     let read = read_within(s, classes, 0, HIGHEST_READ);
     let Number::Good(n) = read else {
@@ -191,8 +191,8 @@ fn read_node(s: &[u8], classes: &[u8; 256], or_root: bool) -> Number
 
 // A parent is the root's 0 or a phrase's number.
 pub fn read_parent(s: &[u8], classes: &[u8; 256]) -> Number
-    requires { classes.now ≡ classTable }
-    ensures { result ≡ as_number (parentNumber s.now) }
+    requires { classes.now ≡ class_table }
+    ensures { result ≡ as_number (parent_number s.now) }
 {
     read_node(s, classes, true)
 }
@@ -219,8 +219,8 @@ impl EditorId {
     pub const HIGHEST: i32 = 65535;
 
     pub fn read(s: &[u8], classes: &[u8; 256]) -> Number
-        requires { classes.now ≡ classTable }
-        ensures { result ≡ as_number (signedId s.now) }
+        requires { classes.now ≡ class_table }
+        ensures { result ≡ as_number (signed_id s.now) }
     {
         if is_minus_one(s) {
             return Number::Good((Self::LOWEST + 1) as u32);
@@ -244,7 +244,7 @@ pub fn larger_of(m: u32, n: u32) -> u32
 
 // What stands behind the # of a phrase's line.
 pub fn all_digits(s: &[u8], classes: &[u8; 256]) -> bool
-    requires { classes.now ≡ classTable }
+    requires { classes.now ≡ class_table }
     ensures { result ≡ digits s.now }
 {
     if s.len() == 0 {

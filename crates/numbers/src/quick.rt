@@ -1,7 +1,7 @@
 // A phrase's number at a glance: three digits that stand at a place of the file, without a walk along the column.
 ghost use Rattle.std.specs.Prelude.{◌≡◌, ◌≢◌, ◌+◌, ◌≤◌, length, take, drop};
 ghost use Rattle.std.proofs.Math.Option.{some};
-ghost use Rattle.rules.specs.Numbers.{number, phraseNumber, parentNumber};
+ghost use Rattle.rules.specs.Numbers.{number, phrase_number, parent_number};
 
 use crate::ZERO;
 
@@ -12,7 +12,7 @@ const NINE: u8 = 57;
 // The phrase's number that three digits write; 0 for any other text.
 pub fn three_digits(file: &[u8], at: usize) -> u32
     requires { at + 3 ≤ length file.now }
-    ensures { result ≢ 0 → (parentNumber (take 3 (drop at file.now)) ≡ some result) × (number phraseNumber (take 3 (drop at file.now)) ≡ some result) × (500 ≤ result) × (result ≤ 999) }
+    ensures { result ≢ 0 → (parent_number (take 3 (drop at file.now)) ≡ some result) × (number phrase_number (take 3 (drop at file.now)) ≡ some result) × (500 ≤ result) × (result ≤ 999) }
 {
     let first = file[at];
     if first < FIVE || NINE < first {

@@ -2,13 +2,13 @@
 -- opening answers and leaves.
 use Rattle.std.specs.Prelude.{ℕ, ◌≡◌, List, length, replicate}
 use Rattle.rules.specs.Sentences.{Sentence}
-use Rattle.rules.specs.Sheets.{sentenceSheet, edgeList}
-use Rattle.rules.specs.Layout.{flatList}
+use Rattle.rules.specs.Sheets.{sentence_sheet, edge_list}
+use Rattle.rules.specs.Layout.{flat_list}
 use Rattle.rules.specs.LentBuffers.{SheetsSized}
 
 pub record FlatSized (sheet edges : List ℕ) : Type 0 where
-  pub sentence-sheet : length sheet ≡ 11009
-  pub edge-list : length edges ≡ 2048
+  pub sentence_sheet_lem : length sheet ≡ 11009
+  pub edge_list_lem : length edges ≡ 2048
 
 pub record AllFlatSized (tables seen sheet edges : List ℕ) : Type 0 where
   pub sheets : SheetsSized tables seen
@@ -32,12 +32,12 @@ pub record LeftThere : Type 0 where
   pub sheet : List ℕ
   pub edges : List ℕ
 
-abbrev pub leftThere : ℕ → List ℕ → List ℕ → LeftThere
-leftThere r sheet edges = record { answer = r; sheet = sheet; edges = edges }
+abbrev pub left_there : ℕ → List ℕ → List ℕ → LeftThere
+left_there r sheet edges = record { answer = r; sheet = sheet; edges = edges }
 
 -- 24 and zeros; 0 with a sentence's sheet and list
 abbrev pub nothing : LeftThere
-nothing = leftThere 24 (replicate 11009 0) (replicate 2048 0)
+nothing = left_there 24 (replicate 11009 0) (replicate 2048 0)
 
-abbrev pub openedWith : Sentence → LeftThere
-openedWith s = leftThere 0 (sentenceSheet s) (flatList (edgeList s))
+abbrev pub opened_with : Sentence → LeftThere
+opened_with s = left_there 0 (sentence_sheet s) (flat_list (edge_list s))

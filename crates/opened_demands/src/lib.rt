@@ -3,7 +3,7 @@
 ghost use Rattle.std.specs.Prelude.{◌≡◌};
 ghost use Rattle.rules.specs.LentBuffers.{WithinLimit};
 ghost use Rattle.opened_demands.specs.ClimbingSheets.{SheetClimbs};
-ghost use Rattle.opened_demands.specs.Calls.{FlatSized, AllFlatSized, left, leftThere};
+ghost use Rattle.opened_demands.specs.Calls.{FlatSized, AllFlatSized, left, left_there};
 ghost use Rattle.opened_demands.specs.OpenedRules.{OpenedByNumber, OpenedAtPlace};
 
 // The answers of two openings.
@@ -49,9 +49,9 @@ pub fn opened_at_twice(
     edges2: &mut [u32],
 ) -> Two
     ensures only { sheet.old ≡ sheet2.old → edges.old ≡ edges2.old
-        → leftThere result.first sheet.new edges.new ≡ leftThere result.second sheet2.new edges2.new }
+        → left_there result.first sheet.new edges.new ≡ left_there result.second sheet2.new edges2.new }
     ensures fresh { WithinLimit file.now → FlatSized sheet.old edges.old → FlatSized sheet2.old edges2.old
-        → leftThere result.first sheet.new edges.new ≡ leftThere result.second sheet2.new edges2.new }
+        → left_there result.first sheet.new edges.new ≡ left_there result.second sheet2.new edges2.new }
 {
     let first = opening::open_flat_at(file, place, sheet, edges);
     let second = opening::open_flat_at(file, place, sheet2, edges2);
@@ -77,7 +77,7 @@ pub fn climbing(
 // Demand 2: the same at any place of any file.
 pub fn climbing_at(file: &[u8], place: u32, sheet: &mut [u32], edges: &mut [u32]) -> u32
     ensures climbs { result ≡ 0 → SheetClimbs sheet.new edges.new }
-    ensures whole { OpenedAtPlace file.now place sheet.old edges.old (leftThere result sheet.new edges.new) }
+    ensures whole { OpenedAtPlace file.now place sheet.old edges.old (left_there result sheet.new edges.new) }
 {
     opening::open_flat_at(file, place, sheet, edges)
 }

@@ -6,11 +6,11 @@ use mathlib.Core.Path.{◌≡◌, ap}
 use mathlib.Core.List.{List, [], ◌∷◌}
 use lib.ListN.{length, take, drop}
 
-pub take-most : (n : ℕ) (l : List ℕ) → length (take n l) ≤ n
-take-most zero l = le_refl 0
-take-most (suc n) [] = omega arith
-take-most (suc n) (x ∷ l) = omega (arith, take-most n l)
+pub take_most : (n : ℕ) (l : List ℕ) → length (take n l) ≤ n
+take_most zero l = le_refl 0
+take_most (suc n) [] = omega arith
+take_most (suc n) (x ∷ l) = omega (arith, take_most n l)
 
 -- from a start to an end that is told by a length
-pub part-is : (file : List ℕ) (start len : ℕ) → take (start + len - start) (drop start file) ≡ take len (drop start file)
-part-is file start len = ap (λ (n : ℕ). take n (drop start file)) (add-sub_cancel_left start len)
+pub part_is : (file : List ℕ) (start len : ℕ) → take (start + len - start) (drop start file) ≡ take len (drop start file)
+part_is file start len = ap (λ (n : ℕ). take n (drop start file)) (add-sub_cancel_left start len)

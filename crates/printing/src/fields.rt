@@ -3,11 +3,11 @@ ghost use Rattle.std.specs.Prelude.{◌≡◌, ◌∷◌, length, ◌+◌, ◌�
 ghost use Rattle.rules.specs.Tidy.{commented};
 ghost use Rattle.printing.specs.Over.{farthest, Put};
 ghost use Rattle.printing.specs.Further.{further, text_of};
-ghost use Rattle.printing.specs.Fields.{textMost, fieldText, FieldInside};
+ghost use Rattle.printing.specs.Fields.{text_most, field_text, FieldInside};
 
 fn text_at<'a>(file: &'a [u8], sheet: &[u32], start: usize, len: usize) -> &'a [u8]
     requires { FieldInside file.now sheet.now start len }
-    ensures { (result.now ≡ fieldText file.now sheet.now start len) × (length result.now ≤ textMost) }
+    ensures { (result.now ≡ field_text file.now sheet.now start len) × (length result.now ≤ text_most) }
 {
     let from = sheet[start] as usize;
     let count = sheet[len] as usize;
@@ -22,8 +22,8 @@ pub fn put_name(
     out: &mut [u8],
     at: usize,
 ) -> usize
-    requires { FieldInside file.now sheet.now start len × (at + textMost ≤ farthest) }
-    ensures { Put textMost (fieldText file.now sheet.now start len) at out.old result out.new }
+    requires { FieldInside file.now sheet.now start len × (at + text_most ≤ farthest) }
+    ensures { Put text_most (field_text file.now sheet.now start len) at out.old result out.new }
 {
     crate::put_text(text_at(file, sheet, start, len), out, at)
 }
@@ -37,8 +37,8 @@ pub fn put_field(
     out: &mut [u8],
     at: usize,
 ) -> usize
-    requires { FieldInside file.now sheet.now start len × (at + (1 + textMost) ≤ farthest) }
-    ensures { Put (1 + textMost) (by ∷ fieldText file.now sheet.now start len) at out.old result out.new }
+    requires { FieldInside file.now sheet.now start len × (at + (1 + text_most) ≤ farthest) }
+    ensures { Put (1 + text_most) (by ∷ field_text file.now sheet.now start len) at out.old result out.new }
 {
     let parted = crate::put_byte(by, out, at);
     put_name(file, sheet, start, len, out, parted)
@@ -53,8 +53,8 @@ pub fn put_note(
     out: &mut [u8],
     at: usize,
 ) -> usize
-    requires { FieldInside file.now sheet.now start len × (at + (4 + textMost) ≤ farthest) }
-    ensures { Put (4 + textMost) (further by (commented (text_of (fieldText file.now sheet.now start len)))) at out.old result out.new }
+    requires { FieldInside file.now sheet.now start len × (at + (4 + text_most) ≤ farthest) }
+    ensures { Put (4 + text_most) (further by (commented (text_of (field_text file.now sheet.now start len)))) at out.old result out.new }
 {
     crate::put_comment(by, text_at(file, sheet, start, len), out, at)
 }

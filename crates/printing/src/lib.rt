@@ -4,7 +4,7 @@ pub mod digits;
 pub mod fields;
 
 ghost use Rattle.std.specs.Prelude.{◌≡◌, [], ◌∷◌, ◌+◌, ◌≤◌, length, take};
-ghost use Rattle.rules.specs.Tidy.{digitsOf, keywordLine, commented};
+ghost use Rattle.rules.specs.Tidy.{digits_of, keyword_line, commented};
 ghost use Rattle.printing.specs.Over.{over, farthest, Put};
 ghost use Rattle.printing.specs.Further.{further, text_of};
 
@@ -57,7 +57,7 @@ pub fn put_column(by: u8, text: &[u8], out: &mut [u8], at: usize) -> usize
 
 pub fn put_number_column(by: u8, n: u32, out: &mut [u8], at: usize) -> usize
     requires { at + 11 ≤ farthest }
-    ensures { Put 11 (by ∷ digitsOf n) at out.old result out.new }
+    ensures { Put 11 (by ∷ digits_of n) at out.old result out.new }
 {
     let parted = put_byte(by, out, at);
     digits::put_number(n, out, parted)
@@ -78,7 +78,7 @@ pub fn put_comment(by: u8, text: &[u8], out: &mut [u8], at: usize) -> usize
 // A line of a keyword and a name.
 pub fn put_keyword(keyword: &[u8], name: &[u8], out: &mut [u8], at: usize) -> usize
     requires { at + (length keyword.now + (1 + length name.now) + 1) ≤ farthest }
-    ensures { Put (length keyword.now + (1 + length name.now) + 1) (keywordLine (keyword.now ∷ name.now ∷ [])) at out.old result out.new }
+    ensures { Put (length keyword.now + (1 + length name.now) + 1) (keyword_line (keyword.now ∷ name.now ∷ [])) at out.old result out.new }
 {
     let signed = put_text(keyword, out, at);
     let named = put_column(b' ', name, out, signed);

@@ -10,40 +10,40 @@ use types.Run.{OneOf}
 use denote.Enum.Declared.{tag_of}
 use Rattle.rules.specs.Bytes.{ignored}
 use Rattle.rules.specs.Texts.{Text}
-use Rattle.rules.specs.Numbers.{fileLimit}
+use Rattle.rules.specs.Numbers.{file_limit}
 use Rattle.rules.specs.Rules.{Verdict, refused, granted}
-use Rattle.rules.specs.Keywords.{firstColumn}
-use Rattle.rules.specs.Lines.{Taking, ignoredLine, formatLine, tableBegins, row_line, tableEnds, sentenceBegins, word_line, phraseLine, sentenceEnds}
-use Rattle.rules.specs.Phases.{Phase, behindSentence, Answer, refuse, go, hand, after, next, taken}
+use Rattle.rules.specs.Keywords.{first_column}
+use Rattle.rules.specs.Lines.{Taking, ignored_line, format_line, table_begins, row_line, table_ends, sentence_begins, word_line, phrase_line, sentence_ends}
+use Rattle.rules.specs.Phases.{Phase, behind_sentence, Answer, refuse, go, hand, after, next, taken}
 use Rattle.rules.specs.Reading.{Reading, begin, numbers, ended, read}
 use Rattle.rules.specs.Survey.{last_end}
-use Rattle.lines.specs.LineEnds.{firstLine, lineEnd}
+use Rattle.lines.specs.LineEnds.{first_line, line_end}
 use Rattle.lines.specs.declared.LineEnd.TheVariants.{At}
-use Rattle.lines.proofs.Lines.{at-behind, at-below, at_place, at_take}
-use Rattle.columns.specs.Listing.{textBetween, line_of, columnsOf, Listed}
+use Rattle.lines.proofs.Lines.{at_behind, at_below, at_place, at_take}
+use Rattle.columns.specs.Listing.{text_between, line_of, columns_of, Listed}
 use Rattle.columns.specs.declared.listing.Line.{Line}
-use Rattle.steps.specs.Faults.{brokenBy}
-use Rattle.steps.specs.Steps.{stepFor, step_of}
+use Rattle.steps.specs.Faults.{broken_by}
+use Rattle.steps.specs.Steps.{step_for, step_of}
 use Rattle.steps.specs.declared.Fault.{Fault}
 use Rattle.steps.specs.declared.Step.{Step}
 use Rattle.steps.specs.declared.Step.TheVariants as steps
 use Rattle.steps.specs.contracts.Step.{the_type}
-use Rattle.reading.specs.Effects.{Kept, kept, effect, notedBy, plainStep, Applicable}
-use Rattle.judging.specs.Judging.{judgedBy, Judgeable}
-use Rattle.judging.specs.States.{tallyIn}
+use Rattle.reading.specs.Effects.{Kept, kept, effect, noted_by, plain_step, Applicable}
+use Rattle.judging.specs.Judging.{judged_by, Judgeable}
+use Rattle.judging.specs.States.{tally_in}
 use Rattle.judging.specs.PlainLines.{PlainBy}
 use Rattle.judging.specs.declared.plain.Plain.{Plain}
 use Rattle.judging.specs.declared.plain.Plain.TheVariants as plain
 use Rattle.judging.specs.contracts.plain.Plain as plains
 use Rattle.judging.specs.declared.state.State.{State}
-use Rattle.reading.specs.Closing.{reachedAt, Walked}
-use Rattle.reading.proofs.Keeping.{keptOf, Tied}
-use Rattle.reading.proofs.Moving.{handing, Left, MovesBy, chosen, ignored-moves, line-moves}
-use Rattle.judging.proofs.SameTaking.{same-taking, judgeable}
-use Rattle.lines.proofs.Variants.{not-among}
-use Rattle.lines.proofs.LineSteps.{lineRead, line_here, taken_step}
-use Rattle.reading.proofs.RowsSound.{rows-sound}
-use Rattle.reading.proofs.Going.{Going, stop-by}
+use Rattle.reading.specs.Closing.{reached_at, Walked}
+use Rattle.reading.proofs.Keeping.{kept_of, Tied}
+use Rattle.reading.proofs.Moving.{handing, Left, MovesBy, chosen, ignored_moves, line_moves}
+use Rattle.judging.proofs.SameTaking.{same_taking, judgeable}
+use Rattle.lines.proofs.Variants.{not_among}
+use Rattle.lines.proofs.LineSteps.{line_read, line_here, taken_step}
+use Rattle.reading.proofs.RowsSound.{rows_sound}
+use Rattle.reading.proofs.Going.{Going, stop_by}
 
 -- ---- which step it is
 
@@ -55,38 +55,38 @@ taking = 0 ∷ 1 ∷ 2 ∷ 3 ∷ 4 ∷ 5 ∷ 6 ∷ 7 ∷ 8 ∷ []
 abbrev pub quick : List ℕ
 quick = 0 ∷ 1 ∷ []
 
-never-refused : (t : Taking) (f : Fault) → steps.Refused f ≡ stepFor t → ⊥
-never-refused ignoredLine f e = let z : ◌≡◌ {A = ℕ} 0 1 = cc in omega arith
-never-refused (formatLine n) f e = let z : ◌≡◌ {A = ℕ} 0 1 = cc in omega arith
-never-refused (tableBegins n) f e = let z : ◌≡◌ {A = ℕ} 0 1 = cc in omega arith
-never-refused (row_line r) f e = let z : ◌≡◌ {A = ℕ} 0 1 = cc in omega arith
-never-refused tableEnds f e = let z : ◌≡◌ {A = ℕ} 0 1 = cc in omega arith
-never-refused (sentenceBegins h) f e = let z : ◌≡◌ {A = ℕ} 0 1 = cc in omega arith
-never-refused (word_line n) f e = let z : ◌≡◌ {A = ℕ} 0 1 = cc in omega arith
-never-refused (phraseLine n) f e = let z : ◌≡◌ {A = ℕ} 0 1 = cc in omega arith
-never-refused sentenceEnds f e = let z : ◌≡◌ {A = ℕ} 0 1 = cc in omega arith
+never_refused : (t : Taking) (f : Fault) → steps.Refused f ≡ step_for t → ⊥
+never_refused ignored_line f e = let z : ◌≡◌ {A = ℕ} 0 1 = cc in omega arith
+never_refused (format_line n) f e = let z : ◌≡◌ {A = ℕ} 0 1 = cc in omega arith
+never_refused (table_begins n) f e = let z : ◌≡◌ {A = ℕ} 0 1 = cc in omega arith
+never_refused (row_line r) f e = let z : ◌≡◌ {A = ℕ} 0 1 = cc in omega arith
+never_refused table_ends f e = let z : ◌≡◌ {A = ℕ} 0 1 = cc in omega arith
+never_refused (sentence_begins h) f e = let z : ◌≡◌ {A = ℕ} 0 1 = cc in omega arith
+never_refused (word_line n) f e = let z : ◌≡◌ {A = ℕ} 0 1 = cc in omega arith
+never_refused (phrase_line n) f e = let z : ◌≡◌ {A = ℕ} 0 1 = cc in omega arith
+never_refused sentence_ends f e = let z : ◌≡◌ {A = ℕ} 0 1 = cc in omega arith
 
 -- whether it can be taken does not depend on the beginnings
-applies-alike : (y : Step) (size : ℕ) (k : Kept) (begins : List ℕ) → Applicable y size k → Applicable y size (kept k.state k.sheet k.seen k.marks begins)
-applies-alike steps.Ignored size k begins h = h
-applies-alike (steps.Format n) size k begins h = h
-applies-alike (steps.TableBegins n) size k begins h = h
-applies-alike (steps.Row r) size k begins h = h
-applies-alike steps.TableEnds size k begins h = h
-applies-alike (steps.SentenceBegins s) size k begins h = h
-applies-alike (steps.Word n) size k begins h = h
-applies-alike (steps.Phrase n) size k begins h = h
-applies-alike steps.SentenceEnds size k begins h = h
-applies-alike (steps.Refused f) size k begins h = h
+applies_alike : (y : Step) (size : ℕ) (k : Kept) (begins : List ℕ) → Applicable y size k → Applicable y size (kept k.state k.sheet k.seen k.marks begins)
+applies_alike steps.Ignored size k begins h = h
+applies_alike (steps.Format n) size k begins h = h
+applies_alike (steps.TableBegins n) size k begins h = h
+applies_alike (steps.Row r) size k begins h = h
+applies_alike steps.TableEnds size k begins h = h
+applies_alike (steps.SentenceBegins s) size k begins h = h
+applies_alike (steps.Word n) size k begins h = h
+applies_alike (steps.Phrase n) size k begins h = h
+applies_alike steps.SentenceEnds size k begins h = h
+applies_alike (steps.Refused f) size k begins h = h
 
 -- ---- one turn
 
 -- from here on stands a line of the file, and its columns are listed
 pub record LineHere (file : List ℕ) (from size at : ℕ) (k : Kept) (l : Line) (places : List ℕ) : Type 0 where
   pub going : Going file from size at k
-  pub short : length file ≤ fileLimit
+  pub short : length file ≤ file_limit
   pub starts : l.start ≡ at
-  pub ends : lineEnd file at ≡ At l.end
+  pub ends : line_end file at ≡ At l.end
   pub listed : Listed file l places
 
 module _ {file : List ℕ} {from size at : ℕ} {k : Kept} {l : Line} {places : List ℕ} (here : LineHere file from size at k l places) where
@@ -96,14 +96,14 @@ module _ {file : List ℕ} {from size at : ℕ} {k : Kept} {l : Line} {places : 
   abbrev e : ℕ
   e = l.end
 
-  abbrev q : lineEnd file at ≡ At e
+  abbrev q : line_end file at ≡ At e
   q = here.ends
 
   pub onward : at ≤ e
-  onward = at-behind file at e q
+  onward = at_behind file at e q
 
   pub inside : e < length file
-  inside = at-below file at e q
+  inside = at_below file at e q
 
   abbrev r : Reading
   r = g.reading
@@ -115,75 +115,75 @@ module _ {file : List ℕ} {from size at : ℕ} {k : Kept} {l : Line} {places : 
   ns = numbers r.handed
 
   abbrev line : Text
-  line = textBetween file at e
+  line = text_between file at e
 
   abbrev base : Kept
-  base = keptOf k.marks from size r.handed ph
+  base = kept_of k.marks from size r.handed ph
 
-  tied-base : Tied file from size r.handed at ph base
-  tied-base =
+  tied_base : Tied file from size r.handed at ph base
+  tied_base =
       let t = g.tied in
-      record { is = refl; known = t.known; room = t.room; marks-are = t.marks-are; begun = t.begun; phrases = t.phrases; handed = t.handed }
+      record { is = refl; known = t.known; room = t.room; marks_are = t.marks_are; begun = t.begun; phrases = t.phrases; handed = t.handed }
 
   pub ready : Judgeable file k.state k.sheet k.seen k.state.phase
   ready =
       subst (λ (x : Kept). Judgeable file x.state x.sheet x.seen x.state.phase) (sym g.tied.is)
-      (judgeable file ns (length r.handed) (last_end r.handed) k.marks ph g.tied.known (omega (arith, g.tied.phrases, g.in-file)) (omega (arith, g.tied.handed, g.in-file)))
+      (judgeable file ns (length r.handed) (last_end r.handed) k.marks ph g.tied.known (omega (arith, g.tied.phrases, g.in_file)) (omega (arith, g.tied.handed, g.in_file)))
 
   -- the line is taken as the rules take it
   abbrev judged : Verdict Taking
-  judged = judgedBy file (line_of file l) k.state k.sheet k.seen k.marks
+  judged = judged_by file (line_of file l) k.state k.sheet k.seen k.marks
 
-  judged-is : judged ≡ taken ph ns line
-  judged-is =
-      ap (λ (n : ℕ). judgedBy file (textBetween file n e) k.state k.sheet k.seen k.marks) here.starts
-      ∙ ap (λ (x : Kept). judgedBy file line x.state x.sheet x.seen x.marks) g.tied.is
-      ∙ same-taking file ns (length r.handed) (last_end r.handed) k.marks line ph g.tied.known g.tied.marks-are
+  judged_is : judged ≡ taken ph ns line
+  judged_is =
+      ap (λ (n : ℕ). judged_by file (text_between file n e) k.state k.sheet k.seen k.marks) here.starts
+      ∙ ap (λ (x : Kept). judged_by file line x.state x.sheet x.seen x.marks) g.tied.is
+      ∙ same_taking file ns (length r.handed) (last_end r.handed) k.marks line ph g.tied.known g.tied.marks_are
 
-  abbrev bytesHere : List ℕ
-  bytesHere = firstLine (drop at file)
+  abbrev bytes_here : List ℕ
+  bytes_here = first_line (drop at file)
 
-  line-is : line_here file at r g.sound g.unbegun ≡ line
-  line-is = rw (g.line-start, at_take file at e q)
+  line_is : line_here file at r g.sound g.unbegun ≡ line
+  line_is = rw (g.line_start, at_take file at e q)
 
   -- the rest of the file is read behind the line's answer
-  answered : read begin file ≡ read (ended (lineRead r bytesHere) (next (after ph at) (taken ph ns line))) (drop (e + 1) file)
+  answered : read begin file ≡ read (ended (line_read r bytes_here) (next (after ph at) (taken ph ns line))) (drop (e + 1) file)
   answered =
       sym g.rest ∙ taken_step file at r g.sound g.unbegun e q
-      ∙ ap (λ (x : Text). read (ended (lineRead r bytesHere) (next (after ph x.start) (taken ph ns x))) (drop (e + 1) file)) line-is
+      ∙ ap (λ (x : Text). read (ended (line_read r bytes_here) (next (after ph x.start) (taken ph ns x))) (drop (e + 1) file)) line_is
 
-  behind : suc (r.at + length bytesHere) ≡ e + 1
+  behind : suc (r.at + length bytes_here) ≡ e + 1
   behind = omega (arith, g.place, at_place file at e q)
 
-  going-by : (a : Answer) (k' : Kept) → read begin file ≡ read (ended (lineRead r bytesHere) a) (drop (e + 1) file)
+  going_by : (a : Answer) (k' : Kept) → read begin file ≡ read (ended (line_read r bytes_here) a) (drop (e + 1) file)
       → Left file from size r.handed at (e + 1) k.marks a k' → Going file from size (e + 1) k'
-  going-by (refuse b) k' w left = absurd left
-  going-by (go p) k' w left =
+  going_by (refuse b) k' w left = absurd left
+  going_by (go p) k' w left =
       record {
-        reading = ended (lineRead r bytesHere) (go p);
-        in-file = omega (arith, inside);
+        reading = ended (line_read r bytes_here) (go p);
+        in_file = omega (arith, inside);
         place = behind;
-        line-start = behind;
+        line_start = behind;
         unbegun = refl;
         sound = refl;
         rest = sym w;
         tied = left;
       }
-  going-by (hand p y) k' w left =
+  going_by (hand p y) k' w left =
       record {
-        reading = ended (lineRead r bytesHere) (hand p y);
-        in-file = omega (arith, inside);
+        reading = ended (line_read r bytes_here) (hand p y);
+        in_file = omega (arith, inside);
         place = behind;
-        line-start = behind;
+        line_start = behind;
         unbegun = refl;
         sound = refl;
         rest = sym w;
-        tied = subst (λ (n : ℕ). Tied file from size (r.handed ++ (handing n y ∷ [])) (e + 1) (behindSentence p) k') (sym behind) left;
+        tied = subst (λ (n : ℕ). Tied file from size (r.handed ++ (handing n y ∷ [])) (e + 1) (behind_sentence p) k') (sym behind) left;
       }
 
   abbrev Turned : Verdict Taking → Type 0
-  Turned (refused b) = Walked file from size (reachedAt k.state b.number b.about.start) k.sheet k.seen k.begins
-  Turned (granted t) = Applicable (stepFor t) (length file) k × Going file from size (e + 1) (effect from (stepFor t) at (e + 1) k)
+  Turned (refused b) = Walked file from size (reached_at k.state b.number b.about.start) k.sheet k.seen k.begins
+  Turned (granted t) = Applicable (step_for t) (length file) k × Going file from size (e + 1) (effect from (step_for t) at (e + 1) k)
 
   moves : MovesBy file from size r.handed at (e + 1) k.marks ph (taken ph ns line)
   unfolding taken
@@ -193,22 +193,22 @@ module _ {file : List ℕ} {from size at : ℕ} {k : Kept} {l : Line} {places : 
       let few = g.tied.handed in
       let room = g.tied.room in
       chosen file from size r.handed at (e + 1) k.marks ph (ignored line.bytes) _ _
-      (ignored-moves file from size r.handed at (e + 1) k.marks here.short room more within few line ph tied-base)
-      (line-moves file from size r.handed at (e + 1) k.marks here.short room more within few line (rows-sound file at e g.in-file) (firstColumn line) ph tied-base)
+      (ignored_moves file from size r.handed at (e + 1) k.marks here.short room more within few line ph tied_base)
+      (line_moves file from size r.handed at (e + 1) k.marks here.short room more within few line (rows_sound file at e g.in_file) (first_column line) ph tied_base)
 
-  by-verdict : (v : Verdict Taking) → taken ph ns line ≡ v → MovesBy file from size r.handed at (e + 1) k.marks ph v → Turned v
-  by-verdict (refused b) h m =
-      stop-by file from size at k g bytesHere (drop (e + 1) file) b
-      (answered ∙ ap (λ (v : Verdict Taking). read (ended (lineRead r bytesHere) (next (after ph at) v)) (drop (e + 1) file)) h)
-  by-verdict (granted t) h m =
-      subst (λ (x : Kept). Applicable (stepFor t) (length file) x × Going file from size (e + 1) (effect from (stepFor t) at (e + 1) x)) (sym g.tied.is) (
+  by_verdict : (v : Verdict Taking) → taken ph ns line ≡ v → MovesBy file from size r.handed at (e + 1) k.marks ph v → Turned v
+  by_verdict (refused b) h m =
+      stop_by file from size at k g bytes_here (drop (e + 1) file) b
+      (answered ∙ ap (λ (v : Verdict Taking). read (ended (line_read r bytes_here) (next (after ph at) v)) (drop (e + 1) file)) h)
+  by_verdict (granted t) h m =
+      subst (λ (x : Kept). Applicable (step_for t) (length file) x × Going file from size (e + 1) (effect from (step_for t) at (e + 1) x)) (sym g.tied.is) (
         m.applies,
-        going-by (after ph at t) (effect from (stepFor t) at (e + 1) base)
-            (answered ∙ ap (λ (v : Verdict Taking). read (ended (lineRead r bytesHere) (next (after ph at) v)) (drop (e + 1) file)) h) m.left,
+        going_by (after ph at t) (effect from (step_for t) at (e + 1) base)
+            (answered ∙ ap (λ (v : Verdict Taking). read (ended (line_read r bytes_here) (next (after ph at) v)) (drop (e + 1) file)) h) m.left,
       )
 
   turned : Turned judged
-  turned = subst Turned (sym judged-is) (by-verdict (taken ph ns line) refl moves)
+  turned = subst Turned (sym judged_is) (by_verdict (taken ph ns line) refl moves)
 
   -- ---- as the code has it: y is the step that the judge answered
 
@@ -218,45 +218,45 @@ module _ {file : List ℕ} {from size at : ℕ} {k : Kept} {l : Line} {places : 
     goes_on o = by judged turned is
       where
         by : (v : Verdict Taking) → Turned v → y ≡ step_of v → Applicable y (length file) k × ((k' : Kept) → k' ≡ effect from y at (e + 1) k → Going file from size (e + 1) k')
-        by (refused b) t s = absurd (not-among 9 taking refl (subst (λ (x : Step). OneOf taking (tag_of the_type x)) s o))
+        by (refused b) t s = absurd (not_among 9 taking refl (subst (λ (x : Step). OneOf taking (tag_of the_type x)) s o))
         by (granted t) u s = rw s (u.0, λ k' h. subst (Going file from size (e + 1)) (sym h) u.1)
 
     pub applies : OneOf taking (tag_of the_type y)
-        → (l.start ≤ fileLimit) × (e ≤ fileLimit) × Applicable y (length file) (kept k.state k.sheet k.seen k.marks [])
+        → (l.start ≤ file_limit) × (e ≤ file_limit) × Applicable y (length file) (kept k.state k.sheet k.seen k.marks [])
     applies o = (
       omega (arith, here.starts, onward, inside, here.short),
       omega (arith, inside, here.short),
-      applies-alike y (length file) k [] (goes_on o).0,
+      applies_alike y (length file) k [] (goes_on o).0,
     )
 
     -- the beginnings are noted apart
-    pub goes-on-noted : OneOf taking (tag_of the_type y) → (s' : State) (sheet' seen' marks' begins' : List ℕ) → begins' ≡ notedBy from y k.state k.begins
-        → kept s' sheet' seen' marks' (notedBy from y k.state k.begins) ≡ effect from y l.start (e + 1) k → Going file from size (e + 1) (kept s' sheet' seen' marks' begins')
-    goes-on-noted o s' sheet' seen' marks' begins' b p =
+    pub goes_on_noted : OneOf taking (tag_of the_type y) → (s' : State) (sheet' seen' marks' begins' : List ℕ) → begins' ≡ noted_by from y k.state k.begins
+        → kept s' sheet' seen' marks' (noted_by from y k.state k.begins) ≡ effect from y l.start (e + 1) k → Going file from size (e + 1) (kept s' sheet' seen' marks' begins')
+    goes_on_noted o s' sheet' seen' marks' begins' b p =
         subst (λ (bs : List ℕ). Going file from size (e + 1) (kept s' sheet' seen' marks' bs)) (sym b) ((goes_on o).1 _ (p ∙ ap (λ (n : ℕ). effect from y n (e + 1) k) here.starts))
 
-    pub stops : (f : Fault) → y ≡ steps.Refused f → Walked file from size (reachedAt k.state f.number f.place) k.sheet k.seen k.begins
+    pub stops : (f : Fault) → y ≡ steps.Refused f → Walked file from size (reached_at k.state f.number f.place) k.sheet k.seen k.begins
     stops f h = by judged turned (sym h ∙ is)
       where
-        by : (v : Verdict Taking) → Turned v → steps.Refused f ≡ step_of v → Walked file from size (reachedAt k.state f.number f.place) k.sheet k.seen k.begins
+        by : (v : Verdict Taking) → Turned v → steps.Refused f ≡ step_of v → Walked file from size (reached_at k.state f.number f.place) k.sheet k.seen k.begins
         by (refused b) t s =
-            let its : f ≡ brokenBy b = cc in
-            subst (λ (x : Fault). Walked file from size (reachedAt k.state x.number x.place) k.sheet k.seen k.begins) (sym its) t
-        by (granted t) u s = absurd (never-refused t f s)
+            let its : f ≡ broken_by b = cc in
+            subst (λ (x : Fault). Walked file from size (reached_at k.state x.number x.place) k.sheet k.seen k.begins) (sym its) t
+        by (granted t) u s = absurd (never_refused t f s)
 
   -- ---- as the quick way has it: p is what it took the line for
 
-  module _ (p : Plain) (says : PlainBy (columnsOf file l) (tallyIn k.state.phase).words judged p) (o : OneOf quick (tag_of plains.the_type p)) where
+  module _ (p : Plain) (says : PlainBy (columns_of file l) (tally_in k.state.phase).words judged p) (o : OneOf quick (tag_of plains.the_type p)) where
     abbrev Goes : Plain → Type 0
     Goes x =
-        Applicable (plainStep x) 0 (kept k.state [] [] k.marks [])
-        × ((k' : Kept) → k' ≡ effect from (plainStep x) at (e + 1) k → Going file from size (e + 1) k')
+        Applicable (plain_step x) 0 (kept k.state [] [] k.marks [])
+        × ((k' : Kept) → k' ≡ effect from (plain_step x) at (e + 1) k → Going file from size (e + 1) k')
 
     pub plainly : Goes p
     unfolding effect
     plainly = by p says o
       where
-        by : (x : Plain) → PlainBy (columnsOf file l) (tallyIn k.state.phase).words judged x → OneOf quick (tag_of plains.the_type x) → Goes x
+        by : (x : Plain) → PlainBy (columns_of file l) (tally_in k.state.phase).words judged x → OneOf quick (tag_of plains.the_type x) → Goes x
         by (plain.Word parent) b m = goes_on _ (sym b) (inr (inr (inr (inr (inr (inr (inl refl)))))))
         by (plain.Phrase number parent) b m = goes_on _ (sym b) (inr (inr (inr (inr (inr (inr (inr (inl refl))))))))
-        by plain.Other b m = absurd (not-among 2 quick refl m)
+        by plain.Other b m = absurd (not_among 2 quick refl m)

@@ -1,9 +1,9 @@
 // What the step of a line does to all that a reading keeps. Steps are matched here alone.
 ghost use Rattle.std.specs.Prelude.{◌≡◌, List, [], ℕ, ◌+◌, ◌-◌, ◌≤◌, length, set};
-ghost use Rattle.rules.specs.Numbers.{fileLimit};
-ghost use Rattle.judging.specs.States.{tallyIn};
-ghost use Rattle.reading.specs.Effects.{kept, formatRead, handedOut, noted, effect, notedBy, bareSaid, plainStep, Applicable};
-ghost use Rattle.reading.specs.NotedTags.{outlinesBy, TagApplies, hintsBy};
+ghost use Rattle.rules.specs.Numbers.{file_limit};
+ghost use Rattle.judging.specs.States.{tally_in};
+ghost use Rattle.reading.specs.Effects.{kept, format_read, handed_out, noted, effect, noted_by, bare_said, plain_step, Applicable};
+ghost use Rattle.reading.specs.NotedTags.{outlines_by, TagApplies, hints_by};
 
 use crate::rows::{end_table, take_row};
 use columns::listing::{Line, Span};
@@ -14,7 +14,7 @@ use judging::state::{
 use steps::{NodeSaid, Step};
 
 fn format_read(s: State, format: u32) -> State
-    ensures { result ≡ formatRead s format }
+    ensures { result ≡ format_read s format }
 {
     State {
         phase: Phase::Top,
@@ -26,7 +26,7 @@ fn format_read(s: State, format: u32) -> State
 
 // A list of any length, for the numbers from one on: those below that, or behind the list's end, are not noted.
 fn note_beginning(tally: Tally, from: u32, begins: &mut [u32])
-    requires { tally.start ≤ fileLimit }
+    requires { tally.start ≤ file_limit }
     ensures { begins.new ≡ noted from tally begins.old }
 {
     if tally.number < from {
@@ -40,8 +40,8 @@ fn note_beginning(tally: Tally, from: u32, begins: &mut [u32])
 
 // A sentence that ends is noted, and nothing else.
 pub fn note_end(step: Step, s: State, from: u32, begins: &mut [u32])
-    requires { (tallyIn s.phase).start ≤ fileLimit }
-    ensures { begins.new ≡ notedBy from step s begins.old }
+    requires { (tally_in s.phase).start ≤ file_limit }
+    ensures { begins.new ≡ noted_by from step s begins.old }
 {
     let phase = s.phase;
     let Step::SentenceEnds = step else {
@@ -53,7 +53,7 @@ pub fn note_end(step: Step, s: State, from: u32, begins: &mut [u32])
 // The outline of a row's tag is noted, and nothing else.
 pub fn note_tag(step: Step, s: State, file: &[u8], outlines: &mut [u8; table_sheet::OUTLINES])
     requires { TagApplies step s (length file.now) }
-    ensures { outlines.new ≡ outlinesBy step s file.now outlines.old }
+    ensures { outlines.new ≡ outlines_by step s file.now outlines.old }
 {
     let phase = s.phase;
     let Step::Row(row) = step else {
@@ -66,8 +66,8 @@ pub fn note_tag(step: Step, s: State, file: &[u8], outlines: &mut [u8; table_she
 }
 
 fn hand_out(s: State, end: u32) -> State
-    requires { s.handed ≤ fileLimit }
-    ensures { result ≡ handedOut s end }
+    requires { s.handed ≤ file_limit }
+    ensures { result ≡ handed_out s end }
 {
     State {
         phase: Phase::Behind,
@@ -87,7 +87,7 @@ fn mark(number: u32, stamp: u32, marks: &mut [u32; MARKS])
 
 // A node without its texts.
 fn bare_node(number: u32, parent: u32) -> NodeSaid
-    ensures { result ≡ bareSaid number parent }
+    ensures { result ≡ bare_said number parent }
 {
     let nowhere = Span { start: 0, len: 0 };
     NodeSaid {
@@ -105,8 +105,8 @@ fn bare_node(number: u32, parent: u32) -> NodeSaid
 
 // An ordinary line, that was not judged.
 pub fn take_plain(plain: Plain, s: State, marks: &mut [u32; MARKS]) -> State
-    requires { Applicable (plainStep plain) 0 (kept s [] [] marks.old []) }
-    ensures { (from at end : ℕ) (sheet seen begins : List ℕ) → kept result sheet seen marks.new begins ≡ effect from (plainStep plain) at end (kept s sheet seen marks.old begins) }
+    requires { Applicable (plain_step plain) 0 (kept s [] [] marks.old []) }
+    ensures { (from at end : ℕ) (sheet seen begins : List ℕ) → kept result sheet seen marks.new begins ≡ effect from (plain_step plain) at end (kept s sheet seen marks.old begins) }
 {
     let phase = s.phase;
     match plain {
@@ -134,10 +134,10 @@ pub fn apply(
     marks: &mut [u32; MARKS],
     hints: &mut [u8; table_sheet::HINTS],
 ) -> State
-    requires { (line.start ≤ fileLimit) × (line.end ≤ fileLimit) × Applicable step (length file.now) (kept s sheet.old seen.old marks.old []) }
-    ensures { ((from : ℕ) (begins : List ℕ) → kept result sheet.new seen.new marks.new (notedBy from step s begins)
+    requires { (line.start ≤ file_limit) × (line.end ≤ file_limit) × Applicable step (length file.now) (kept s sheet.old seen.old marks.old []) }
+    ensures { ((from : ℕ) (begins : List ℕ) → kept result sheet.new seen.new marks.new (noted_by from step s begins)
         ≡ effect from step line.start (line.end + 1) (kept s sheet.old seen.old marks.old begins))
-        × (hints.new ≡ hintsBy step s file.now sheet.new hints.old) }
+        × (hints.new ≡ hints_by step s file.now sheet.new hints.old) }
 {
     let phase = s.phase;
     match step {

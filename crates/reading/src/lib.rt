@@ -4,13 +4,13 @@ mod rows;
 mod stopping;
 
 ghost use Rattle.std.specs.Prelude.{◌≡◌, [], ◌≤◌, length};
-ghost use Rattle.rules.specs.Bytes.{classTable};
-ghost use Rattle.rules.specs.Numbers.{fileLimit};
-ghost use Rattle.rules.specs.Tables.{noTables};
-ghost use Rattle.rules.specs.Sheets.{tableSheetSize, tableSheet, seenSetSize, seenSet};
+ghost use Rattle.rules.specs.Bytes.{class_table};
+ghost use Rattle.rules.specs.Numbers.{file_limit};
+ghost use Rattle.rules.specs.Tables.{no_tables};
+ghost use Rattle.rules.specs.Sheets.{table_sheet_size, table_sheet, seen_set_size, seen_set};
 ghost use Rattle.rules.specs.Reading.{begin, read};
 ghost use Rattle.rules.specs.Index.{beginnings};
-ghost use Rattle.reading.specs.Closing.{reachedAt, Walked, FileRead};
+ghost use Rattle.reading.specs.Closing.{reached_at, Walked, FileRead};
 
 use effect::{apply, note_end, note_tag, take_plain};
 use judging::plain::{Plain, plain_line};
@@ -38,7 +38,7 @@ pub struct Read {
 }
 
 fn stop_at(state: State, number: u32, place: u32) -> Reached
-    ensures { result ≡ reachedAt state number place }
+    ensures { result ≡ reached_at state number place }
 {
     Reached {
         state,
@@ -56,7 +56,7 @@ fn take_lines(
     begins: &mut [u32],
     classes: &[u8; 256],
 ) -> Reached
-    requires { (classes.now ≡ classTable) × (length file.now ≤ fileLimit) × (sheet.old ≡ tableSheet noTables) × (seen.old ≡ seenSet []) × (begins.old ≡ beginnings from (length begins.old) []) }
+    requires { (classes.now ≡ class_table) × (length file.now ≤ file_limit) × (sheet.old ≡ table_sheet no_tables) × (seen.old ≡ seen_set []) × (begins.old ≡ beginnings from (length begins.old) []) }
     ensures { Walked file.now from (length begins.old) result sheet.new seen.new begins.new }
 {
     let mut marks = [0u32; state::MARKS];
@@ -101,7 +101,7 @@ pub fn read_file(
     from: u32,
     begins: &mut [u32],
 ) -> Read
-    requires { (length file.now ≤ fileLimit) × (length sheet.old ≡ tableSheetSize) × (length seen.old ≡ seenSetSize) }
+    requires { (length file.now ≤ file_limit) × (length sheet.old ≡ table_sheet_size) × (length seen.old ≡ seen_set_size) }
     ensures { FileRead (read begin file.now) result sheet.new seen.new from (length begins.old) begins.new }
 {
     table_sheet::clear(sheet);

@@ -1,11 +1,11 @@
 // Rows go into the table sheet as they are read, and their count where their table ends.
 ghost use Rattle.std.specs.Prelude.{◌≡◌, ◌+◌, ◌≤◌, ◌<◌, length, set};
-ghost use Rattle.rules.specs.Numbers.{rowLimit};
-ghost use Rattle.rules.specs.Sheets.{tableCount, rowPlace, tableSheetSize};
+ghost use Rattle.rules.specs.Numbers.{row_limit};
+ghost use Rattle.rules.specs.Sheets.{table_count, row_place, table_sheet_size};
 ghost use Rattle.columns.specs.Splices.{splice};
-ghost use Rattle.judging.specs.States.{tableOpen, rowsOpen};
-ghost use Rattle.reading.specs.Effects.{sixOf, rowCounted, tableLeft};
-ghost use Rattle.reading.specs.NotedTags.{hintsWith};
+ghost use Rattle.judging.specs.States.{table_open, rows_open};
+ghost use Rattle.reading.specs.Effects.{six_of, row_counted, table_left};
+ghost use Rattle.reading.specs.NotedTags.{hints_with};
 
 use judging::state::{Phase, State, moved, rows_in, table_in};
 use steps::RowSaid;
@@ -19,9 +19,9 @@ fn put_row(
     sheet: &mut [u32],
     hints: &mut [u8; table_sheet::HINTS],
 )
-    requires { (table < tableCount) × (rows < rowLimit) × (row.first.start + row.first.len ≤ length file.now) × (length sheet.old ≡ tableSheetSize) }
-    ensures { (sheet.new ≡ splice (rowPlace table rows) (sixOf row) sheet.old)
-        × (hints.new ≡ hintsWith row table rows file.now sheet.new hints.old) }
+    requires { (table < table_count) × (rows < row_limit) × (row.first.start + row.first.len ≤ length file.now) × (length sheet.old ≡ table_sheet_size) }
+    ensures { (sheet.new ≡ splice (row_place table rows) (six_of row) sheet.old)
+        × (hints.new ≡ hints_with row table rows file.now sheet.new hints.old) }
 {
     let first = row.first;
     let second = row.second;
@@ -50,10 +50,10 @@ pub fn take_row(
     sheet: &mut [u32],
     hints: &mut [u8; table_sheet::HINTS],
 ) -> State
-    requires { (tableOpen s.phase < tableCount) × (rowsOpen s.phase < rowLimit) × (row.first.start + row.first.len ≤ length file.now) × (length sheet.old ≡ tableSheetSize) }
-    ensures { (result ≡ rowCounted s)
-        × (sheet.new ≡ splice (rowPlace (tableOpen s.phase) (rowsOpen s.phase)) (sixOf row) sheet.old)
-        × (hints.new ≡ hintsWith row (tableOpen s.phase) (rowsOpen s.phase)
+    requires { (table_open s.phase < table_count) × (rows_open s.phase < row_limit) × (row.first.start + row.first.len ≤ length file.now) × (length sheet.old ≡ table_sheet_size) }
+    ensures { (result ≡ row_counted s)
+        × (sheet.new ≡ splice (row_place (table_open s.phase) (rows_open s.phase)) (six_of row) sheet.old)
+        × (hints.new ≡ hints_with row (table_open s.phase) (rows_open s.phase)
         file.now sheet.new hints.old) }
 {
     let phase = s.phase;
@@ -65,8 +65,8 @@ pub fn take_row(
 }
 
 pub fn end_table(s: State, sheet: &mut [u32]) -> State
-    requires { (tableOpen s.phase < tableCount) × (rowsOpen s.phase ≤ rowLimit) × (length sheet.old ≡ tableSheetSize) }
-    ensures { (result ≡ tableLeft s) × (sheet.new ≡ set sheet.old (tableOpen s.phase) (rowsOpen s.phase + 1)) }
+    requires { (table_open s.phase < table_count) × (rows_open s.phase ≤ row_limit) × (length sheet.old ≡ table_sheet_size) }
+    ensures { (result ≡ table_left s) × (sheet.new ≡ set sheet.old (table_open s.phase) (rows_open s.phase + 1)) }
 {
     let phase = s.phase;
     let place = table_in(phase) as usize;

@@ -1,10 +1,10 @@
 // Where the lines can be taken no further: the refusal that says why, and what is taken back.
 ghost use Rattle.std.specs.Prelude.{◌≡◌, ◌<◌, length};
-ghost use Rattle.rules.specs.Sheets.{tableCount, tableSheetSize};
-ghost use Rattle.lines.specs.LineEnds.{lineRefusal};
-ghost use Rattle.lines.specs.NextLines.{lineEndOf};
-ghost use Rattle.judging.specs.States.{tableOpen};
-ghost use Rattle.reading.specs.Closing.{closingNumber, givenUp};
+ghost use Rattle.rules.specs.Sheets.{table_count, table_sheet_size};
+ghost use Rattle.lines.specs.LineEnds.{line_refusal};
+ghost use Rattle.lines.specs.NextLines.{line_end_of};
+ghost use Rattle.judging.specs.States.{table_open};
+ghost use Rattle.reading.specs.Closing.{closing_number, given_up};
 
 use judging::state::Phase;
 use lines::NextLine;
@@ -12,7 +12,7 @@ use steps::refusals;
 
 // The refusals of a line that may not be read: 3, 4 and 5.
 pub fn line_refusal(found: NextLine) -> u32
-    ensures { result ≡ lineRefusal (lineEndOf found) }
+    ensures { result ≡ line_refusal (line_end_of found) }
 {
     match found {
         NextLine::Line(_) => 0,
@@ -24,8 +24,8 @@ pub fn line_refusal(found: NextLine) -> u32
 
 // The refusals of the file's end: 9, 23, 13, or 0.
 pub fn closing(phase: Phase, sheet: &[u32]) -> u32
-    requires { length sheet.now ≡ tableSheetSize }
-    ensures { result ≡ closingNumber phase sheet.now }
+    requires { length sheet.now ≡ table_sheet_size }
+    ensures { result ≡ closing_number phase sheet.now }
 {
     match phase {
         Phase::Start => refusals::WRONG_FORMAT,
@@ -46,8 +46,8 @@ pub fn closing(phase: Phase, sheet: &[u32]) -> u32
 
 // The rows of a table that was not closed are taken out of the sheet.
 pub fn give_up(phase: Phase, sheet: &mut [u32])
-    requires { (tableOpen phase < tableCount) × (length sheet.old ≡ tableSheetSize) }
-    ensures { sheet.new ≡ givenUp phase sheet.old }
+    requires { (table_open phase < table_count) × (length sheet.old ≡ table_sheet_size) }
+    ensures { sheet.new ≡ given_up phase sheet.old }
 {
     match phase {
         Phase::Start => {}

@@ -8,25 +8,25 @@ use Rattle.writing.specs.declared.Written.{Written}
 use Rattle.edges.specs.declared.Edge.{Edge}
 
 abbrev pub told : Edge → EdgeRecord
-told e = record { child = e.child; labelStart = e.label; labelLength = e.label_len; parent = e.parent }
+told e = record { child = e.child; label_start = e.label; label_length = e.label_len; parent = e.parent }
 
-unfoldable pub toldAll : List Edge → List EdgeRecord
-toldAll es = map told es
+unfoldable pub told_all : List Edge → List EdgeRecord
+told_all es = map told es
 
-abbrev pub recordsLeft : ℕ → List ℕ → List ℕ → List ℕ → List Edge → Opened
-recordsLeft r tables seen sheet edges =
-    record { answer = r; tables = tables; seen = seen; sheet = sheet; edges = toldAll edges }
+abbrev pub records_left : ℕ → List ℕ → List ℕ → List ℕ → List Edge → Opened
+records_left r tables seen sheet edges =
+    record { answer = r; tables = tables; seen = seen; sheet = sheet; edges = told_all edges }
 
-abbrev pub recordsThere : ℕ → List ℕ → List Edge → OpenedAt
-recordsThere r sheet edges = record { answer = r; sheet = sheet; edges = toldAll edges }
+abbrev pub records_there : ℕ → List ℕ → List Edge → OpenedAt
+records_there r sheet edges = record { answer = r; sheet = sheet; edges = told_all edges }
 
-abbrev pub textOfRecords : Written → List ℕ → List ℕ → List ℕ → List Edge → List ℕ → WritingOutcome
-textOfRecords r tables seen sheet edges output =
+abbrev pub text_of_records : Written → List ℕ → List ℕ → List ℕ → List Edge → List ℕ → WritingOutcome
+text_of_records r tables seen sheet edges output =
     record {
       answer = record { refusal = r.refusal; place = r.place; written = r.length };
       tables = tables;
       seen = seen;
       sheet = sheet;
-      edges = toldAll edges;
+      edges = told_all edges;
       output = output;
     }

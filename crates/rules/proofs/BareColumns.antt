@@ -3,28 +3,28 @@
 use Prim.Native.Nat.{ℕ}
 use mathlib.Core.List.{List, map}
 use Rattle.rules.specs.Texts.{Text, trim}
-use Rattle.rules.specs.Columns.{columnsFrom, column, written, texts, fields, comment}
+use Rattle.rules.specs.Columns.{columns_from, column, written, texts, fields, comment}
 
 -- all columns of a line
-abbrev pub allColumns : List ℕ → List (List ℕ)
-allColumns line = map (λ (t : Text). t.bytes) (texts (columnsFrom 0 line))
+abbrev pub all_columns : List ℕ → List (List ℕ)
+all_columns line = map (λ (t : Text). t.bytes) (texts (columns_from 0 line))
 
 -- the columns in front of the comment, which the first column that is exactly %% begins
-abbrev pub frontColumns : List ℕ → List (List ℕ)
-frontColumns line = map (λ (t : Text). t.bytes) (fields (columnsFrom 0 line))
+abbrev pub front_columns : List ℕ → List (List ℕ)
+front_columns line = map (λ (t : Text). t.bytes) (fields (columns_from 0 line))
 
 -- the comment
-abbrev pub commentOf : List ℕ → List ℕ
-commentOf line = (comment (columnsFrom 0 line)).bytes
+abbrev pub comment_of : List ℕ → List ℕ
+comment_of line = (comment (columns_from 0 line)).bytes
 
 -- a column of a line, counted from 0
-abbrev pub columnAt : ℕ → List ℕ → List ℕ
-columnAt n line = (written (columnsFrom 0 line) n).bytes
+abbrev pub column_at : ℕ → List ℕ → List ℕ
+column_at n line = (written (columns_from 0 line) n).bytes
 
 -- all that stands behind it
-abbrev pub restBehind : ℕ → List ℕ → Text
-restBehind n line = (column (columnsFrom 0 line) n).after
+abbrev pub rest_behind : ℕ → List ℕ → Text
+rest_behind n line = (column (columns_from 0 line) n).after
 
 -- the same without the white bytes at both ends
-abbrev pub textBehind : ℕ → List ℕ → List ℕ
-textBehind n line = (trim (restBehind n line)).bytes
+abbrev pub text_behind : ℕ → List ℕ → List ℕ
+text_behind n line = (trim (rest_behind n line)).bytes

@@ -12,36 +12,36 @@ use lib.Dec.{eqb}
 use Rattle.rules.specs.Lists.{bytes, member, Each}
 use Rattle.rules.specs.Bytes.{newline}
 use Rattle.rules.specs.Texts.{Text, reads}
-use Rattle.rules.specs.Tables.{noTables}
-use Rattle.rules.specs.Sentences.{Edge, Node, Heading, Sentence, listed, parented, headingWritten, headingCites, headingIn, headingOf}
-use Rattle.rules.specs.Keywords.{firstColumn}
-use Rattle.rules.specs.Phases.{Preamble, Phase, start, top, in_table, inSentence, behindSentence, begun, Answer, refuse, go, hand, step}
+use Rattle.rules.specs.Tables.{no_tables}
+use Rattle.rules.specs.Sentences.{Edge, Node, Heading, Sentence, listed, parented, heading_written, heading_cites, heading_in, heading_of}
+use Rattle.rules.specs.Keywords.{first_column}
+use Rattle.rules.specs.Phases.{Preamble, Phase, start, top, in_table, in_sentence, behind_sentence, begun, Answer, refuse, go, hand, step}
 use Rattle.rules.specs.Reading.{Handed}
 use Rattle.rules.specs.Sheets.{nodes}
-use Rattle.rules.specs.SentenceFrom.{sentenceFrom}
+use Rattle.rules.specs.SentenceFrom.{sentence_from}
 use Rattle.rules.specs.Places.{SentenceLies, HandedLies}
 use Rattle.rules.specs.AsWritten.{SentenceSaid}
 use Rattle.rules.specs.BeginsThere.{PhraseAbove, OtherPhrase, ParentsStand, BeginsThere}
-use Rattle.rules.proofs.EachElement.{each-then, each_both}
-use Rattle.rules.proofs.SaidOfLists.{every-each}
-use Rattle.rules.proofs.TestsAsFacts.{other-is}
+use Rattle.rules.proofs.EachElement.{each_then, each_both}
+use Rattle.rules.proofs.SaidOfLists.{every_each}
+use Rattle.rules.proofs.TestsAsFacts.{other_is}
 use Rattle.rules.proofs.RulesHeld.{held}
-use Rattle.rules.proofs.Takings.{goBegun, answerBehind, answerAt}
-use Rattle.rules.proofs.Steps.{either, next-checked, step-cases}
+use Rattle.rules.proofs.Takings.{go_begun, answer_behind, answer_at}
+use Rattle.rules.proofs.Steps.{either, next_checked, step_cases}
 use Rattle.rules.proofs.ByLines.{LineAnswered}
 use Rattle.rules.proofs.TextPlaces.{Part}
 use Rattle.rules.proofs.NoLateTable.{Keeps, step_keeps}
-use Rattle.rules.proofs.References.{parent_listed, secondary-listed}
+use Rattle.rules.proofs.References.{parent_listed, secondary_listed}
 use Rattle.rules.proofs.SaidSoFar.{SaidSoFar, SaidAt}
-use Rattle.rules.proofs.AsWritten.{begun-said, one-said}
-use Rattle.rules.proofs.LiesThere.{phase-tables, begun-lies, LiesSoFar, next-line, one_lies}
+use Rattle.rules.proofs.AsWritten.{begun_said, one_said}
+use Rattle.rules.proofs.LiesThere.{phase_tables, begun_lies, LiesSoFar, next_line, one_lies}
 use Rattle.rules.proofs.HeadingsAlone.{Alone}
-use Rattle.rules.proofs.WithoutTables.{alone, Alike, step-alike}
-use Rattle.rules.proofs.ReadFromPlace.{Begun, begun-at, first-keeps}
-use Rattle.rules.proofs.CutThere.{kept_there, lost-there}
-use Rattle.rules.proofs.Climbable.{Rises, OthersDiffer, Climbable, PhaseRises, one-rises}
-use Rattle.rules.proofs.ParentsClimb.{chains-climb}
-use Rattle.rules.proofs.ParentsOnSheet.{chains-climb-on-sheet}
+use Rattle.rules.proofs.WithoutTables.{alone, Alike, step_alike}
+use Rattle.rules.proofs.ReadFromPlace.{Begun, begun_at, first_keeps}
+use Rattle.rules.proofs.CutThere.{kept_there, lost_there}
+use Rattle.rules.proofs.Climbable.{Rises, OthersDiffer, Climbable, PhaseRises, one_rises}
+use Rattle.rules.proofs.ParentsClimb.{chains_climb}
+use Rattle.rules.proofs.ParentsOnSheet.{chains_climb_on_sheet}
 
 -- ---- its place: no other sentence begins behind it, because there are no tables
 
@@ -50,8 +50,8 @@ module _ (at : ℕ) where
   Started done start = ⊥
   Started done (top p) = ⊥
   Started done (in_table p n rs) = ⊥
-  Started done (inSentence p s) = (p ≡ alone) × (s.start ≡ at)
-  Started done (behindSentence p) = p ≡ alone
+  Started done (in_sentence p s) = (p ≡ alone) × (s.start ≡ at)
+  Started done (behind_sentence p) = p ≡ alone
 
   abbrev StartsAt : Handed → Type 0
   StartsAt h = h.sentence.start ≡ at
@@ -63,31 +63,31 @@ module _ (at : ℕ) where
     abbrev Goes : Answer → Type 0
     Goes a = LineAnswered Started StartsAt done l a
 
-    none-begins : Goes (answerBehind line (firstColumn line) alone used)
-    unfolding answerBehind headingOf
-    none-begins =
-        either Goes (reads (bytes "#BOS") (firstColumn line)) _ _
+    none_begins : Goes (answer_behind line (first_column line) alone used)
+    unfolding answer_behind heading_of
+    none_begins =
+        either Goes (reads (bytes "#BOS") (first_column line)) _ _
         (λ e.
-        let rules = headingWritten line ++ headingCites noTables (λ n. member n used) line in
-        next-checked Goes (λ r h. tt) (goBegun alone (length done)) rules (headingIn line) refl (λ h. absurd (false≢true (held rules h).1.1.1.1.1.0)))
+        let rules = heading_written line ++ heading_cites no_tables (λ n. member n used) line in
+        next_checked Goes (λ r h. tt) (go_begun alone (length done)) rules (heading_in line) refl (λ h. absurd (false≢true (held rules h).1.1.1.1.1.0)))
         (λ e. tt)
 
-    in-sentence : (p : Preamble) (s : Sentence) → p ≡ alone → s.start ≡ at → Goes (step (inSentence p s) used line)
-    in-sentence p s q e = by (step (inSentence p s) used line) (step-alike p s used used line) (step_keeps p (inSentence p s) refl used line)
+    in_sentence_lem : (p : Preamble) (s : Sentence) → p ≡ alone → s.start ≡ at → Goes (step (in_sentence p s) used line)
+    in_sentence_lem p s q e = by (step (in_sentence p s) used line) (step_alike p s used used line) (step_keeps p (in_sentence p s) refl used line)
       where
-        by : (a : Answer) → Alike p s a (step (inSentence alone s) used line) → Keeps p a → Goes a
+        by : (a : Answer) → Alike p s a (step (in_sentence alone s) used line) → Keeps p a → Goes a
         by (refuse r) k j = tt
         by (go phase) k j = subst (Started _) (sym k.2) (q, k.1 ∙ e)
         by (hand r t) k j = (j ∙ q, ap (λ (u : Sentence). u.start) k.0 ∙ e)
 
-    one-starts : (phase : Phase) → Started done phase → Goes (step phase used line)
-    unfolding answerAt
-    one-starts start k = absurd k
-    one-starts (top p) k = absurd k
-    one-starts (in_table p n rs) k = absurd k
-    one-starts (inSentence p s) k = in-sentence p s k.0 k.1
-    one-starts (behindSentence p) k =
-        step-cases Goes (λ r h. tt) (behindSentence p) used line k (λ f. subst (λ (q : Preamble). Goes (answerBehind line (firstColumn line) q used)) (sym k) none-begins)
+    one_starts : (phase : Phase) → Started done phase → Goes (step phase used line)
+    unfolding answer_at
+    one_starts start k = absurd k
+    one_starts (top p) k = absurd k
+    one_starts (in_table p n rs) k = absurd k
+    one_starts (in_sentence p s) k = in_sentence_lem p s k.0 k.1
+    one_starts (behind_sentence p) k =
+        step_cases Goes (λ r h. tt) (behind_sentence p) used line k (λ f. subst (λ (q : Preamble). Goes (answer_behind line (first_column line) q used)) (sym k) none_begins)
 
 -- ---- its parents
 
@@ -98,9 +98,9 @@ there s n e r o =
     record {
       parent = by r (parent_listed s.phrases n e);
       secondary =
-          each-then (λ (x : Edge). L x × D x) (λ (x : Edge). OtherPhrase s n.number x.parent) (λ x a. (a.0, (other-is n.number x.parent).0 a.1)) n.secondary
-          (each_both L D n.secondary (every-each (λ (x : Edge). listed s.phrases x.parent) n.secondary (secondary-listed s.phrases n e))
-          (every-each (λ (x : Edge). not (eqb n.number x.parent)) n.secondary o));
+          each_then (λ (x : Edge). L x × D x) (λ (x : Edge). OtherPhrase s n.number x.parent) (λ x a. (a.0, (other_is n.number x.parent).0 a.1)) n.secondary
+          (each_both L D n.secondary (every_each (λ (x : Edge). listed s.phrases x.parent) n.secondary (secondary_listed s.phrases n e))
+          (every_each (λ (x : Edge). not (eqb n.number x.parent)) n.secondary o));
     }
   where
     by : Rises n → (n.parent ≡ 0) ⊎ (listed s.phrases n.parent ≡ true) → (n.parent ≡ 0) ⊎ PhraseAbove s n.number n.parent
@@ -108,58 +108,58 @@ there s n e r o =
     by (inr h) (inl z) = inl z
     by (inr h) (inr l) = inr (l, h)
 
-each-there : (s : Sentence) → Climbable s → Each (ParentsStand s) (nodes s)
-each-there s k =
+each_there : (s : Sentence) → Climbable s → Each (ParentsStand s) (nodes s)
+each_there s k =
     let Q : Node → Type 0 = λ (n : Node). Rises n × OthersDiffer n in
     let R : Node → Type 0 = λ (n : Node). parented s.phrases n ≡ true in
-    each-then (λ (n : Node). R n × Q n) (ParentsStand s) (λ n a. there s n a.0 a.1.0 a.1.1) (nodes s)
-    (each_both R Q (nodes s) (every-each (parented s.phrases) (nodes s) k.parents) (each_both Rises OthersDiffer (nodes s) k.rises k.others))
+    each_then (λ (n : Node). R n × Q n) (ParentsStand s) (λ n a. there s n a.0 a.1.0 a.1.1) (nodes s)
+    (each_both R Q (nodes s) (every_each (parented s.phrases) (nodes s) k.parents) (each_both Rises OthersDiffer (nodes s) k.rises k.others))
 
 -- ---- all of it
 
-module _ (file : List ℕ) (at : ℕ) (s : Sentence) (e : sentenceFrom file at ≡ some s) where
+module _ (file : List ℕ) (at : ℕ) (s : Sentence) (e : sentence_from file at ≡ some s) where
   abbrev b : Begun file at s
-  b = begun-at file at s e
+  b = begun_at file at s e
 
-  abbrev its-line : Text
-  its-line = record { start = at; bytes = b.head }
+  abbrev its_line : Text
+  its_line = record { start = at; bytes = b.head }
 
-  its-place : s.start ≡ at
-  its-place = first-keeps file (Started at) (StartsAt at) (λ done l rest phase used parts o k. one-starts at done l used phase k) at s b (refl, refl)
+  its_place : s.start ≡ at
+  its_place = first_keeps file (Started at) (StartsAt at) (λ done l rest phase used parts o k. one_starts at done l used phase k) at s b (refl, refl)
 
-  pub its-climbing : Climbable s
-  its-climbing = first-keeps file (λ bs. PhaseRises) (λ (h : Handed). Climbable h.sentence) (λ done l rest phase used parts o k. one-rises done l phase used k) at s b (record { words = tt; phrases = tt; apart = tt })
+  pub its_climbing : Climbable s
+  its_climbing = first_keeps file (λ bs. PhaseRises) (λ (h : Handed). Climbable h.sentence) (λ done l rest phase used parts o k. one_rises done l phase used k) at s b (record { words = tt; phrases = tt; apart = tt })
 
-  head-lies : SentenceLies file (begun at b.heading)
-  head-lies =
-      let stands : Part 0 file its-line = record { front = b.front; back = newline ∷ b.rest; parts = b.parts; place = omega (arith, b.place) } in
-      subst (λ (h : Heading). SentenceLies file (begun at h)) b.alone.heading (begun-lies file its-line stands b.starts b.alone.fit b.alone.keyword)
+  head_lies : SentenceLies file (begun at b.heading)
+  head_lies =
+      let stands : Part 0 file its_line = record { front = b.front; back = newline ∷ b.rest; parts = b.parts; place = omega (arith, b.place) } in
+      subst (λ (h : Heading). SentenceLies file (begun at h)) b.alone.heading (begun_lies file its_line stands b.starts b.alone.fit b.alone.keyword)
 
-  its-lies : SentenceLies file s
-  its-lies =
-      (first-keeps file (LiesSoFar file) (HandedLies file) (λ done l rest phase used parts o k. one_lies file done l rest parts phase used k) at s b
-      ((phase-tables file start tt, head-lies), next-line file b.front b.head b.rest b.parts)).sentence
+  its_lies : SentenceLies file s
+  its_lies =
+      (first_keeps file (LiesSoFar file) (HandedLies file) (λ done l rest phase used parts o k. one_lies file done l rest parts phase used k) at s b
+      ((phase_tables file start tt, head_lies), next_line file b.front b.head b.rest b.parts)).sentence
 
-  head-said : SaidSoFar (b.front ++ (b.head ++ (newline ∷ []))) (begun at b.heading)
-  head-said =
+  head_said : SaidSoFar (b.front ++ (b.head ++ (newline ∷ []))) (begun at b.heading)
+  head_said =
       let a = subst (λ (n : ℕ). Alone (record { start = n; bytes = b.head }) b.heading) (sym b.place) b.alone in
       let S : ℕ → Heading → Type 0 = λ (n : ℕ) (h : Heading). SaidSoFar (b.front ++ (b.head ++ (newline ∷ []))) (begun n h) in
       subst (λ (n : ℕ). S n b.heading) b.place
-      (subst (S (length b.front)) a.heading (begun-said file b.front b.head b.rest b.parts b.one_line a.fit a.keyword a.written))
+      (subst (S (length b.front)) a.heading (begun_said file b.front b.head b.rest b.parts b.one_line a.fit a.keyword a.written))
 
-  its-written : SentenceSaid file (record { end = b.handed.end; sentence = s })
-  its-written = first-keeps file SaidAt (SentenceSaid file) (λ done l rest phase used parts o k. one-said file done l rest parts o phase used k) at s b head-said
+  its_written : SentenceSaid file (record { end = b.handed.end; sentence = s })
+  its_written = first_keeps file SaidAt (SentenceSaid file) (λ done l rest phase used parts o k. one_said file done l rest parts o phase used k) at s b head_said
 
-  pub stands-there : BeginsThere file at s
-  stands-there =
+  pub stands_there : BeginsThere file at s
+  stands_there =
       record {
-        place = its-place;
+        place = its_place;
         end = b.handed.end;
-        written = its-written;
-        lies = its-lies;
-        parents = each-there s its-climbing;
-        climbs = chains-climb s its-climbing;
-        climbs-on-sheet = chains-climb-on-sheet s its-climbing;
+        written = its_written;
+        lies = its_lies;
+        parents = each_there s its_climbing;
+        climbs = chains_climb s its_climbing;
+        climbs_on_sheet = chains_climb_on_sheet s its_climbing;
         kept = kept_there file at s b;
-        lost = lost-there file at s b;
+        lost = lost_there file at s b;
       }

@@ -9,40 +9,40 @@ use mathlib.Core.List.{List, [], ◌∷◌, ◌++◌}
 use lib.Dec.{leb, eqb}
 use Rattle.rules.specs.Lists.{pick, between, every, same, Each}
 use Rattle.rules.specs.Bytes.{white, legal, ignored, percents}
-use Rattle.rules.specs.Columns.{goesOn}
-use Rattle.rules.specs.GrammarLines.{Legal, White, Ignored, Heeded, no_line, ignored-line, heeded-line, Starts}
-use Rattle.rules.proofs.Conjunctions.{false-if-never}
-use Rattle.rules.proofs.EachElement.{each-then}
-use Rattle.rules.proofs.SaidOfLists.{every-each, each-every, and-both-ways, or-both-ways, not-both-ways}
-use Rattle.rules.proofs.TestsAsFacts.{leb-is, eqb_is, same-is}
+use Rattle.rules.specs.Columns.{goes_on}
+use Rattle.rules.specs.GrammarLines.{Legal, White, Ignored, Heeded, no_line, ignored_line, heeded_line, Starts}
+use Rattle.rules.proofs.Conjunctions.{false_if_never}
+use Rattle.rules.proofs.EachElement.{each_then}
+use Rattle.rules.proofs.SaidOfLists.{every_each, each_every, and_both_ways, or_both_ways, not_both_ways}
+use Rattle.rules.proofs.TestsAsFacts.{leb_is, eqb_is, same_is}
 
-pub between-said : (low high b : ℕ) → (between low high b ≡ true) ↔ ((low ≤ b) × (b ≤ high))
-between-said low high b = (
-  λ e. let p = (and-both-ways (leb low b) (leb b high)).0 e in ((leb-is low b).0 p.0, (leb-is b high).0 p.1),
-  λ p. (and-both-ways (leb low b) (leb b high)).1 ((leb-is low b).1 p.0, (leb-is b high).1 p.1),
+pub between_said : (low high b : ℕ) → (between low high b ≡ true) ↔ ((low ≤ b) × (b ≤ high))
+between_said low high b = (
+  λ e. let p = (and_both_ways (leb low b) (leb b high)).0 e in ((leb_is low b).0 p.0, (leb_is b high).0 p.1),
+  λ p. (and_both_ways (leb low b) (leb b high)).1 ((leb_is low b).1 p.0, (leb_is b high).1 p.1),
 )
 
-pub legal-said : (b : ℕ) → (legal b ≡ true) ↔ Legal b
-legal-said b = (λ e. said ((or-both-ways (eqb b 9 || between 32 127 b) (between 160 255 b)).0 e), λ l. tested l)
+pub legal_said : (b : ℕ) → (legal b ≡ true) ↔ Legal b
+legal_said b = (λ e. said ((or_both_ways (eqb b 9 || between 32 127 b) (between 160 255 b)).0 e), λ l. tested l)
   where
     low : (eqb b 9 ≡ true) ⊎ (between 32 127 b ≡ true) → Legal b
     low (inl e) = inl ((eqb_is b 9).0 e)
-    low (inr e) = inr (inl ((between-said 32 127 b).0 e))
+    low (inr e) = inr (inl ((between_said 32 127 b).0 e))
 
     said : ((eqb b 9 || between 32 127 b) ≡ true) ⊎ (between 160 255 b ≡ true) → Legal b
-    said (inl e) = low ((or-both-ways (eqb b 9) (between 32 127 b)).0 e)
-    said (inr e) = inr (inr ((between-said 160 255 b).0 e))
+    said (inl e) = low ((or_both_ways (eqb b 9) (between 32 127 b)).0 e)
+    said (inr e) = inr (inr ((between_said 160 255 b).0 e))
 
     front : (eqb b 9 ≡ true) ⊎ (between 32 127 b ≡ true) → legal b ≡ true
-    front e = (or-both-ways (eqb b 9 || between 32 127 b) (between 160 255 b)).1 (inl ((or-both-ways (eqb b 9) (between 32 127 b)).1 e))
+    front e = (or_both_ways (eqb b 9 || between 32 127 b) (between 160 255 b)).1 (inl ((or_both_ways (eqb b 9) (between 32 127 b)).1 e))
 
     tested : Legal b → legal b ≡ true
     tested (inl e) = front (inl ((eqb_is b 9).1 e))
-    tested (inr (inl p)) = front (inr ((between-said 32 127 b).1 p))
-    tested (inr (inr p)) = (or-both-ways (eqb b 9 || between 32 127 b) (between 160 255 b)).1 (inr ((between-said 160 255 b).1 p))
+    tested (inr (inl p)) = front (inr ((between_said 32 127 b).1 p))
+    tested (inr (inr p)) = (or_both_ways (eqb b 9 || between 32 127 b) (between 160 255 b)).1 (inr ((between_said 160 255 b).1 p))
 
-pub white-said : (b : ℕ) → (white b ≡ true) ↔ White b
-white-said b = (λ e. said ((or-both-ways (eqb b 9) (eqb b 32)).0 e), λ w. (or-both-ways (eqb b 9) (eqb b 32)).1 (tested w))
+pub white_said : (b : ℕ) → (white b ≡ true) ↔ White b
+white_said b = (λ e. said ((or_both_ways (eqb b 9) (eqb b 32)).0 e), λ w. (or_both_ways (eqb b 9) (eqb b 32)).1 (tested w))
   where
     said : (eqb b 9 ≡ true) ⊎ (eqb b 32 ≡ true) → White b
     said (inl e) = inl ((eqb_is b 9).0 e)
@@ -53,65 +53,65 @@ white-said b = (λ e. said ((or-both-ways (eqb b 9) (eqb b 32)).0 e), λ w. (or-
     tested (inr e) = inr ((eqb_is b 32).1 e)
 
 -- every byte of a list
-pub every-said : (f : ℕ → Bool) (P : ℕ → Type 0) → ((b : ℕ) → (f b ≡ true) ↔ P b) → (l : List ℕ) → (every f l ≡ true) ↔ Each P l
-every-said f P e l =
-    (λ h. each-then (λ (b : ℕ). f b ≡ true) P (λ b k. (e b).0 k) l (every-each f l h), λ h. each-every f l (each-then P (λ (b : ℕ). f b ≡ true) (λ b k. (e b).1 k) l h))
+pub every_said : (f : ℕ → Bool) (P : ℕ → Type 0) → ((b : ℕ) → (f b ≡ true) ↔ P b) → (l : List ℕ) → (every f l ≡ true) ↔ Each P l
+every_said f P e l =
+    (λ h. each_then (λ (b : ℕ). f b ≡ true) P (λ b k. (e b).0 k) l (every_each f l h), λ h. each_every f l (each_then P (λ (b : ℕ). f b ≡ true) (λ b k. (e b).1 k) l h))
 
 -- ---- lines that are ignored
 
-pub ignored-said : (l : List ℕ) → (ignored l ≡ true) ↔ Ignored l
+pub ignored_said : (l : List ℕ) → (ignored l ≡ true) ↔ Ignored l
 unfolding ignored
-ignored-said [] = (λ e. inl tt, λ i. refl)
-ignored-said (a ∷ []) = (λ e. inl ((white-said a).0 e, tt), λ i. tested i)
+ignored_said [] = (λ e. inl tt, λ i. refl)
+ignored_said (a ∷ []) = (λ e. inl ((white_said a).0 e, tt), λ i. tested i)
   where
     tested : Ignored (a ∷ []) → white a ≡ true
-    tested (inl w) = (white-said a).1 w.0
+    tested (inl w) = (white_said a).1 w.0
     tested (inr r) = absurd (let z : ◌≡◌ {A = ℕ} 0 1 = cc in omega arith)
-ignored-said (a ∷ b ∷ bs) = (
-  λ e. said ((or-both-ways (same (a ∷ b ∷ []) percents) (every white (a ∷ b ∷ bs))).0 e),
-  λ i. (or-both-ways (same (a ∷ b ∷ []) percents) (every white (a ∷ b ∷ bs))).1 (tested i),
+ignored_said (a ∷ b ∷ bs) = (
+  λ e. said ((or_both_ways (same (a ∷ b ∷ []) percents) (every white (a ∷ b ∷ bs))).0 e),
+  λ i. (or_both_ways (same (a ∷ b ∷ []) percents) (every white (a ∷ b ∷ bs))).1 (tested i),
 )
   where
     said : (same (a ∷ b ∷ []) percents ≡ true) ⊎ (every white (a ∷ b ∷ bs) ≡ true) → Ignored (a ∷ b ∷ bs)
-    said (inl e) = inr (bs, ap (λ (xs : List ℕ). xs ++ bs) ((same-is (a ∷ b ∷ []) percents).0 e))
-    said (inr e) = inl ((every-said white White white-said (a ∷ b ∷ bs)).0 e)
+    said (inl e) = inr (bs, ap (λ (xs : List ℕ). xs ++ bs) ((same_is (a ∷ b ∷ []) percents).0 e))
+    said (inr e) = inl ((every_said white White white_said (a ∷ b ∷ bs)).0 e)
 
     tested : Ignored (a ∷ b ∷ bs) → (same (a ∷ b ∷ []) percents ≡ true) ⊎ (every white (a ∷ b ∷ bs) ≡ true)
-    tested (inl w) = inr ((every-said white White white-said (a ∷ b ∷ bs)).1 w)
+    tested (inl w) = inr ((every_said white White white_said (a ∷ b ∷ bs)).1 w)
     tested (inr r) =
         let p : a ≡ 37 = cc in
         let q : b ≡ 37 = cc in
-        inl ((same-is (a ∷ b ∷ []) percents).1 (ap (λ (a : ℕ). a ∷ b ∷ []) p ∙ ap (λ (b : ℕ). 37 ∷ b ∷ []) q))
+        inl ((same_is (a ∷ b ∷ []) percents).1 (ap (λ (a : ℕ). a ∷ b ∷ []) p ∙ ap (λ (b : ℕ). 37 ∷ b ∷ []) q))
 
-abbrev pub heededOf : List (List ℕ) → List (List ℕ)
-heededOf [] = []
-heededOf (l ∷ ls) = pick (ignored l) (heededOf ls) (l ∷ heededOf ls)
+abbrev pub heeded_of : List (List ℕ) → List (List ℕ)
+heeded_of [] = []
+heeded_of (l ∷ ls) = pick (ignored l) (heeded_of ls) (l ∷ heeded_of ls)
 
-pub heeded-said : (ls : List (List ℕ)) → Heeded ls (heededOf ls)
-heeded-said [] = no_line
-heeded-said (l ∷ ls) = by (ignored l) refl (heeded-said ls)
+pub heeded_said : (ls : List (List ℕ)) → Heeded ls (heeded_of ls)
+heeded_said [] = no_line
+heeded_said (l ∷ ls) = by (ignored l) refl (heeded_said ls)
   where
-    by : (t : Bool) → ignored l ≡ t → Heeded ls (heededOf ls) → Heeded (l ∷ ls) (pick t (heededOf ls) (l ∷ heededOf ls))
-    by true e h = ignored-line ((ignored-said l).0 e) h
-    by false e h = heeded-line (λ i. false≢true (sym e ∙ (ignored-said l).1 i)) h
+    by : (t : Bool) → ignored l ≡ t → Heeded ls (heeded_of ls) → Heeded (l ∷ ls) (pick t (heeded_of ls) (l ∷ heeded_of ls))
+    by true e h = ignored_line ((ignored_said l).0 e) h
+    by false e h = heeded_line (λ i. false≢true (sym e ∙ (ignored_said l).1 i)) h
 
-pub heeded-only : {ls hs : List (List ℕ)} → Heeded ls hs → hs ≡ heededOf ls
-heeded-only no_line = refl
-heeded-only (ignored-line {l} {ls} {hs} i h) = heeded-only h ∙ sym (ap (λ (t : Bool). pick t (heededOf ls) (l ∷ heededOf ls)) ((ignored-said l).1 i))
-heeded-only (heeded-line {l} {ls} {hs} n h) =
-    ap (λ (hs : List (List ℕ)). l ∷ hs) (heeded-only h)
-    ∙ sym (ap (λ (t : Bool). pick t (heededOf ls) (l ∷ heededOf ls)) (false-if-never (ignored l) (λ e. n ((ignored-said l).0 e))))
+pub heeded_only : {ls hs : List (List ℕ)} → Heeded ls hs → hs ≡ heeded_of ls
+heeded_only no_line = refl
+heeded_only (ignored_line {l} {ls} {hs} i h) = heeded_only h ∙ sym (ap (λ (t : Bool). pick t (heeded_of ls) (l ∷ heeded_of ls)) ((ignored_said l).1 i))
+heeded_only (heeded_line {l} {ls} {hs} n h) =
+    ap (λ (hs : List (List ℕ)). l ∷ hs) (heeded_only h)
+    ∙ sym (ap (λ (t : Bool). pick t (heeded_of ls) (l ∷ heeded_of ls)) (false_if_never (ignored l) (λ e. n ((ignored_said l).0 e))))
 
 -- ---- lines that start with their first column
 
 abbrev pub Started : List ℕ → Type 0
-Started l = goesOn l ≡ true
+Started l = goes_on l ≡ true
 
-pub started-said : (l : List ℕ) → Started l ↔ Starts l
-started-said [] = (λ e. absurd (false≢true e), λ s. absurd (let z : ◌≡◌ {A = ℕ} 0 1 = cc in omega arith))
-started-said (b ∷ bs) = (
-  λ e. (b, bs, refl, λ w. (not-both-ways (white b)).0 e ((white-said b).1 w)),
-  λ s. (not-both-ways (white b)).1 (λ w. s.3 (subst White (first s.0 s.1 s.2) ((white-said b).0 w))),
+pub started_said : (l : List ℕ) → Started l ↔ Starts l
+started_said [] = (λ e. absurd (false≢true e), λ s. absurd (let z : ◌≡◌ {A = ℕ} 0 1 = cc in omega arith))
+started_said (b ∷ bs) = (
+  λ e. (b, bs, refl, λ w. (not_both_ways (white b)).0 e ((white_said b).1 w)),
+  λ s. (not_both_ways (white b)).1 (λ w. s.3 (subst White (first s.0 s.1 s.2) ((white_said b).0 w))),
 )
   where
     first : (c : ℕ) (cs : List ℕ) → b ∷ bs ≡ c ∷ cs → b ≡ c

@@ -11,76 +11,76 @@ use lib.Seq.{length-take-le}
 use Rattle.rules.specs.Lists.{pick, same, Each}
 use Rattle.rules.specs.Bytes.{percents}
 use Rattle.rules.specs.Texts.{Text}
-use Rattle.rules.specs.Columns.{Column, columnsFrom, column, written, texts, fields}
+use Rattle.rules.specs.Columns.{Column, columns_from, column, written, texts, fields}
 use Rattle.rules.specs.GrammarLines.{White}
-use Rattle.rules.proofs.Conjunctions.{false-if-never}
-use Rattle.rules.proofs.BareColumns.{allColumns, frontColumns, commentOf, restBehind}
-use Rattle.rules.specs.GrammarColumns.{Begins, no-column, one-column, Columns, Front}
-use Rattle.rules.proofs.ColumnLaws.{columnOf}
-use Rattle.rules.proofs.SaidOfLists.{length-map}
-use Rattle.rules.proofs.TestsAsFacts.{same-is}
-use Rattle.rules.proofs.CommentsAsSaid.{Commented, comment-skip, comment-said, said-comment}
-use Rattle.rules.proofs.ColumnsAreRuns.{one-run, white-none, columns-begin, columns-only, columns-whole}
+use Rattle.rules.proofs.Conjunctions.{false_if_never}
+use Rattle.rules.proofs.BareColumns.{all_columns, front_columns, comment_of, rest_behind}
+use Rattle.rules.specs.GrammarColumns.{Begins, no_column, one_column, Columns, Front}
+use Rattle.rules.proofs.ColumnLaws.{column_of}
+use Rattle.rules.proofs.SaidOfLists.{length_map}
+use Rattle.rules.proofs.TestsAsFacts.{same_is}
+use Rattle.rules.proofs.CommentsAsSaid.{Commented, comment_skip, comment_said, said_comment}
+use Rattle.rules.proofs.ColumnsAreRuns.{one_run, white_none, columns_begin, columns_only, columns_whole}
 
 -- ---- all columns
 
-pub columns-said : (l : List ℕ) (cs : List (List ℕ)) → allColumns l ≡ cs → Columns l cs
-columns-said l cs e = let w = columns-whole l in (w.0, subst (λ (cs : List (List ℕ)). Begins l cs w.0) e w.1, w.2)
+pub columns_said : (l : List ℕ) (cs : List (List ℕ)) → all_columns l ≡ cs → Columns l cs
+columns_said l cs e = let w = columns_whole l in (w.0, subst (λ (cs : List (List ℕ)). Begins l cs w.0) e w.1, w.2)
 
-pub said-columns : (l : List ℕ) (cs : List (List ℕ)) → Columns l cs → allColumns l ≡ cs
-said-columns l cs c = columns-only c.1 c.2 ∙ append-nil cs
+pub said_columns : (l : List ℕ) (cs : List (List ℕ)) → Columns l cs → all_columns l ≡ cs
+said_columns l cs c = columns_only c.1 c.2 ∙ append-nil cs
 
 -- ---- the first of them, and what stands behind
 
-pub begins-at : {l rest : List ℕ} {cs : List (List ℕ)} → Begins l cs rest → (a i : ℕ) → i < length cs → (written (columnsFrom a l) i).bytes ≡ get_or cs i []
-begins-at no-column a i h = absurd (omega arith)
-begins-at (one-column {l} {c} {more} {rest} {cs} gap e w r p b) a i h =
-    ap (λ (ds : List Column). (written ds i).bytes) (one-run a l gap c more e w r p) ∙ by i h (λ k. begins-at b (a + length gap + length c) k)
+pub begins_at : {l rest : List ℕ} {cs : List (List ℕ)} → Begins l cs rest → (a i : ℕ) → i < length cs → (written (columns_from a l) i).bytes ≡ get_or cs i []
+begins_at no_column a i h = absurd (omega arith)
+begins_at (one_column {l} {c} {more} {rest} {cs} gap e w r p b) a i h =
+    ap (λ (ds : List Column). (written ds i).bytes) (one_run a l gap c more e w r p) ∙ by i h (λ k. begins_at b (a + length gap + length c) k)
   where
-    by : (i : ℕ) → i < suc (length cs) → ((k : ℕ) → k < length cs → (written (columnsFrom (a + length gap + length c) more) k).bytes ≡ get_or cs k [])
-        → (written (columnOf (a + length gap) c more ∷ columnsFrom (a + length gap + length c) more) i).bytes ≡ get_or (c ∷ cs) i []
+    by : (i : ℕ) → i < suc (length cs) → ((k : ℕ) → k < length cs → (written (columns_from (a + length gap + length c) more) k).bytes ≡ get_or cs k [])
+        → (written (column_of (a + length gap) c more ∷ columns_from (a + length gap + length c) more) i).bytes ≡ get_or (c ∷ cs) i []
     by zero h f = refl
     by (suc k) h f = f k (omega arith)
 
 -- all that stands behind the last of some columns
-abbrev restAfter : ℕ → List ℕ → List (List ℕ) → List ℕ
-restAfter a l [] = l
-restAfter a l (c ∷ cs) = (column (columnsFrom a l) (length cs)).after.bytes
+abbrev rest_after : ℕ → List ℕ → List (List ℕ) → List ℕ
+rest_after a l [] = l
+rest_after a l (c ∷ cs) = (column (columns_from a l) (length cs)).after.bytes
 
-begins-rest : {l rest : List ℕ} {cs : List (List ℕ)} → Begins l cs rest → (a : ℕ) → restAfter a l cs ≡ rest
-begins-rest no-column a = refl
-begins-rest (one-column {l} {c} {more} {rest} {cs} gap e w r p b) a =
-    ap (λ (ds : List Column). (column ds (length cs)).after.bytes) (one-run a l gap c more e w r p) ∙ by cs (begins-rest b (a + length gap + length c))
+begins_rest : {l rest : List ℕ} {cs : List (List ℕ)} → Begins l cs rest → (a : ℕ) → rest_after a l cs ≡ rest
+begins_rest no_column a = refl
+begins_rest (one_column {l} {c} {more} {rest} {cs} gap e w r p b) a =
+    ap (λ (ds : List Column). (column ds (length cs)).after.bytes) (one_run a l gap c more e w r p) ∙ by cs (begins_rest b (a + length gap + length c))
   where
-    by : (cs : List (List ℕ)) → restAfter (a + length gap + length c) more cs ≡ rest
-        → (column (columnOf (a + length gap) c more ∷ columnsFrom (a + length gap + length c) more) (length cs)).after.bytes ≡ rest
+    by : (cs : List (List ℕ)) → rest_after (a + length gap + length c) more cs ≡ rest
+        → (column (column_of (a + length gap) c more ∷ columns_from (a + length gap + length c) more) (length cs)).after.bytes ≡ rest
     by [] e = e
     by (d ∷ cs) e = e
 
-pub rest-said : (l rest c : List ℕ) (cs : List (List ℕ)) → Begins l (c ∷ cs) rest → (restBehind (length cs) l).bytes ≡ rest
-rest-said l rest c cs b = begins-rest b 0
+pub rest_said : (l rest c : List ℕ) (cs : List (List ℕ)) → Begins l (c ∷ cs) rest → (rest_behind (length cs) l).bytes ≡ rest
+rest_said l rest c cs b = begins_rest b 0
 
 -- a line that begins with columns begins with the first of them
-pub begins-some : {l rest : List ℕ} {cs : List (List ℕ)} → Begins l cs rest → (n : ℕ) → (rest : List ℕ) × Begins l (take n cs) rest
-begins-some (no-column {l}) zero = (l, no-column)
-begins-some (no-column {l}) (suc n) = (l, no-column)
-begins-some {l} (one-column gap e w r p b) zero = (l, no-column)
-begins-some (one-column gap e w r p b) (suc n) = let m = begins-some b n in (m.0, one-column gap e w r p m.1)
+pub begins_some : {l rest : List ℕ} {cs : List (List ℕ)} → Begins l cs rest → (n : ℕ) → (rest : List ℕ) × Begins l (take n cs) rest
+begins_some (no_column {l}) zero = (l, no_column)
+begins_some (no_column {l}) (suc n) = (l, no_column)
+begins_some {l} (one_column gap e w r p b) zero = (l, no_column)
+begins_some (one_column gap e w r p b) (suc n) = let m = begins_some b n in (m.0, one_column gap e w r p m.1)
 
-pub begins-said : (n : ℕ) (l : List ℕ) → n < length (allColumns l) → Begins l (take (suc n) (allColumns l)) (restBehind n l).bytes
-begins-said n l h =
-    let m = begins-some (columns-whole l).1 (suc n) in
-    subst (Begins l (take (suc n) (allColumns l))) (sym (begins-rest m.1 0) ∙ by (allColumns l) h) m.1
+pub begins_said : (n : ℕ) (l : List ℕ) → n < length (all_columns l) → Begins l (take (suc n) (all_columns l)) (rest_behind n l).bytes
+begins_said n l h =
+    let m = begins_some (columns_whole l).1 (suc n) in
+    subst (Begins l (take (suc n) (all_columns l))) (sym (begins_rest m.1 0) ∙ by (all_columns l) h) m.1
   where
-    by : (cs : List (List ℕ)) → n < length cs → restAfter 0 l (take (suc n) cs) ≡ (restBehind n l).bytes
+    by : (cs : List (List ℕ)) → n < length cs → rest_after 0 l (take (suc n) cs) ≡ (rest_behind n l).bytes
     by [] h = absurd (omega arith)
-    by (c ∷ cs) h = ap (λ (k : ℕ). (column (columnsFrom 0 l) k).after.bytes) (length-take-le n cs (omega arith))
+    by (c ∷ cs) h = ap (λ (k : ℕ). (column (columns_from 0 l) k).after.bytes) (length-take-le n cs (omega arith))
 
 -- a text behind a column says that the column is there
-pub text-behind : (n : ℕ) (l : List ℕ) → 1 ≤ length (restBehind n l).bytes → n < length (allColumns l)
-text-behind n l h =
-    let count : length (allColumns l) ≡ length (columnsFrom 0 l) = length-map (λ (t : Text). t.bytes) (texts (columnsFrom 0 l)) ∙ length-map (λ (c : Column). c.text) (columnsFrom 0 l) in
-    subst (λ (k : ℕ). n < k) (sym count) (by (columnsFrom 0 l) n h)
+pub text_behind_lem : (n : ℕ) (l : List ℕ) → 1 ≤ length (rest_behind n l).bytes → n < length (all_columns l)
+text_behind_lem n l h =
+    let count : length (all_columns l) ≡ length (columns_from 0 l) = length_map (λ (t : Text). t.bytes) (texts (columns_from 0 l)) ∙ length_map (λ (c : Column). c.text) (columns_from 0 l) in
+    subst (λ (k : ℕ). n < k) (sym count) (by (columns_from 0 l) n h)
   where
     by : (cs : List Column) (n : ℕ) → 1 ≤ length (column cs n).after.bytes → n < length cs
     by [] n h = absurd (omega arith)
@@ -89,17 +89,17 @@ text-behind n l h =
 
 -- ---- in front of the comment
 
-abbrev frontOf : List (List ℕ) → List (List ℕ)
-frontOf [] = []
-frontOf (c ∷ cs) = pick (same c percents) [] (c ∷ frontOf cs)
+abbrev front_of : List (List ℕ) → List (List ℕ)
+front_of [] = []
+front_of (c ∷ cs) = pick (same c percents) [] (c ∷ front_of cs)
 
-front_of : (cs : List Column) → map (λ (t : Text). t.bytes) (fields cs) ≡ frontOf (map (λ (t : Text). t.bytes) (texts cs))
+front_of_lem : (cs : List Column) → map (λ (t : Text). t.bytes) (fields cs) ≡ front_of (map (λ (t : Text). t.bytes) (texts cs))
 unfolding fields
-front_of [] = refl
-front_of (c ∷ cs) = by (same c.text.bytes percents) (front_of cs)
+front_of_lem [] = refl
+front_of_lem (c ∷ cs) = by (same c.text.bytes percents) (front_of_lem cs)
   where
-    by : (t : Bool) → map (λ (t : Text). t.bytes) (fields cs) ≡ frontOf (map (λ (t : Text). t.bytes) (texts cs))
-        → map (λ (t : Text). t.bytes) (pick t [] (c.text ∷ fields cs)) ≡ pick t [] (c.text.bytes ∷ frontOf (map (λ (t : Text). t.bytes) (texts cs)))
+    by : (t : Bool) → map (λ (t : Text). t.bytes) (fields cs) ≡ front_of (map (λ (t : Text). t.bytes) (texts cs))
+        → map (λ (t : Text). t.bytes) (pick t [] (c.text ∷ fields cs)) ≡ pick t [] (c.text.bytes ∷ front_of (map (λ (t : Text). t.bytes) (texts cs)))
     by true e = refl
     by false e = ap (λ (xs : List (List ℕ)). c.text.bytes ∷ xs) e
 
@@ -110,27 +110,27 @@ record Fronts (cs front : List (List ℕ)) : Type 0 where
   no_sign : Each (λ (c : List ℕ). c ≡ percents → ⊥) front
   next : (back ≡ []) ⊎ ((more : List (List ℕ)) × (back ≡ percents ∷ more))
 
-fronts : (cs : List (List ℕ)) → Fronts cs (frontOf cs)
+fronts : (cs : List (List ℕ)) → Fronts cs (front_of cs)
 fronts [] = record { back = []; are = refl; no_sign = tt; next = inl refl }
 fronts (c ∷ cs) = by (same c percents) refl (fronts cs)
   where
-    by : (t : Bool) → same c percents ≡ t → Fronts cs (frontOf cs) → Fronts (c ∷ cs) (pick t [] (c ∷ frontOf cs))
-    by true e f = record { back = c ∷ cs; are = refl; no_sign = tt; next = inr (cs, ap (λ (c : List ℕ). c ∷ cs) ((same-is c percents).0 e)) }
+    by : (t : Bool) → same c percents ≡ t → Fronts cs (front_of cs) → Fronts (c ∷ cs) (pick t [] (c ∷ front_of cs))
+    by true e f = record { back = c ∷ cs; are = refl; no_sign = tt; next = inr (cs, ap (λ (c : List ℕ). c ∷ cs) ((same_is c percents).0 e)) }
     by false e f =
         record {
           back = f.back;
           are = ap (λ (cs : List (List ℕ)). c ∷ cs) f.are;
-          no_sign = (λ q. false≢true (sym e ∙ (same-is c percents).1 q), f.no_sign);
+          no_sign = (λ q. false≢true (sym e ∙ (same_is c percents).1 q), f.no_sign);
           next = f.next;
         }
 
 -- and back
-front-only : (xs ys : List (List ℕ)) → Each (λ (c : List ℕ). c ≡ percents → ⊥) xs → (ys ≡ []) ⊎ ((more : List (List ℕ)) × (ys ≡ percents ∷ more)) → frontOf (xs ++ ys) ≡ xs
-front-only [] ys n (inl e) = ap frontOf e
-front-only [] ys n (inr m) = ap frontOf m.1
-front-only (x ∷ xs) ys n k =
-    ap (λ (t : Bool). pick t [] (x ∷ frontOf (xs ++ ys))) (false-if-never (same x percents) (λ e. n.0 ((same-is x percents).0 e)))
-    ∙ ap (λ (cs : List (List ℕ)). x ∷ cs) (front-only xs ys n.1 k)
+front_only : (xs ys : List (List ℕ)) → Each (λ (c : List ℕ). c ≡ percents → ⊥) xs → (ys ≡ []) ⊎ ((more : List (List ℕ)) × (ys ≡ percents ∷ more)) → front_of (xs ++ ys) ≡ xs
+front_only [] ys n (inl e) = ap front_of e
+front_only [] ys n (inr m) = ap front_of m.1
+front_only (x ∷ xs) ys n k =
+    ap (λ (t : Bool). pick t [] (x ∷ front_of (xs ++ ys))) (false_if_never (same x percents) (λ e. n.0 ((same_is x percents).0 e)))
+    ∙ ap (λ (cs : List (List ℕ)). x ∷ cs) (front_only xs ys n.1 k)
 
 -- a line's columns in two parts
 record Halves (l rest : List ℕ) (xs ys : List (List ℕ)) : Type 0 where
@@ -139,41 +139,41 @@ record Halves (l rest : List ℕ) (xs ys : List (List ℕ)) : Type 0 where
   second : Begins between ys rest
 
 halves : (xs ys : List (List ℕ)) {l rest : List ℕ} → Begins l (xs ++ ys) rest → Halves l rest xs ys
-halves [] ys {l} b = record { between = l; first = no-column; second = b }
-halves (x ∷ xs) ys (one-column gap e w r p b) =
+halves [] ys {l} b = record { between = l; first = no_column; second = b }
+halves (x ∷ xs) ys (one_column gap e w r p b) =
     let h = halves xs ys b in
-    record { between = h.between; first = one-column gap e w r p h.first; second = h.second }
+    record { between = h.between; first = one_column gap e w r p h.first; second = h.second }
 
-pub front-said : (l : List ℕ) (xs : List (List ℕ)) → frontColumns l ≡ xs → Front l xs (commentOf l)
-front-said l xs e =
-    let w = columns-whole l in
-    let f = subst (Fronts (allColumns l)) (sym (front_of (columnsFrom 0 l)) ∙ e) (fronts (allColumns l)) in
+pub front_said : (l : List ℕ) (xs : List (List ℕ)) → front_columns l ≡ xs → Front l xs (comment_of l)
+front_said l xs e =
+    let w = columns_whole l in
+    let f = subst (Fronts (all_columns l)) (sym (front_of_lem (columns_from 0 l)) ∙ e) (fronts (all_columns l)) in
     let h = halves xs f.back (subst (λ (cs : List (List ℕ)). Begins l cs w.0) f.are w.1) in
     record {
       rest = h.between;
       begins = h.first;
       no_sign = f.no_sign;
-      then-comment =
-          subst (Commented h.between) (sym (comment-skip h.first f.no_sign 0))
-          (comment-said h.between (by h.between w.0 w.2 f.back f.next h.second));
+      then_comment =
+          subst (Commented h.between) (sym (comment_skip h.first f.no_sign 0))
+          (comment_said h.between (by h.between w.0 w.2 f.back f.next h.second));
     }
   where
     nothing : {m r : List ℕ} → Begins m [] r → Each White r → Each White m
-    nothing no-column w = w
+    nothing no_column w = w
 
     by : (m r : List ℕ) → Each White r → (ys : List (List ℕ)) → (ys ≡ []) ⊎ ((more : List (List ℕ)) × (ys ≡ percents ∷ more)) → Begins m ys r
         → Each White m ⊎ ((comment : List ℕ) × Begins m (percents ∷ []) comment)
     by m r w ys (inl e) b = inl (nothing (subst (λ (ys : List (List ℕ)). Begins m ys r) e b) w)
-    by m r w ys (inr k) b = inr (begins-some (subst (λ (ys : List (List ℕ)). Begins m ys r) k.1 b) 1)
+    by m r w ys (inr k) b = inr (begins_some (subst (λ (ys : List (List ℕ)). Begins m ys r) k.1 b) 1)
 
 module _ (l : List ℕ) (xs : List (List ℕ)) (text : List ℕ) (f : Front l xs text) where
-  pub said-front : frontColumns l ≡ xs
-  said-front =
-      front_of (columnsFrom 0 l) ∙ ap frontOf (columns-begin f.begins) ∙ front-only xs (allColumns f.rest) f.no_sign (by f.then-comment)
+  pub said_front : front_columns l ≡ xs
+  said_front =
+      front_of_lem (columns_from 0 l) ∙ ap front_of (columns_begin f.begins) ∙ front_only xs (all_columns f.rest) f.no_sign (by f.then_comment)
     where
-      by : Commented f.rest text → (allColumns f.rest ≡ []) ⊎ ((more : List (List ℕ)) × (allColumns f.rest ≡ percents ∷ more))
-      by (inl w) = inl (ap (λ (ds : List Column). map (λ (t : Text). t.bytes) (texts ds)) (white-none 0 f.rest w.0))
-      by (inr c) = inr (allColumns c.0, columns-begin c.1)
+      by : Commented f.rest text → (all_columns f.rest ≡ []) ⊎ ((more : List (List ℕ)) × (all_columns f.rest ≡ percents ∷ more))
+      by (inl w) = inl (ap (λ (ds : List Column). map (λ (t : Text). t.bytes) (texts ds)) (white_none 0 f.rest w.0))
+      by (inr c) = inr (all_columns c.0, columns_begin c.1)
 
-  pub front-comment : commentOf l ≡ text
-  front-comment = comment-skip f.begins f.no_sign 0 ∙ said-comment f.rest text f.then-comment
+  pub front_comment : comment_of l ≡ text
+  front_comment = comment_skip f.begins f.no_sign 0 ∙ said_comment f.rest text f.then_comment

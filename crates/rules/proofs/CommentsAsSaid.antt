@@ -9,56 +9,56 @@ use mathlib.Core.List.{List, [], ◌∷◌}
 use lib.ListN.{length}
 use Rattle.rules.specs.Lists.{same, Each}
 use Rattle.rules.specs.Bytes.{percents}
-use Rattle.rules.specs.Texts.{Text, trim, trimFrom}
-use Rattle.rules.specs.Columns.{Column, columnsFrom, comment}
+use Rattle.rules.specs.Texts.{Text, trim, trim_from}
+use Rattle.rules.specs.Columns.{Column, columns_from, comment}
 use Rattle.rules.specs.GrammarLines.{White}
-use Rattle.rules.specs.GrammarColumns.{Begins, no-column, one-column, Stripped}
-use Rattle.rules.proofs.Conjunctions.{false-if-never}
-use Rattle.rules.proofs.BareColumns.{commentOf}
-use Rattle.rules.proofs.PlaceFree.{trim-free, comment-free}
-use Rattle.rules.proofs.TestsAsFacts.{same-is}
-use Rattle.rules.proofs.ColumnsAreRuns.{one-run, white-none}
-use Rattle.rules.proofs.PrintedLines.{comment-field}
-use Rattle.rules.proofs.StrippedTexts.{stripped-said, said-stripped}
+use Rattle.rules.specs.GrammarColumns.{Begins, no_column, one_column, Stripped}
+use Rattle.rules.proofs.Conjunctions.{false_if_never}
+use Rattle.rules.proofs.BareColumns.{comment_of}
+use Rattle.rules.proofs.PlaceFree.{trim_free, comment_free}
+use Rattle.rules.proofs.TestsAsFacts.{same_is}
+use Rattle.rules.proofs.ColumnsAreRuns.{one_run, white_none}
+use Rattle.rules.proofs.PrintedLines.{comment_field}
+use Rattle.rules.proofs.StrippedTexts.{stripped_said, said_stripped}
 
 -- columns in front of the comment tell nothing of it
-pub comment-skip : {l rest : List ℕ} {cs : List (List ℕ)} → Begins l cs rest → Each (λ (c : List ℕ). c ≡ percents → ⊥) cs → (a : ℕ) → (comment (columnsFrom a l)).bytes ≡ commentOf rest
-comment-skip (no-column {l}) n a = comment-free a 0 l
-comment-skip (one-column {l} {c} {more} {rest} {cs} gap e w r p b) n a =
-    ap (λ (ds : List Column). (comment ds).bytes) (one-run a l gap c more e w r p)
-    ∙ ap (λ (t : Text). t.bytes) (comment-field _ (columnsFrom (a + length gap + length c) more) (false-if-never (same c percents) (λ q. n.0 ((same-is c percents).0 q))))
-    ∙ comment-skip b n.1 (a + length gap + length c)
+pub comment_skip : {l rest : List ℕ} {cs : List (List ℕ)} → Begins l cs rest → Each (λ (c : List ℕ). c ≡ percents → ⊥) cs → (a : ℕ) → (comment (columns_from a l)).bytes ≡ comment_of rest
+comment_skip (no_column {l}) n a = comment_free a 0 l
+comment_skip (one_column {l} {c} {more} {rest} {cs} gap e w r p b) n a =
+    ap (λ (ds : List Column). (comment ds).bytes) (one_run a l gap c more e w r p)
+    ∙ ap (λ (t : Text). t.bytes) (comment_field _ (columns_from (a + length gap + length c) more) (false_if_never (same c percents) (λ q. n.0 ((same_is c percents).0 q))))
+    ∙ comment_skip b n.1 (a + length gap + length c)
 
-comment-none : (rest : List ℕ) → Each White rest → commentOf rest ≡ []
+comment_none : (rest : List ℕ) → Each White rest → comment_of rest ≡ []
 unfolding comment
-comment-none rest w = ap (λ (cs : List Column). (comment cs).bytes) (white-none 0 rest w)
+comment_none rest w = ap (λ (cs : List Column). (comment cs).bytes) (white_none 0 rest w)
 
-comment-here : (c : Column) (cs : List Column) → same c.text.bytes percents ≡ true → comment (c ∷ cs) ≡ trim c.after
+comment_here : (c : Column) (cs : List Column) → same c.text.bytes percents ≡ true → comment (c ∷ cs) ≡ trim c.after
 unfolding comment
-comment-here c cs e = rw e
+comment_here c cs e = rw e
 
-comment-sign : {rest behind : List ℕ} {cs : List (List ℕ)} → Begins rest cs behind → cs ≡ percents ∷ [] → commentOf rest ≡ (trimFrom 0 behind).bytes
-comment-sign (no-column {l}) q = absurd (let z : ◌≡◌ {A = ℕ} 0 1 = cc in omega arith)
-comment-sign (one-column {l} {c} {more} {rest} {cs} gap e w r p b) q =
+comment_sign_lem : {rest behind : List ℕ} {cs : List (List ℕ)} → Begins rest cs behind → cs ≡ percents ∷ [] → comment_of rest ≡ (trim_from 0 behind).bytes
+comment_sign_lem (no_column {l}) q = absurd (let z : ◌≡◌ {A = ℕ} 0 1 = cc in omega arith)
+comment_sign_lem (one_column {l} {c} {more} {rest} {cs} gap e w r p b) q =
     let sign : c ≡ percents = cc in
-    ap (λ (ds : List Column). (comment ds).bytes) (one-run 0 l gap c more e w r p)
-    ∙ ap (λ (t : Text). t.bytes) (comment-here _ (columnsFrom (0 + length gap + length c) more) ((same-is c percents).1 sign))
-    ∙ trim-free (0 + length gap + length c) 0 more
-    ∙ ap (λ (xs : List ℕ). (trimFrom 0 xs).bytes) (all b (cc))
+    ap (λ (ds : List Column). (comment ds).bytes) (one_run 0 l gap c more e w r p)
+    ∙ ap (λ (t : Text). t.bytes) (comment_here _ (columns_from (0 + length gap + length c) more) ((same_is c percents).1 sign))
+    ∙ trim_free (0 + length gap + length c) 0 more
+    ∙ ap (λ (xs : List ℕ). (trim_from 0 xs).bytes) (all b (cc))
   where
     all : {m behind : List ℕ} {cs : List (List ℕ)} → Begins m cs behind → cs ≡ [] → m ≡ behind
-    all no-column q = refl
-    all (one-column gap e w r p b) q = absurd (let z : ◌≡◌ {A = ℕ} 0 1 = cc in omega arith)
+    all no_column q = refl
+    all (one_column gap e w r p b) q = absurd (let z : ◌≡◌ {A = ℕ} 0 1 = cc in omega arith)
 
 -- what the grammar says behind the columns
 abbrev pub Commented : List ℕ → List ℕ → Type 0
 Commented rest text = (Each White rest × (text ≡ [])) ⊎ ((behind : List ℕ) × Begins rest (percents ∷ []) behind × Stripped behind text)
 
-pub comment-said : (rest : List ℕ) → Each White rest ⊎ ((behind : List ℕ) × Begins rest (percents ∷ []) behind) → Commented rest (commentOf rest)
-comment-said rest (inl w) = inl (w, comment-none rest w)
-comment-said rest (inr c) =
-    inr (c.0, c.1, subst (Stripped c.0) (sym (comment-sign c.1 refl)) (stripped-said (record { start = 0; bytes = c.0 })))
+pub comment_said : (rest : List ℕ) → Each White rest ⊎ ((behind : List ℕ) × Begins rest (percents ∷ []) behind) → Commented rest (comment_of rest)
+comment_said rest (inl w) = inl (w, comment_none rest w)
+comment_said rest (inr c) =
+    inr (c.0, c.1, subst (Stripped c.0) (sym (comment_sign_lem c.1 refl)) (stripped_said (record { start = 0; bytes = c.0 })))
 
-pub said-comment : (rest text : List ℕ) → Commented rest text → commentOf rest ≡ text
-said-comment rest text (inl w) = comment-none rest w.0 ∙ sym w.1
-said-comment rest text (inr c) = comment-sign c.1 refl ∙ said-stripped (record { start = 0; bytes = c.0 }) text c.2
+pub said_comment : (rest text : List ℕ) → Commented rest text → comment_of rest ≡ text
+said_comment rest text (inl w) = comment_none rest w.0 ∙ sym w.1
+said_comment rest text (inr c) = comment_sign_lem c.1 refl ∙ said_stripped (record { start = 0; bytes = c.0 }) text c.2

@@ -20,9 +20,9 @@ and_both a b p q = rw (p, q)
 pub both : (a b : Bool) → (a && b) ≡ true → (a ≡ true) × (b ≡ true)
 both a b e = (and_left a b e, and_right a b e)
 
-pub not-true : (a : Bool) → not a ≡ true → a ≡ false
-not-true true e = cc
-not-true false e = refl
+pub not_true : (a : Bool) → not a ≡ true → a ≡ false
+not_true true e = cc
+not_true false e = refl
 
 pub or_left : (a b : Bool) → (a || b) ≡ false → a ≡ false
 or_left true b e = e
@@ -32,17 +32,17 @@ pub or_right : (a b : Bool) → (a || b) ≡ false → b ≡ false
 or_right true b e = cc
 or_right false b e = e
 
-pub false-if-never : (a : Bool) → (a ≡ true → ⊥) → a ≡ false
-false-if-never true n = absurd (n refl)
-false-if-never false n = refl
+pub false_if_never : (a : Bool) → (a ≡ true → ⊥) → a ≡ false
+false_if_never true n = absurd (n refl)
+false_if_never false n = refl
 
-pub or-found : (a b : Bool) → b ≡ true → (a || b) ≡ true
-or-found true b e = refl
-or-found false b e = e
+pub or_found : (a b : Bool) → b ≡ true → (a || b) ≡ true
+or_found true b e = refl
+or_found false b e = e
 
-pub or-false : (a b : Bool) → (a || b) ≡ true → a ≡ false → b ≡ true
-or-false true b e f = absurd (let z : ◌≡◌ {A = ℕ} 0 1 = cc in omega arith)
-or-false false b e f = e
+pub or_false : (a b : Bool) → (a || b) ≡ true → a ≡ false → b ≡ true
+or_false true b e f = absurd (let z : ◌≡◌ {A = ℕ} 0 1 = cc in omega arith)
+or_false false b e f = e
 
 module _ {ℓ} {A : Type ℓ} (f : A → Bool) where
   pub every_first : (x : A) (xs : List A) → every f (x ∷ xs) ≡ true → f x ≡ true
@@ -63,9 +63,9 @@ module _ {ℓ} {A : Type ℓ} (f : A → Bool) where
   every_back [] ys e = e
   every_back (x ∷ xs) ys e = every_back xs ys (every_rest x (xs ++ ys) e)
 
-pub every-joined {ℓ} : {A : Type ℓ} (f : A → Bool) (xs ys : List A) → every f (xs ++ ys) ≡ (every f xs && every f ys)
-every-joined f [] ys = refl
-every-joined f (x ∷ xs) ys = ap (λ (b : Bool). f x && b) (every-joined f xs ys) ∙ sym (and_assoc (f x) (every f xs) (every f ys))
+pub every_joined {ℓ} : {A : Type ℓ} (f : A → Bool) (xs ys : List A) → every f (xs ++ ys) ≡ (every f xs && every f ys)
+every_joined f [] ys = refl
+every_joined f (x ∷ xs) ys = ap (λ (b : Bool). f x && b) (every_joined f xs ys) ∙ sym (and_assoc (f x) (every f xs) (every f ys))
 
 pub every_map {ℓ} : {A B : Type ℓ} (f : B → Bool) (g : A → B) (xs : List A) → every f (map g xs) ≡ every (λ (x : A). f (g x)) xs
 every_map f g [] = refl

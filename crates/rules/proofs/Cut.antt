@@ -14,34 +14,34 @@ use borrow.Author.Tests.{le-leb, lt-leb}
 use Rattle.rules.specs.Lists.{pick, Each}
 use Rattle.rules.specs.Bytes.{newline}
 use Rattle.rules.specs.Rules.{Fault}
-use Rattle.rules.specs.Phases.{Preamble, behindSentence, Answer, refuse, go, hand, step}
-use Rattle.rules.specs.Reading.{Handed, Reading, line, numbers, ended, withByte, byteUnless, byte, read}
+use Rattle.rules.specs.Phases.{Preamble, behind_sentence, Answer, refuse, go, hand, step}
+use Rattle.rules.specs.Reading.{Handed, Reading, line, numbers, ended, with_byte, byte_unless, byte, read}
 use Rattle.rules.specs.Survey.{last_end}
-use Rattle.rules.specs.Cutting.{endsWithin, endedWithin}
-use Rattle.rules.proofs.EachElement.{each-then}
+use Rattle.rules.specs.Cutting.{ends_within, ended_within}
+use Rattle.rules.proofs.EachElement.{each_then}
 
 -- ---- the sentences of the first bytes
 
-ends-within : (n : ℕ) (h : Handed) → h.end ≤ n → endsWithin n h ≡ true
-ends-within n h k = le-leb h.end _ (omega (arith, k))
+ends_within_lem : (n : ℕ) (h : Handed) → h.end ≤ n → ends_within n h ≡ true
+ends_within_lem n h k = le-leb h.end _ (omega (arith, k))
 
-ends-behind : (n : ℕ) (h : Handed) → n < h.end → endsWithin n h ≡ false
-ends-behind n h k = lt-leb h.end _ (omega (arith, k))
+ends_behind : (n : ℕ) (h : Handed) → n < h.end → ends_within n h ≡ false
+ends_behind n h k = lt-leb h.end _ (omega (arith, k))
 
-pub within_all : (n : ℕ) (hs : List Handed) → Each (λ (h : Handed). h.end ≤ n) hs → endedWithin n hs ≡ hs
+pub within_all : (n : ℕ) (hs : List Handed) → Each (λ (h : Handed). h.end ≤ n) hs → ended_within n hs ≡ hs
 within_all n [] a = refl
-within_all n (h ∷ hs) a = rw (ends-within n h a.0, within_all n hs a.1)
+within_all n (h ∷ hs) a = rw (ends_within_lem n h a.0, within_all n hs a.1)
 
-pub within_none : (n : ℕ) (hs : List Handed) → Each (λ (h : Handed). n < h.end) hs → endedWithin n hs ≡ []
+pub within_none : (n : ℕ) (hs : List Handed) → Each (λ (h : Handed). n < h.end) hs → ended_within n hs ≡ []
 within_none n [] a = refl
-within_none n (h ∷ hs) a = rw (ends-behind n h a.0, within_none n hs a.1)
+within_none n (h ∷ hs) a = rw (ends_behind n h a.0, within_none n hs a.1)
 
-pub within-append : (n : ℕ) (gs hs : List Handed) → endedWithin n (gs ++ hs) ≡ endedWithin n gs ++ endedWithin n hs
-within-append n [] hs = refl
-within-append n (g ∷ gs) hs = by (endsWithin n g) (within-append n gs hs)
+pub within_append : (n : ℕ) (gs hs : List Handed) → ended_within n (gs ++ hs) ≡ ended_within n gs ++ ended_within n hs
+within_append n [] hs = refl
+within_append n (g ∷ gs) hs = by (ends_within n g) (within_append n gs hs)
   where
-    by : (t : Bool) → endedWithin n (gs ++ hs) ≡ endedWithin n gs ++ endedWithin n hs
-        → pick t (g ∷ endedWithin n (gs ++ hs)) (endedWithin n (gs ++ hs)) ≡ pick t (g ∷ endedWithin n gs) (endedWithin n gs) ++ endedWithin n hs
+    by : (t : Bool) → ended_within n (gs ++ hs) ≡ ended_within n gs ++ ended_within n hs
+        → pick t (g ∷ ended_within n (gs ++ hs)) (ended_within n (gs ++ hs)) ≡ pick t (g ∷ ended_within n gs) (ended_within n gs) ++ ended_within n hs
     by true e = ap (λ (l : List Handed). g ∷ l) e
     by false e = e
 
@@ -52,7 +52,7 @@ pub record Rested (r : Reading) : Type 0 where
   pub sound : r.fault ≡ none
   pub unbegun : r.part ≡ []
   pub preamble : Preamble
-  pub behind : r.phase ≡ behindSentence preamble
+  pub behind : r.phase ≡ behind_sentence preamble
 
 pub record Quiet (r s : Reading) : Type 0 where
   pub one : s.at ≡ suc r.at
@@ -66,7 +66,7 @@ pub record Gave (r s : Reading) : Type 0 where
   pub rested : Rested s
 
 by_answer : (r : Reading) (b : ℕ) (t : Bool) (a : Answer)
-    → Quiet r (pick t (ended r a) (withByte r b)) ⊎ Gave r (pick t (ended r a) (withByte r b))
+    → Quiet r (pick t (ended r a) (with_byte r b)) ⊎ Gave r (pick t (ended r a) (with_byte r b))
 by_answer r b true (refuse q) = inl (record { one = refl; unchanged = refl })
 by_answer r b true (go p) = inl (record { one = refl; unchanged = refl })
 by_answer r b true (hand p s) =
@@ -79,12 +79,12 @@ by_answer r b true (hand p s) =
     })
 by_answer r b false a = inl (record { one = refl; unchanged = refl })
 
-by-fault : (r : Reading) (b : ℕ) (f : Option Fault) → Quiet r (byteUnless f r b) ⊎ Gave r (byteUnless f r b)
-by-fault r b none = by_answer r b (eqb b newline) (step r.phase (numbers r.handed) (line r))
-by-fault r b (some f) = inl (record { one = refl; unchanged = refl })
+by_fault : (r : Reading) (b : ℕ) (f : Option Fault) → Quiet r (byte_unless f r b) ⊎ Gave r (byte_unless f r b)
+by_fault r b none = by_answer r b (eqb b newline) (step r.phase (numbers r.handed) (line r))
+by_fault r b (some f) = inl (record { one = refl; unchanged = refl })
 
 pub one_byte : (r : Reading) (b : ℕ) → Quiet r (byte r b) ⊎ Gave r (byte r b)
-one_byte r b = by-fault r b r.fault
+one_byte r b = by_fault r b r.fault
 
 -- ---- many bytes
 
@@ -110,7 +110,7 @@ grow r (b ∷ bs) = by (one_byte r b) (grow (byte r b) bs)
           place = omega (arith, q.one, g.place);
           more = g.more;
           handed = g.handed ∙ ap (λ (l : List Handed). l ++ g.more) q.unchanged;
-          later = each-then (Later (byte r b).at) (Later r.at) (λ h k. omega (arith, q.one)) g.more g.later;
+          later = each_then (Later (byte r b).at) (Later r.at) (λ h k. omega (arith, q.one)) g.more g.later;
           sooner = g.sooner;
         }
     by (inr q) g =
@@ -118,13 +118,13 @@ grow r (b ∷ bs) = by (one_byte r b) (grow (byte r b) bs)
           place = omega (arith, q.one, g.place);
           more = q.given ∷ g.more;
           handed = g.handed ∙ ap (λ (l : List Handed). l ++ g.more) q.more ∙ append_assoc r.handed (q.given ∷ []) g.more;
-          later = (omega (arith, q.ends), each-then (Later (byte r b).at) (Later r.at) (λ h k. omega (arith, q.one)) g.more g.later);
+          later = (omega (arith, q.ends), each_then (Later (byte r b).at) (Later r.at) (λ h k. omega (arith, q.one)) g.more g.later);
           sooner = (omega (arith, q.ends, q.one, g.place), g.sooner);
         }
 
-pub nothing-more : (r : Reading) (x : List ℕ) → x ≡ [] → (grow r x).more ≡ []
+pub nothing_more : (r : Reading) (x : List ℕ) → x ≡ [] → (grow r x).more ≡ []
 unfolding grow
-nothing-more r x e = rw e
+nothing_more r x e = rw e
 
 -- ---- the last sentence handed out among some bytes
 
@@ -136,10 +136,10 @@ pub record Last (r : Reading) (bs : List ℕ) : Type 0 where
   pub handed : (read r front).handed ≡ (read r bs).handed
   pub ends : last_end (read r bs).handed ≡ r.at + length front
 
-pub last-end : (hs : List Handed) (h : Handed) → last_end (hs ++ (h ∷ [])) ≡ h.end
-last-end [] h = refl
-last-end (g ∷ []) h = refl
-last-end (g ∷ i ∷ hs) h = last-end (i ∷ hs) h
+pub last_end_lem : (hs : List Handed) (h : Handed) → last_end (hs ++ (h ∷ [])) ≡ h.end
+last_end_lem [] h = refl
+last_end_lem (g ∷ []) h = refl
+last_end_lem (g ∷ i ∷ hs) h = last_end_lem (i ∷ hs) h
 
 pub last : (r : Reading) (bs : List ℕ) → ((read r bs).handed ≡ r.handed) ⊎ Last r bs
 last r [] = inl refl
@@ -166,7 +166,7 @@ last r (b ∷ bs) = by (one_byte r b) (last (byte r b) bs)
           parts = refl;
           rested = q.rested;
           handed = sym e;
-          ends = ap last_end (e ∙ q.more) ∙ last-end r.handed q.given ∙ omega (arith, q.ends);
+          ends = ap last_end (e ∙ q.more) ∙ last_end_lem r.handed q.given ∙ omega (arith, q.ends);
         })
     by (inl q) (inr l) = inr (further q.one l)
     by (inr q) (inr l) = inr (further q.one l)

@@ -16,8 +16,8 @@ use Rattle.rules.specs.Bytes.{newline}
 use Rattle.rules.specs.Sentences.{Sentence}
 use Rattle.rules.specs.Reading.{Handed, Reading, read}
 use Rattle.rules.specs.Refusals.{OneLine}
-use Rattle.rules.specs.SentenceFrom.{startsLine, endedLine, behindHeading, firstHanded, begunBy, sentenceFrom}
-use Rattle.rules.proofs.ReadLines.{read-append}
+use Rattle.rules.specs.SentenceFrom.{starts_line, ended_line, behind_heading, first_handed, begun_by, sentence_from}
+use Rattle.rules.proofs.ReadLines.{read_append}
 use Rattle.rules.proofs.Cut.{grow}
 use Rattle.rules.proofs.ReadFromPlace.{around, past, Begun, from_bytes}
 
@@ -26,14 +26,14 @@ use Rattle.rules.proofs.ReadFromPlace.{around, past, Begun, from_bytes}
 -- of sentences that end up to a place, and others that end behind it
 first_part : (sooner later : List Handed) (h : Handed) (others : List Handed) (n : ℕ) → sooner ++ later ≡ h ∷ others
     → Each (λ (g : Handed). g.end ≤ n) sooner → Each (λ (g : Handed). n < g.end) later
-    → (h.end ≤ n → firstHanded sooner ≡ some h.sentence) × (n < h.end → firstHanded sooner ≡ none)
+    → (h.end ≤ n → first_handed sooner ≡ some h.sentence) × (n < h.end → first_handed sooner ≡ none)
 first_part [] later h others n e a b =
     (λ l. absurd (let c : n < h.end = (subst (Each (λ (g : Handed). n < g.end)) e b).0 in omega (arith, l, c)), λ l. refl)
 first_part (g ∷ gs) later h others n e a b =
     let same : g ≡ h = cc in
     (λ l. ap (λ (x : Handed). some x.sentence) same, λ l. absurd (let c = a.0 in let d : g.end ≡ h.end = ap (λ (x : Handed). x.end) same in omega (arith, l, c, d)))
 
-first_more : (hs gs : List Handed) (s : Sentence) → firstHanded hs ≡ some s → firstHanded (hs ++ gs) ≡ some s
+first_more : (hs gs : List Handed) (s : Sentence) → first_handed hs ≡ some s → first_handed (hs ++ gs) ≡ some s
 first_more [] gs s e = absurd (let z : ◌≡◌ {A = ℕ} 0 1 = cc in omega arith)
 first_more (h ∷ hs) gs s e = e
 
@@ -48,25 +48,25 @@ taken (suc m) (x ∷ xs) = by (taken m xs)
     by (inl e) = inl (ap suc e)
     by (inr k) = inr (ap suc k.0, omega (arith, k.1))
 
-unended : (n : ℕ) (l : List ℕ) → OneLine l → endedLine (take n l) ≡ none
-unfolding endedLine
+unended : (n : ℕ) (l : List ℕ) → OneLine l → ended_line (take n l) ≡ none
+unfolding ended_line
 unended zero l o = refl
 unended (suc n) [] o = refl
 unended (suc n) (b ∷ bs) o = rw (ne_eqb b newline o.0, unended n bs o.1)
 
 -- the line behind a front, cut in front of its newline
-cut_line : (front l : List ℕ) (n : ℕ) → OneLine l → endedLine (drop (length front) (take n (front ++ l))) ≡ none
-unfolding endedLine
+cut_line : (front l : List ℕ) (n : ℕ) → OneLine l → ended_line (drop (length front) (take n (front ++ l))) ≡ none
+unfolding ended_line
 cut_line [] l n o = unended n l o
 cut_line (c ∷ cs) l zero o = refl
 cut_line (c ∷ cs) l (suc n) o = cut_line cs l n o
 
-no_line : (file : List ℕ) (at : ℕ) → endedLine (drop at file) ≡ none → sentenceFrom file at ≡ none
-unfolding sentenceFrom
-no_line file at e = by (startsLine file at)
+no_line : (file : List ℕ) (at : ℕ) → ended_line (drop at file) ≡ none → sentence_from file at ≡ none
+unfolding sentence_from
+no_line file at e = by (starts_line file at)
   where
-    by : (t : Bool) → pick t (begunBy file at (endedLine (drop at file))) none ≡ none
-    by true = ap (begunBy file at) e
+    by : (t : Bool) → pick t (begun_by file at (ended_line (drop at file))) none ≡ none
+    by true = ap (begun_by file at) e
     by false = refl
 
 -- ---- the sentence at a place, in a file that is cut
@@ -76,41 +76,41 @@ module _ (f : List ℕ) (at : ℕ) (s : Sentence) (b : Begun f at s) where
   next = suc (at + length b.head)
 
   abbrev behind : Reading
-  behind = behindHeading at b.heading next
+  behind = behind_heading at b.heading next
 
   abbrev end : ℕ
   end = b.handed.end
 
   -- the first bytes behind the heading
-  first-bytes : (p q : List ℕ) → b.rest ≡ p ++ q
-      → (end ≤ next + length p → firstHanded (read behind p).handed ≡ some s) × (next + length p < end → firstHanded (read behind p).handed ≡ none)
-  first-bytes p q e =
+  first_bytes : (p q : List ℕ) → b.rest ≡ p ++ q
+      → (end ≤ next + length p → first_handed (read behind p).handed ≡ some s) × (next + length p < end → first_handed (read behind p).handed ≡ none)
+  first_bytes p q e =
       let g = grow behind p in
       let k = grow (read behind p) q in
       let all : g.more ++ k.more ≡ b.handed ∷ b.others =
-      ap (λ (hs : List Handed). hs ++ k.more) (sym g.handed) ∙ sym k.handed ∙ ap (λ (r : Reading). r.handed) (sym (read-append behind p q) ∙ ap (read behind) (sym e)) ∙ b.gives in
+      ap (λ (hs : List Handed). hs ++ k.more) (sym g.handed) ∙ sym k.handed ∙ ap (λ (r : Reading). r.handed) (sym (read_append behind p q) ∙ ap (read behind) (sym e)) ∙ b.gives in
       let n = (read behind p).at in
       let o = first_part g.more k.more b.handed b.others n all g.sooner k.later in
       let place : n ≡ next + length p = g.place in
-      (λ l. ap firstHanded g.handed ∙ o.0 (omega (arith, l, place)) ∙ ap some b.its, λ l. ap firstHanded g.handed ∙ o.1 (omega (arith, l, place)))
+      (λ l. ap first_handed g.handed ∙ o.0 (omega (arith, l, place)) ∙ ap some b.its, λ l. ap first_handed g.handed ∙ o.1 (omega (arith, l, place)))
 
   -- it ends behind its heading, and in the file
-  end-behind : next < end
-  end-behind = by (leb end next) refl
+  end_behind : next < end
+  end_behind = by (leb end next) refl
     where
       by : (t : Bool) → leb end next ≡ t → next < end
-      by true e = absurd (let z = (first-bytes [] b.rest refl).0 (omega (arith, leb-true end next e)) in let y : ◌≡◌ {A = ℕ} 0 1 = cc in omega arith)
+      by true e = absurd (let z = (first_bytes [] b.rest refl).0 (omega (arith, leb-true end next e)) in let y : ◌≡◌ {A = ℕ} 0 1 = cc in omega arith)
       by false e = leb-false end next e
 
-  end-inside : end ≤ next + length b.rest
-  end-inside = by (leb end (next + length b.rest)) refl
+  end_inside : end ≤ next + length b.rest
+  end_inside = by (leb end (next + length b.rest)) refl
     where
       by : (t : Bool) → leb end (next + length b.rest) ≡ t → end ≤ next + length b.rest
       by true e = leb-true end (next + length b.rest) e
       by false e =
           absurd
-          (let z = (first-bytes b.rest [] (sym (append-nil b.rest))).1 (leb-false end (next + length b.rest) e) in
-          let w = ap (λ (hs : List Handed). firstHanded hs) b.gives in
+          (let z = (first_bytes b.rest [] (sym (append-nil b.rest))).1 (leb-false end (next + length b.rest) e) in
+          let w = ap (λ (hs : List Handed). first_handed hs) b.gives in
           let y : ◌≡◌ {A = ℕ} 0 1 = cc in omega arith)
 
   -- the cut lies so many bytes behind the heading
@@ -121,39 +121,39 @@ module _ (f : List ℕ) (at : ℕ) (s : Sentence) (b : Begun f at s) where
       ap (λ (k : ℕ). take k f) place ∙ ap (take (length done + m)) (b.parts ∙ around b.front b.head b.rest) ∙ take-append-add done b.rest m
       ∙ sym (around b.front b.head (take m b.rest))
 
-  pub kept_there : (n : ℕ) (x : List ℕ) → end ≤ n → sentenceFrom (take n f ++ x) at ≡ some s
+  pub kept_there : (n : ℕ) (x : List ℕ) → end ≤ n → sentence_from (take n f ++ x) at ≡ some s
   kept_there n x l =
       let m = n - next in
-      let place : n ≡ next + m = omega (arith, l, end-behind) in
+      let place : n ≡ next + m = omega (arith, l, end_behind) in
       let p = take m b.rest in
       let whole : take n f ++ x ≡ b.front ++ (b.head ++ (newline ∷ (p ++ x))) = ap (λ (l : List ℕ). l ++ x) (cut_parts n m place) ∙ simp append_assoc in
       let g = grow (read behind p) x in
       from_bytes f at s b (take n f ++ x) (p ++ x) whole
-      ∙ ap (λ (r : Reading). firstHanded r.handed) (read-append behind p x)
-      ∙ ap firstHanded g.handed
-      ∙ first_more (read behind p).handed g.more s ((first-bytes p (drop m b.rest) (sym (take-append-drop m b.rest))).0 (by (taken m b.rest)))
+      ∙ ap (λ (r : Reading). first_handed r.handed) (read_append behind p x)
+      ∙ ap first_handed g.handed
+      ∙ first_more (read behind p).handed g.more s ((first_bytes p (drop m b.rest) (sym (take-append-drop m b.rest))).0 (by (taken m b.rest)))
     where
       by : (length (take (n - next) b.rest) ≡ n - next) ⊎ ((length (take (n - next) b.rest) ≡ length b.rest) × (length b.rest ≤ n - next)) → end ≤ next + length (take (n - next) b.rest)
-      by (inl e) = omega (arith, e, l, end-behind)
-      by (inr e) = omega (arith, e.0, end-inside)
+      by (inl e) = omega (arith, e, l, end_behind)
+      by (inr e) = omega (arith, e.0, end_inside)
 
-  pub lost-there : (n : ℕ) → n < end → sentenceFrom (take n f) at ≡ none
-  lost-there n l = by (leb next n) refl
+  pub lost_there : (n : ℕ) → n < end → sentence_from (take n f) at ≡ none
+  lost_there n l = by (leb next n) refl
     where
       few : (length (take (n - next) b.rest) ≡ n - next) ⊎ ((length (take (n - next) b.rest) ≡ length b.rest) × (length b.rest ≤ n - next)) → next ≤ n → next + length (take (n - next) b.rest) < end
       few (inl e) k = omega (arith, e, l, k)
       few (inr e) k = omega (arith, e.0, e.1, l, k)
 
-      by : (t : Bool) → leb next n ≡ t → sentenceFrom (take n f) at ≡ none
+      by : (t : Bool) → leb next n ≡ t → sentence_from (take n f) at ≡ none
       by true e =
           let k : next ≤ n = leb-true next n e in
           let place : n ≡ next + (n - next) = omega (arith, k) in
           let p = take (n - next) b.rest in
-          from_bytes f at s b (take n f) p (cut_parts n (n - next) place) ∙ (first-bytes p (drop (n - next) b.rest) (sym (take-append-drop (n - next) b.rest))).1 (few (taken (n - next) b.rest) k)
+          from_bytes f at s b (take n f) p (cut_parts n (n - next) place) ∙ (first_bytes p (drop (n - next) b.rest) (sym (take-append-drop (n - next) b.rest))).1 (few (taken (n - next) b.rest) k)
       by false e =
           let k : n < next = leb-false next n e in
           let inside : n ≤ length (b.front ++ b.head) = omega (arith, k, length-append b.front b.head, b.place) in
           let short : take n f ≡ take n (b.front ++ b.head) =
           ap (take n) (b.parts ∙ sym (append_assoc b.front b.head (newline ∷ b.rest))) ∙ take-append-le n (b.front ++ b.head) (newline ∷ b.rest) inside in
           no_line (take n f) at
-          (ap (λ (l : List ℕ). endedLine (drop at l)) short ∙ ap (λ (k : ℕ). endedLine (drop k (take n (b.front ++ b.head)))) (sym b.place) ∙ cut_line b.front b.head n b.one_line)
+          (ap (λ (l : List ℕ). ended_line (drop at l)) short ∙ ap (λ (k : ℕ). ended_line (drop k (take n (b.front ++ b.head)))) (sym b.place) ∙ cut_line b.front b.head n b.one_line)

@@ -6,9 +6,9 @@ use Rattle.rules.specs.Lists.{every, Each}
 use Rattle.rules.proofs.Conjunctions.{every_first, every_rest}
 
 module _ {A : Type 0} where
-  pub each-then : (P Q : A → Type 0) → ((x : A) → P x → Q x) → (xs : List A) → Each P xs → Each Q xs
-  each-then P Q f [] a = tt
-  each-then P Q f (x ∷ xs) a = (f x a.0, each-then P Q f xs a.1)
+  pub each_then : (P Q : A → Type 0) → ((x : A) → P x → Q x) → (xs : List A) → Each P xs → Each Q xs
+  each_then P Q f [] a = tt
+  each_then P Q f (x ∷ xs) a = (f x a.0, each_then P Q f xs a.1)
 
   pub each_both : (P Q : A → Type 0) (xs : List A) → Each P xs → Each Q xs → Each (λ (x : A). P x × Q x) xs
   each_both P Q [] a b = tt
@@ -20,20 +20,20 @@ module _ {A : Type 0} where
     each_of f [] = tt
     each_of f (x ∷ xs) = (f x, each_of f xs)
 
-    pub each-joined : (xs ys : List A) → Each P xs → Each P ys → Each P (xs ++ ys)
-    each-joined [] ys a b = b
-    each-joined (x ∷ xs) ys a b = (a.0, each-joined xs ys a.1 b)
+    pub each_joined : (xs ys : List A) → Each P xs → Each P ys → Each P (xs ++ ys)
+    each_joined [] ys a b = b
+    each_joined (x ∷ xs) ys a b = (a.0, each_joined xs ys a.1 b)
 
-    pub each-front : (xs ys : List A) → Each P (xs ++ ys) → Each P xs
-    each-front [] ys a = tt
-    each-front (x ∷ xs) ys a = (a.0, each-front xs ys a.1)
+    pub each_front : (xs ys : List A) → Each P (xs ++ ys) → Each P xs
+    each_front [] ys a = tt
+    each_front (x ∷ xs) ys a = (a.0, each_front xs ys a.1)
 
     pub each_back : (xs ys : List A) → Each P (xs ++ ys) → Each P ys
     each_back [] ys a = a
     each_back (x ∷ xs) ys a = each_back xs ys a.1
 
     pub each_more : (xs : List A) (x : A) → Each P xs → P x → Each P (xs ++ (x ∷ []))
-    each_more xs x a p = each-joined xs (x ∷ []) a (p, tt)
+    each_more xs x a p = each_joined xs (x ∷ []) a (p, tt)
 
 -- ---- mapped
 
@@ -42,16 +42,16 @@ module _ {A B : Type 0} (g : A → B) (P : B → Type 0) where
   each_map [] a = tt
   each_map (x ∷ xs) a = (a.0, each_map xs a.1)
 
-  pub each-mapped : (xs : List A) → Each P (map g xs) → Each (λ (x : A). P (g x)) xs
-  each-mapped [] a = tt
-  each-mapped (x ∷ xs) a = (a.0, each-mapped xs a.1)
+  pub each_mapped : (xs : List A) → Each P (map g xs) → Each (λ (x : A). P (g x)) xs
+  each_mapped [] a = tt
+  each_mapped (x ∷ xs) a = (a.0, each_mapped xs a.1)
 
 -- what follows from what each is mapped to, and of each that passes a test
 module _ {A B : Type 0} (P : B → Type 0) (Q : A → Type 0) (g : A → B) where
-  pub each-mapped-then : ((x : A) → P (g x) → Q x) → (xs : List A) → Each P (map g xs) → Each Q xs
-  each-mapped-then f [] a = tt
-  each-mapped-then f (x ∷ xs) a = (f x a.0, each-mapped-then f xs a.1)
+  pub each_mapped_then : ((x : A) → P (g x) → Q x) → (xs : List A) → Each P (map g xs) → Each Q xs
+  each_mapped_then f [] a = tt
+  each_mapped_then f (x ∷ xs) a = (f x a.0, each_mapped_then f xs a.1)
 
-  pub each-tested : (test : A → Bool) → ((x : A) → P (g x) → test x ≡ true → Q x) → (xs : List A) → Each P (map g xs) → every test xs ≡ true → Each Q xs
-  each-tested test f [] a e = tt
-  each-tested test f (x ∷ xs) a e = (f x a.0 (every_first test x xs e), each-tested test f xs a.1 (every_rest test x xs e))
+  pub each_tested : (test : A → Bool) → ((x : A) → P (g x) → test x ≡ true → Q x) → (xs : List A) → Each P (map g xs) → every test xs ≡ true → Each Q xs
+  each_tested test f [] a e = tt
+  each_tested test f (x ∷ xs) a e = (f x a.0 (every_first test x xs e), each_tested test f xs a.1 (every_rest test x xs e))

@@ -6,19 +6,19 @@ use lib.ListN.{take}
 use lib.Dec.{T, eqb}
 use Rattle.rules.specs.Lists.{bytes, every, same}
 use Rattle.rules.specs.Bytes.{ignored}
-use Rattle.rules.specs.Texts.{rightTrim, trimFrom, frontBytes, behindFrom}
-use Rattle.rules.specs.Columns.{columnsFrom, fields, comment}
-use Rattle.rules.specs.Numbers.{valueFrom, decimal}
+use Rattle.rules.specs.Texts.{right_trim, trim_from, front_bytes, behind_from}
+use Rattle.rules.specs.Columns.{columns_from, fields, comment}
+use Rattle.rules.specs.Numbers.{value_from, decimal}
 use Rattle.rules.specs.Rules.{broken, checked}
-use Rattle.rules.specs.Tables.{hasId, hasTag, known}
-use Rattle.rules.specs.Rows.{originRow, editorRow, tagRow}
-use Rattle.rules.specs.Sentences.{headingOf, endRules, end_of}
+use Rattle.rules.specs.Tables.{has_id, has_tag, known}
+use Rattle.rules.specs.Rows.{origin_row, editor_row, tag_row}
+use Rattle.rules.specs.Sentences.{heading_of, end_rules, end_of}
 use Rattle.rules.specs.Pairs.{pairs, paired}
-use Rattle.rules.specs.Nodes.{parentsWritten, tagsShort, tagsKnown, parentsAllowed, word_of, phraseOf}
-use Rattle.rules.specs.Keywords.{format_of, tableOpened, tableEnded, firstColumn}
-use Rattle.rules.specs.Lines.{at_start, behindOne, atTop, amongRows, amongNodes}
+use Rattle.rules.specs.Nodes.{parents_written, tags_short, tags_known, parents_allowed, word_of, phrase_of}
+use Rattle.rules.specs.Keywords.{format_of, table_opened, table_ended, first_column}
+use Rattle.rules.specs.Lines.{at_start, behind_one, at_top, among_rows, among_nodes}
 use Rattle.rules.specs.Phases.{line_at, taken, judged, after, step}
-use Rattle.rules.specs.Survey.{surveyOf}
+use Rattle.rules.specs.Survey.{survey_of}
 use Rattle.rules.specs.Explaining.{Explanation, described, explained}
 
 abbrev top : List ℕ
@@ -45,7 +45,7 @@ abbrev tells : Explanation → Case → Bool
 tells e c = eqb e.refusal c.refusal && eqb e.of c.of && eqb e.part.start c.start && same e.part.bytes c.part
 
 abbrev holds : Case → Bool
-holds c = tells (explained (surveyOf c.file) (surveyOf c.list) c.place c.tag) c
+holds c = tells (explained (survey_of c.file) (survey_of c.list) c.place c.tag) c
 
 abbrev asked : ℕ → List ℕ → ℕ → ℕ → ℕ → List ℕ → Case
 asked place tag refusal of start part = record { file = ours; list = tags; place = place; tag = tag; refusal = refusal; of = of; start = start; part = part }
@@ -79,6 +79,6 @@ cases =
     ∷ between ours (take 22 tags) 3 (bytes "NN") 23 0 0 []
     ∷ []
 
-pub explained-by-hand : T (every holds cases)
-unfolding ignored rightTrim trimFrom frontBytes behindFrom columnsFrom fields comment valueFrom decimal broken checked hasId hasTag known originRow editorRow tagRow headingOf endRules end_of pairs paired parentsWritten tagsShort tagsKnown parentsAllowed word_of phraseOf format_of tableOpened tableEnded firstColumn at_start behindOne atTop amongRows amongNodes line_at taken judged after step surveyOf described
-explained-by-hand = tt
+pub explained_by_hand : T (every holds cases)
+unfolding ignored right_trim trim_from front_bytes behind_from columns_from fields comment value_from decimal broken checked has_id has_tag known origin_row editor_row tag_row heading_of end_rules end_of pairs paired parents_written tags_short tags_known parents_allowed word_of phrase_of format_of table_opened table_ended first_column at_start behind_one at_top among_rows among_nodes line_at taken judged after step survey_of described
+explained_by_hand = tt

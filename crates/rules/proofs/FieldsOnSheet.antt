@@ -12,14 +12,14 @@ use lib.Dec.{eqb}
 use borrow.Author.Tests.{eq-eqb, ne_eqb}
 use Rattle.rules.specs.Lists.{pick, counting, joined, Each}
 use Rattle.rules.specs.Sentences.{Node, Sentence, listed}
-use Rattle.rules.specs.SheetFields.{nodeRoom, nodeWidth, fieldPlace}
-use Rattle.rules.specs.Sheets.{nodes, leading, nodeNumbers, recordAt, sentenceSheet}
-use Rattle.rules.specs.Meaning.{nodeNumber}
+use Rattle.rules.specs.SheetFields.{node_room, node_width, field_place}
+use Rattle.rules.specs.Sheets.{nodes, leading, node_numbers, record_at, sentence_sheet}
+use Rattle.rules.specs.Meaning.{node_number}
 use Rattle.rules.proofs.Conjunctions.{or_left, or_right}
-use Rattle.rules.proofs.EachElement.{each-then, each_both}
+use Rattle.rules.proofs.EachElement.{each_then, each_both}
 use Rattle.rules.proofs.SaidOfLists.{never_both}
 use Rattle.rules.proofs.Sorting.{Distinct}
-use Rattle.rules.proofs.NodeNumbers.{InRoom, each-own}
+use Rattle.rules.proofs.NodeNumbers.{InRoom, each_own}
 
 -- ---- records of one width, one behind the other, for each number counted
 
@@ -43,47 +43,47 @@ module _ (f : ℕ → List ℕ) (width : ℕ) (wide : (k : ℕ) → length (f k)
 
 -- ---- the record of a number
 
-pub record-wide : (ns : List Node) (k : ℕ) → length (recordAt ns k) ≡ nodeWidth
-record-wide [] k = refl
-record-wide (n ∷ ns) k = by (eqb n.number k) (record-wide ns k)
+pub record_wide : (ns : List Node) (k : ℕ) → length (record_at ns k) ≡ node_width
+record_wide [] k = refl
+record_wide (n ∷ ns) k = by (eqb n.number k) (record_wide ns k)
   where
-    by : (t : Bool) → length (recordAt ns k) ≡ nodeWidth → length (pick t (nodeNumbers n) (recordAt ns k)) ≡ nodeWidth
+    by : (t : Bool) → length (record_at ns k) ≡ node_width → length (pick t (node_numbers n) (record_at ns k)) ≡ node_width
     by true more = refl
     by false more = more
 
 -- ---- a field of a node
 
-pub field_at : (s : Sentence) (field node : ℕ) → field < nodeWidth → node < nodeRoom
-    → get_or (sentenceSheet s) (fieldPlace field node) 0 ≡ get_or (recordAt (nodes s) node) field 0
-unfolding sentenceSheet
+pub field_at : (s : Sentence) (field node : ℕ) → field < node_width → node < node_room
+    → get_or (sentence_sheet s) (field_place field node) 0 ≡ get_or (record_at (nodes s) node) field 0
+unfolding sentence_sheet
 field_at s field node l h =
-    get_or-append-add (leading s) (joined (map (recordAt (nodes s)) (counting 0 nodeRoom))) (nodeWidth * node + field) 0
-    ∙ at_joined (recordAt (nodes s)) nodeWidth (record-wide (nodes s)) 0 nodeRoom node field h l
-    ∙ ap (λ (m : ℕ). get_or (recordAt (nodes s) m) field 0) (zero-add node)
+    get_or-append-add (leading s) (joined (map (record_at (nodes s)) (counting 0 node_room))) (node_width * node + field) 0
+    ∙ at_joined (record_at (nodes s)) node_width (record_wide (nodes s)) 0 node_room node field h l
+    ∙ ap (λ (m : ℕ). get_or (record_at (nodes s) m) field 0) (zero-add node)
 
 -- ---- a node's own numbers
 
 abbrev pub FieldsStand : List ℕ → Node → Type 0
-FieldsStand sheet n = (field : ℕ) → field < nodeWidth → get_or sheet (fieldPlace field n.number) 0 ≡ get_or (nodeNumbers n) field 0
+FieldsStand sheet n = (field : ℕ) → field < node_width → get_or sheet (field_place field n.number) 0 ≡ get_or (node_numbers n) field 0
 
 abbrev HasRecord : List Node → Node → Type 0
-HasRecord ns n = recordAt ns n.number ≡ nodeNumbers n
+HasRecord ns n = record_at ns n.number ≡ node_numbers n
 
-pub fields-stand : (s : Sentence) → Distinct nodeNumber (nodes s) → Each InRoom (nodes s) → Each (FieldsStand (sentenceSheet s)) (nodes s)
-fields-stand s distinct room =
-    each-then (λ (n : Node). HasRecord (nodes s) n × InRoom n) (FieldsStand (sentenceSheet s))
+pub fields_stand : (s : Sentence) → Distinct node_number (nodes s) → Each InRoom (nodes s) → Each (FieldsStand (sentence_sheet s)) (nodes s)
+fields_stand s distinct room =
+    each_then (λ (n : Node). HasRecord (nodes s) n × InRoom n) (FieldsStand (sentence_sheet s))
     (λ n k field l. field_at s field n.number l k.1 ∙ ap (λ (r : List ℕ). get_or r field 0) k.0) (nodes s)
-    (each_both (HasRecord (nodes s)) InRoom (nodes s) (each-own recordAt nodeNumbers (λ m us k. refl) (nodes s) distinct) room)
+    (each_both (HasRecord (nodes s)) InRoom (nodes s) (each_own record_at node_numbers (λ m us k. refl) (nodes s) distinct) room)
 
 -- ---- a number that no node has
 
-no_record : (ns : List Node) (k : ℕ) → listed ns k ≡ false → recordAt ns k ≡ replicate nodeWidth 0
+no_record : (ns : List Node) (k : ℕ) → listed ns k ≡ false → record_at ns k ≡ replicate node_width 0
 no_record [] k e = refl
 no_record (n ∷ ns) k e =
     let other : eqb n.number k ≡ false = ne_eqb n.number k (λ z. absurd (never_both (eqb k n.number) (eq-eqb k n.number (sym z)) (or_left (eqb k n.number) (listed ns k) e))) in
     rw other (no_record ns k (or_right (eqb k n.number) (listed ns k) e))
 
-pub no_field : (s : Sentence) (field node : ℕ) → field < nodeWidth → node < nodeRoom → listed (nodes s) node ≡ false
-    → get_or (sentenceSheet s) (fieldPlace field node) 0 ≡ 0
+pub no_field : (s : Sentence) (field node : ℕ) → field < node_width → node < node_room → listed (nodes s) node ≡ false
+    → get_or (sentence_sheet s) (field_place field node) 0 ≡ 0
 no_field s field node l h e =
-    field_at s field node l h ∙ ap (λ (r : List ℕ). get_or r field 0) (no_record (nodes s) node e) ∙ get_or-replicate {A = ℕ} nodeWidth field 0 0 l
+    field_at s field node l h ∙ ap (λ (r : List ℕ). get_or r field 0) (no_record (nodes s) node e) ∙ get_or-replicate {A = ℕ} node_width field 0 0 l

@@ -8,31 +8,31 @@ use lib.Dec.{eqb}
 use borrow.Author.Tests.{eqb-true}
 use Rattle.rules.specs.Lists.{empty, bytes}
 use Rattle.rules.specs.Texts.{Text, given, reads}
-use Rattle.rules.specs.Keywords.{hashed, startsRow, startsWord, hashAndDigits, startsPhrase, digits}
+use Rattle.rules.specs.Keywords.{hashed, starts_row, starts_word, hash_and_digits, starts_phrase, digits}
 use Rattle.rules.proofs.Conjunctions.{and_left}
-use Rattle.rules.proofs.Same.{same-eq}
+use Rattle.rules.proofs.Same.{same_eq}
 
-pub reads-given : (xs : List ℕ) (t : Text) → not (empty xs) ≡ true → reads xs t ≡ true → given t ≡ true
-reads-given xs t g e = ap (λ (l : List ℕ). not (empty l)) (same-eq t.bytes xs e) ∙ g
+pub reads_given : (xs : List ℕ) (t : Text) → not (empty xs) ≡ true → reads xs t ≡ true → given t ≡ true
+reads_given xs t g e = ap (λ (l : List ℕ). not (empty l)) (same_eq t.bytes xs e) ∙ g
 
-pub phrase-given : (t : Text) → startsPhrase t ≡ true → given t ≡ true
-phrase-given t e = by t.bytes e
+pub phrase_given : (t : Text) → starts_phrase t ≡ true → given t ≡ true
+phrase_given t e = by t.bytes e
   where
-    by : (bs : List ℕ) → hashAndDigits bs ≡ true → not (empty bs) ≡ true
+    by : (bs : List ℕ) → hash_and_digits bs ≡ true → not (empty bs) ≡ true
     by [] e = e
     by (b ∷ bs) e = refl
 
-pub row-given : (t : Text) → startsRow t ≡ true → given t ≡ true
-row-given t e = and_left (given t) (not (hashed t.bytes)) e
+pub row_given : (t : Text) → starts_row t ≡ true → given t ≡ true
+row_given t e = and_left (given t) (not (hashed t.bytes)) e
 
-pub word-given : (t : Text) → startsWord t ≡ true → given t ≡ true
-word-given t e = by (reads (bytes "#") t) refl e
+pub word_given : (t : Text) → starts_word t ≡ true → given t ≡ true
+word_given t e = by (reads (bytes "#") t) refl e
   where
-    by : (b : Bool) → reads (bytes "#") t ≡ b → (b || startsRow t) ≡ true → given t ≡ true
-    by true r q = reads-given (bytes "#") t refl r
-    by false r q = row-given t q
+    by : (b : Bool) → reads (bytes "#") t ≡ b → (b || starts_row t) ≡ true → given t ≡ true
+    by true r q = reads_given (bytes "#") t refl r
+    by false r q = row_given t q
 
 -- # and digits: the digits stand at once behind #
-pub hash-form : (c : List ℕ) → hashAndDigits c ≡ true → c ≡ 35 ∷ drop 1 c
-hash-form [] e = absurd (false≢true e)
-hash-form (b ∷ bs) e = ap (λ (x : ℕ). x ∷ bs) (eqb-true b 35 (and_left (eqb b 35) (digits bs) e))
+pub hash_form : (c : List ℕ) → hash_and_digits c ≡ true → c ≡ 35 ∷ drop 1 c
+hash_form [] e = absurd (false≢true e)
+hash_form (b ∷ bs) e = ap (λ (x : ℕ). x ∷ bs) (eqb-true b 35 (and_left (eqb b 35) (digits bs) e))

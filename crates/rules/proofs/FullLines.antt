@@ -6,26 +6,26 @@ use mathlib.Core.List.{List, ◌++◌}
 use lib.Dec.{T}
 use Rattle.rules.specs.Lists.{bytes, inserted, sorted}
 use Rattle.rules.specs.Bytes.{ignored}
-use Rattle.rules.specs.Texts.{rightTrim, trimFrom, frontBytes, behindFrom}
-use Rattle.rules.specs.Columns.{columnsFrom, fields, comment}
-use Rattle.rules.specs.Numbers.{valueFrom, decimal}
+use Rattle.rules.specs.Texts.{right_trim, trim_from, front_bytes, behind_from}
+use Rattle.rules.specs.Columns.{columns_from, fields, comment}
+use Rattle.rules.specs.Numbers.{value_from, decimal}
 use Rattle.rules.specs.Rules.{broken, checked}
-use Rattle.rules.specs.Tables.{hasId, hasTag, known}
-use Rattle.rules.specs.Rows.{originRow, editorRow, tagRow}
-use Rattle.rules.specs.Sentences.{headingOf, endRules, end_of}
+use Rattle.rules.specs.Tables.{has_id, has_tag, known}
+use Rattle.rules.specs.Rows.{origin_row, editor_row, tag_row}
+use Rattle.rules.specs.Sentences.{heading_of, end_rules, end_of}
 use Rattle.rules.specs.Pairs.{pairs, paired}
-use Rattle.rules.specs.Nodes.{parentsWritten, tagsShort, tagsKnown, parentsAllowed, word_of, phraseOf}
-use Rattle.rules.specs.Keywords.{format_of, tableOpened, tableEnded, firstColumn}
-use Rattle.rules.specs.Lines.{at_start, behindOne, atTop, amongRows, amongNodes}
+use Rattle.rules.specs.Nodes.{parents_written, tags_short, tags_known, parents_allowed, word_of, phrase_of}
+use Rattle.rules.specs.Keywords.{format_of, table_opened, table_ended, first_column}
+use Rattle.rules.specs.Lines.{at_start, behind_one, at_top, among_rows, among_nodes}
 use Rattle.rules.specs.Phases.{line_at, taken, judged, after, step}
-use Rattle.rules.specs.Survey.{surveyOf}
-use Rattle.rules.specs.Meaning.{meaningOf}
-use Rattle.rules.specs.Tidy.{digitsWithin, digitsOf, parted, tidyText}
-use Rattle.rules.specs.Writing.{tidyOf}
+use Rattle.rules.specs.Survey.{survey_of}
+use Rattle.rules.specs.Meaning.{meaning_of}
+use Rattle.rules.specs.Tidy.{digits_within, digits_of, parted, tidy_text}
+use Rattle.rules.specs.Writing.{tidy_of}
 use Rattle.rules.proofs.CheckedByHand.{case, holds}
 
-abbrev pub fileD : List ℕ
-fileD =
+abbrev pub file_d : List ℕ
+file_d =
     bytes "#FORMAT 3\n#BOT EDITOR\n12 lea  Lea\tHolm \n8 kim Kim Lee\n%% gone\n-1 none No one\n#EOT EDITOR\n"
     ++ bytes "#BOT SECEDGETAG\n1 RF refers to\n2 SH shared\n#EOT SECEDGETAG\n#BOT ORIGIN\n70 Saga %%old tale\n9 lab\tnotes\n#EOT ORIGIN\n"
     ++ bytes "#BOT NODETAG\n1 S clause\n2 NP noun phrase\n#EOT NODETAG\n#BOT MORPHTAG\n1 Nom.Sg nominative\n#EOT MORPHTAG\n"
@@ -34,14 +34,14 @@ fileD =
     ++ bytes "#502 S -- -- 0\n#500 NP Nom.Sg SB 501  SH 502 RF 501 SH 501 %% three edges \n#501 S -- -- 502\n#EOS 120\n"
     ++ bytes "#BOS 13 8 0 9\n#EOS 13\n"
 
-pub survey-of-D : T (holds (case fileD 0 647 2 647))
-unfolding ignored rightTrim trimFrom frontBytes behindFrom columnsFrom fields comment valueFrom decimal broken checked hasId hasTag known originRow editorRow tagRow headingOf endRules end_of pairs paired parentsWritten tagsShort tagsKnown parentsAllowed word_of phraseOf format_of tableOpened tableEnded firstColumn at_start behindOne atTop amongRows amongNodes line_at taken judged after step surveyOf
-survey-of-D = tt
+pub survey_of_d : T (holds (case file_d 0 647 2 647))
+unfolding ignored right_trim trim_from front_bytes behind_from columns_from fields comment value_from decimal broken checked has_id has_tag known origin_row editor_row tag_row heading_of end_rules end_of pairs paired parents_written tags_short tags_known parents_allowed word_of phrase_of format_of table_opened table_ended first_column at_start behind_one at_top among_rows among_nodes line_at taken judged after step survey_of
+survey_of_d = tt
 
 -- ---- the tidy text, to the byte
 
-abbrev pub tidyD : List ℕ
-tidyD =
+abbrev pub tidy_d : List ℕ
+tidy_d =
     bytes "#FORMAT 3\n#BOT ORIGIN\n9\tlab\tnotes\n70\tSaga\t%%\told tale\n#EOT ORIGIN\n"
     ++ bytes "#BOT EDITOR\n-1\tnone\tNo one\n8\tkim\tKim Lee\n12\tlea\tLea\tHolm\n#EOT EDITOR\n"
     ++ bytes "#BOT WORDTAG\n-1\tUNKNOWN\tN\tnot known\n1\tNN\tY\tnoun\n2\tVB\tN\tverb\n#EOT WORDTAG\n"
@@ -51,6 +51,6 @@ tidyD =
     ++ bytes "Ulf\tNN\tNom.Sg\tSB\t500\tRF\t501\tSH\t500\t%%\ta  name\nging\tVB\t--\t--\t502\t%%\twent\n"
     ++ bytes "#500\tNP\tNom.Sg\tSB\t501\tSH\t502\tRF\t501\tSH\t501\t%%\tthree edges\n#501\tS\t--\t--\t502\n#502\tS\t--\t--\t0\n#EOS 120\n"
 
-pub tidy-of-D : tidyOf fileD ≡ tidyD
-unfolding ignored rightTrim trimFrom frontBytes behindFrom columnsFrom fields comment valueFrom decimal broken checked hasId hasTag known originRow editorRow tagRow headingOf endRules end_of pairs paired parentsWritten tagsShort tagsKnown parentsAllowed word_of phraseOf format_of tableOpened tableEnded firstColumn at_start behindOne atTop amongRows amongNodes line_at taken judged after step surveyOf inserted sorted meaningOf digitsWithin digitsOf parted tidyText tidyOf
-tidy-of-D = refl
+pub tidy_of_d : tidy_of file_d ≡ tidy_d
+unfolding ignored right_trim trim_from front_bytes behind_from columns_from fields comment value_from decimal broken checked has_id has_tag known origin_row editor_row tag_row heading_of end_rules end_of pairs paired parents_written tags_short tags_known parents_allowed word_of phrase_of format_of table_opened table_ended first_column at_start behind_one at_top among_rows among_nodes line_at taken judged after step survey_of inserted sorted meaning_of digits_within digits_of parted tidy_text tidy_of
+tidy_of_d = refl

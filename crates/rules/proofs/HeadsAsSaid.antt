@@ -13,30 +13,30 @@ use borrow.Author.Tests.{ltb-true, lt-ltb}
 use Rattle.rules.specs.Lists.{pick, bytes, empty}
 use Rattle.rules.specs.Bytes.{percents}
 use Rattle.rules.specs.Texts.{Text, reads}
-use Rattle.rules.specs.Columns.{Column, columnsFrom, columns, written, fields, comment}
-use Rattle.rules.specs.Numbers.{sentenceNumber, originId, date, decimal, number, signedId, good, value}
-use Rattle.rules.specs.Tables.{Tables, origins, editors, table, present, rows_of, hasId}
-use Rattle.rules.specs.Sentences.{Heading, knownEditor, headingWritten, headingIn, headingOf, Sentence}
+use Rattle.rules.specs.Columns.{Column, columns_from, columns, written, fields, comment}
+use Rattle.rules.specs.Numbers.{sentence_number, origin_id, date, decimal, number, signed_id, good, value}
+use Rattle.rules.specs.Tables.{Tables, origins, editors, table, present, rows_of, has_id}
+use Rattle.rules.specs.Sentences.{Heading, known_editor, heading_written, heading_in, heading_of, Sentence}
 use Rattle.rules.specs.Phases.{Phase, Answer, next}
-use Rattle.rules.specs.GrammarNumbers.{sentenceRange}
+use Rattle.rules.specs.GrammarNumbers.{sentence_range}
 use Rattle.rules.specs.GrammarContent.{HeadContent}
-use Rattle.rules.specs.GrammarSurvey.{headRead}
+use Rattle.rules.specs.GrammarSurvey.{head_read}
 use Rattle.rules.specs.GrammarLines.{In}
 use Rattle.rules.specs.GrammarColumns.{Front}
-use Rattle.rules.proofs.Conjunctions.{false-if-never}
-use Rattle.rules.proofs.Elements.{none-given}
-use Rattle.rules.proofs.ColumnsSaid.{front-said, said-front, front-comment}
-use Rattle.rules.proofs.BareColumns.{frontColumns, commentOf, columnAt}
+use Rattle.rules.proofs.Conjunctions.{false_if_never}
+use Rattle.rules.proofs.Elements.{none_given}
+use Rattle.rules.proofs.ColumnsSaid.{front_said, said_front, front_comment}
+use Rattle.rules.proofs.BareColumns.{front_columns, comment_of, column_at}
 use Rattle.rules.specs.GrammarTables.{TableLines, whiches, HasRow}
-use Rattle.rules.specs.GrammarSentences.{HeadLine, HeadFits, headSays}
-use Rattle.rules.proofs.PrintedLines.{comment-field}
+use Rattle.rules.specs.GrammarSentences.{HeadLine, HeadFits, head_says}
+use Rattle.rules.proofs.PrintedLines.{comment_field}
 use Rattle.rules.proofs.AnyLine.{bytes_of}
-use Rattle.rules.proofs.PlaceFree.{column-there, front-columns, comment-there}
-use Rattle.rules.proofs.SaidOfLists.{and-both-ways, or-both-ways, not-both-ways}
-use Rattle.rules.proofs.TestsAsFacts.{reads-are, good-some, some_good, some-value}
-use Rattle.rules.proofs.NumeralsAsSaid.{number-said, id-said}
-use Rattle.rules.proofs.TablesAsSaid.{Stand, is-there, has-row}
-use Rattle.rules.proofs.LineByLine.{Through, Hold, through-held, held-through}
+use Rattle.rules.proofs.PlaceFree.{column_there, front_columns_lem, comment_there}
+use Rattle.rules.proofs.SaidOfLists.{and_both_ways, or_both_ways, not_both_ways}
+use Rattle.rules.proofs.TestsAsFacts.{reads_are, good_some, some_good, some_value}
+use Rattle.rules.proofs.NumeralsAsSaid.{number_said, id_said}
+use Rattle.rules.proofs.TablesAsSaid.{Stand, is_there, has_row}
+use Rattle.rules.proofs.LineByLine.{Through, Hold, through_held, held_through}
 
 -- ---- columns in front of the comment
 
@@ -59,23 +59,23 @@ peel (c ∷ cs) x xs e = by (reads percents c.text) e
 
 pub put_back : (c : Column) (cs : List Column) → (c.text.bytes ≡ percents → ⊥) → bytes_of (fields (c ∷ cs)) ≡ c.text.bytes ∷ bytes_of (fields cs)
 unfolding fields
-put_back c cs n = ap (λ (t : Bool). bytes_of (pick t [] (c.text ∷ fields cs))) (false-if-never (reads percents c.text) (λ e. n ((reads-are percents c.text).0 e)))
+put_back c cs n = ap (λ (t : Bool). bytes_of (pick t [] (c.text ∷ fields cs))) (false_if_never (reads percents c.text) (λ e. n ((reads_are percents c.text).0 e)))
 
-pub front-first : (line : List ℕ) (x : List ℕ) (xs : List (List ℕ)) → frontColumns line ≡ x ∷ xs → columnAt 0 line ≡ x
-front-first line x xs e =
-    let p = peel (columnsFrom 0 line) x xs e in
+pub front_first : (line : List ℕ) (x : List ℕ) (xs : List (List ℕ)) → front_columns line ≡ x ∷ xs → column_at 0 line ≡ x
+front_first line x xs e =
+    let p = peel (columns_from 0 line) x xs e in
     ap (λ (cs : List Column). (written cs 0).bytes) p.are ∙ p.its
 
-pub front-column : (line : List ℕ) (x : List ℕ) (xs : List (List ℕ)) (text : List ℕ) → Front line (x ∷ xs) text → columnAt 0 line ≡ x
-front-column line x xs text f = front-first line x xs (said-front line (x ∷ xs) text f)
+pub front_column : (line : List ℕ) (x : List ℕ) (xs : List (List ℕ)) (text : List ℕ) → Front line (x ∷ xs) text → column_at 0 line ≡ x
+front_column line x xs text f = front_first line x xs (said_front line (x ∷ xs) text f)
 
-fields-none : (ts : List Text) → bytes_of ts ≡ [] → empty ts ≡ true
-fields-none [] e = refl
-fields-none (t ∷ ts) e = absurd (let z : ◌≡◌ {A = ℕ} 0 1 = cc in omega arith)
+fields_none : (ts : List Text) → bytes_of ts ≡ [] → empty ts ≡ true
+fields_none [] e = refl
+fields_none (t ∷ ts) e = absurd (let z : ◌≡◌ {A = ℕ} 0 1 = cc in omega arith)
 
 -- a number is no comment sign
-not-sign : (o : List ℕ → Option ℕ) (xs : List ℕ) → o percents ≡ none → good (o xs) ≡ true → xs ≡ percents → ⊥
-not-sign o xs n g e = false≢true (sym (ap good n) ∙ sym (ap (λ (xs : List ℕ). good (o xs)) e) ∙ g)
+not_sign : (o : List ℕ → Option ℕ) (xs : List ℕ) → o percents ≡ none → good (o xs) ≡ true → xs ≡ percents → ⊥
+not_sign o xs n g e = false≢true (sym (ap good n) ∙ sym (ap (λ (xs : List ℕ). good (o xs)) e) ∙ g)
 
 -- five columns in front, none of them a comment sign, and no other behind them
 five : (cs : List Column) → 4 < length cs → ((written cs 0).bytes ≡ percents → ⊥) → ((written cs 1).bytes ≡ percents → ⊥) → ((written cs 2).bytes ≡ percents → ⊥)
@@ -99,12 +99,12 @@ five (p ∷ q ∷ r ∷ s ∷ t ∷ cs) h a b c d e =
 pub record Fronted (cs : List Column) (xs : List (List ℕ)) : Type 0 where
   pub enough : length xs ≤ length cs
   pub at : (i : ℕ) → i < length xs → (written cs i).bytes ≡ get_or xs i []
-  pub none-behind : empty (fields (drop (length xs) cs)) ≡ true
-  pub comment-behind : comment cs ≡ comment (drop (length xs) cs)
+  pub none_behind : empty (fields (drop (length xs) cs)) ≡ true
+  pub comment_behind : comment cs ≡ comment (drop (length xs) cs)
 
 pub fronted : (xs : List (List ℕ)) (cs : List Column) → bytes_of (fields cs) ≡ xs → Fronted cs xs
 unfolding fields
-fronted [] cs e = record { enough = omega arith; at = λ i h. absurd (omega arith); none-behind = fields-none (fields cs) e; comment-behind = refl }
+fronted [] cs e = record { enough = omega arith; at = λ i h. absurd (omega arith); none_behind = fields_none (fields cs) e; comment_behind = refl }
 fronted (x ∷ xs) [] e = absurd (let z : ◌≡◌ {A = ℕ} 0 1 = cc in omega arith)
 fronted (x ∷ xs) (c ∷ cs) e = by (reads percents c.text) refl e (fronted xs cs)
   where
@@ -115,8 +115,8 @@ fronted (x ∷ xs) (c ∷ cs) e = by (reads percents c.text) refl e (fronted xs 
         record {
           enough = omega (arith, m.enough);
           at = λ i h. at_place i h m.at;
-          none-behind = m.none-behind;
-          comment-behind = comment-field c cs q ∙ m.comment-behind;
+          none_behind = m.none_behind;
+          comment_behind = comment_field c cs q ∙ m.comment_behind;
         }
       where
         at_place : (i : ℕ) → i < suc (length xs) → ((i : ℕ) → i < length xs → (written cs i).bytes ≡ get_or xs i []) → (written (c ∷ cs) i).bytes ≡ get_or (x ∷ xs) i []
@@ -132,128 +132,128 @@ same_head p q r s t = cc
 -- as the grammar says, whatever the tables have
 module _ (line : Text) (ts : List TableLines) where
   pub record Written (head : HeadLine) : Type 0 where
-    pub rules : Hold (headingWritten line)
-    pub same : headRead (headingIn line) ≡ headSays head
+    pub rules : Hold (heading_written line)
+    pub same : head_read (heading_in line) ≡ head_says head
 
-  pub head-written : (head : HeadLine) → head.line ≡ line.bytes → HeadFits sentenceRange ts head → Written head
-  head-written head l t =
+  pub head_written : (head : HeadLine) → head.line ≡ line.bytes → HeadFits sentence_range ts head → Written head
+  head_written head l t =
       let cs = columns line in
-      let are = fronted (bytes "#BOS" ∷ t.numberText ∷ t.editorText ∷ t.dateText ∷ t.originText ∷ []) cs
-      (front-columns line ∙ ap frontColumns (sym l) ∙ said-front head.line _ head.comment t.columns) in
-      let n = number sentenceNumber (written cs 1).bytes in
-      let e = signedId (written cs 2).bytes in
+      let are = fronted (bytes "#BOS" ∷ t.number_text ∷ t.editor_text ∷ t.date_text ∷ t.origin_text ∷ []) cs
+      (front_columns_lem line ∙ ap front_columns (sym l) ∙ said_front head.line _ head.comment t.columns) in
+      let n = number sentence_number (written cs 1).bytes in
+      let e = signed_id (written cs 2).bytes in
       let d = number date (written cs 3).bytes in
-      let o = number originId (written cs 4).bytes in
-      let is-n : n ≡ some head.number =
-      ap (number sentenceNumber) (are.at 1 (omega arith)) ∙ (number-said sentenceNumber t.numberText head.number).1 t.number-written in
-      let is-e : e ≡ some head.editor1 =
-      ap signedId (are.at 2 (omega arith)) ∙ (id-said t.editorText head.editor1).1 t.editor-written in
-      let is-d : d ≡ some head.date =
-      ap (number date) (are.at 3 (omega arith)) ∙ (number-said date t.dateText head.date).1 t.date-written in
-      let is-o : o ≡ some head.origin =
-      ap (number originId) (are.at 4 (omega arith)) ∙ (number-said originId t.originText head.origin).1 t.origin-written in
-      let v-n : value n ≡ head.number = some-value n head.number is-n in
-      let v-e : value e ≡ head.editor1 = some-value e head.editor1 is-e in
-      let v-d : value d ≡ head.date = some-value d head.date is-d in
-      let v-o : value o ≡ head.origin = some-value o head.origin is-o in
-      let its-comment : (comment (drop 5 cs)).bytes ≡ head.comment =
-      sym (ap (λ (t : Text). t.bytes) are.comment-behind) ∙ comment-there line ∙ ap commentOf (sym l)
-      ∙ front-comment head.line _ head.comment t.columns in
+      let o = number origin_id (written cs 4).bytes in
+      let is_n : n ≡ some head.number =
+      ap (number sentence_number) (are.at 1 (omega arith)) ∙ (number_said sentence_number t.number_text head.number).1 t.number_written in
+      let is_e : e ≡ some head.editor1 =
+      ap signed_id (are.at 2 (omega arith)) ∙ (id_said t.editor_text head.editor1).1 t.editor_written in
+      let is_d : d ≡ some head.date =
+      ap (number date) (are.at 3 (omega arith)) ∙ (number_said date t.date_text head.date).1 t.date_written in
+      let is_o : o ≡ some head.origin =
+      ap (number origin_id) (are.at 4 (omega arith)) ∙ (number_said origin_id t.origin_text head.origin).1 t.origin_written in
+      let v_n : value n ≡ head.number = some_value n head.number is_n in
+      let v_e : value e ≡ head.editor1 = some_value e head.editor1 is_e in
+      let v_d : value d ≡ head.date = some_value d head.date is_d in
+      let v_o : value o ≡ head.origin = some_value o head.origin is_o in
+      let its_comment : (comment (drop 5 cs)).bytes ≡ head.comment =
+      sym (ap (λ (t : Text). t.bytes) are.comment_behind) ∙ comment_there line ∙ ap comment_of (sym l)
+      ∙ front_comment head.line _ head.comment t.columns in
       record {
         rules = (
-          (and-both-ways (ltb 4 (length cs)) (empty (fields (drop 5 cs)))).1
-              (lt-ltb 4 (length cs) (omega (arith, are.enough)), are.none-behind),
+          (and_both_ways (ltb 4 (length cs)) (empty (fields (drop 5 cs)))).1
+              (lt-ltb 4 (length cs) (omega (arith, are.enough)), are.none_behind),
           (
-            some_good n head.number is-n,
-            (some_good e head.editor1 is-e, (some_good d head.date is-d, (some_good o head.origin is-o, tt))),
+            some_good n head.number is_n,
+            (some_good e head.editor1 is_e, (some_good d head.date is_d, (some_good o head.origin is_o, tt))),
           ),
         );
-        same = same_head v-n v-e v-d v-o its-comment;
+        same = same_head v_n v_e v_d v_o its_comment;
       }
 
 module _ (T : Tables) (ts : List TableLines) (s : Stand T ts) where
-  editor-said : (i : ℕ) → (knownEditor T i ≡ true) ↔ ((i ≤ 1) ⊎ HasRow ts editors i)
-  editor-said i = (λ e. said ((or-both-ways (ltb i 2) (hasId i (rows_of (table editors T)))).0 e), λ h. (or-both-ways (ltb i 2) (hasId i (rows_of (table editors T)))).1 (read-so h))
+  editor_said : (i : ℕ) → (known_editor T i ≡ true) ↔ ((i ≤ 1) ⊎ HasRow ts editors i)
+  editor_said i = (λ e. said ((or_both_ways (ltb i 2) (has_id i (rows_of (table editors T)))).0 e), λ h. (or_both_ways (ltb i 2) (has_id i (rows_of (table editors T)))).1 (read_so h))
     where
-      said : (ltb i 2 ≡ true) ⊎ (hasId i (rows_of (table editors T)) ≡ true) → (i ≤ 1) ⊎ HasRow ts editors i
+      said : (ltb i 2 ≡ true) ⊎ (has_id i (rows_of (table editors T)) ≡ true) → (i ≤ 1) ⊎ HasRow ts editors i
       said (inl e) = inl (omega (arith, ltb-true i 2 e))
-      said (inr e) = inr ((has-row T ts s editors i).0 e)
+      said (inr e) = inr ((has_row T ts s editors i).0 e)
 
-      read-so : (i ≤ 1) ⊎ HasRow ts editors i → (ltb i 2 ≡ true) ⊎ (hasId i (rows_of (table editors T)) ≡ true)
-      read-so (inl h) = inl (lt-ltb i 2 (omega arith))
-      read-so (inr h) = inr ((has-row T ts s editors i).1 h)
+      read_so : (i ≤ 1) ⊎ HasRow ts editors i → (ltb i 2 ≡ true) ⊎ (has_id i (rows_of (table editors T)) ≡ true)
+      read_so (inl h) = inl (lt-ltb i 2 (omega arith))
+      read_so (inr h) = inr ((has_row T ts s editors i).1 h)
 
   module _ (K : Phase → List Sentence → Type 0) (out : List Sentence) (line : Text) (before : ℕ → Bool) where
     pub record Begun (f : Heading → Answer) : Type 0 where
       pub head : HeadLine
-      pub its-line : head.line ≡ line.bytes
-      pub fit : HeadFits sentenceRange ts head
-      pub origin-there : In origins (whiches ts)
-      pub editor-there : In editors (whiches ts)
+      pub its_line : head.line ≡ line.bytes
+      pub fit : HeadFits sentence_range ts head
+      pub origin_there : In origins (whiches ts)
+      pub editor_there : In editors (whiches ts)
       pub new : before head.number ≡ true → ⊥
       pub read_as : Heading
-      pub same : headRead read_as ≡ headSays head
+      pub same : head_read read_as ≡ head_says head
       pub goes_on : Through K out (f read_as)
 
-    pub head-granted : (f : Heading → Answer) → columnAt 0 line.bytes ≡ bytes "#BOS" → Through K out (next f (headingOf T before line)) → Begun f
-    unfolding headingOf decimal
-    head-granted f q g =
-        let h = through-held K out f _ _ g in
+    pub head_granted : (f : Heading → Answer) → column_at 0 line.bytes ≡ bytes "#BOS" → Through K out (next f (heading_of T before line)) → Begun f
+    unfolding heading_of decimal
+    head_granted f q g =
+        let h = through_held K out f _ _ g in
         let cs = columns line in
-        let n = number sentenceNumber (written cs 1).bytes in
-        let e = signedId (written cs 2).bytes in
+        let n = number sentence_number (written cs 1).bytes in
+        let e = signed_id (written cs 2).bytes in
         let d = number date (written cs 3).bytes in
-        let o = number originId (written cs 4).bytes in
-        let seven = (and-both-ways (ltb 4 (length cs)) (empty (fields (drop 5 cs)))).0 h.0.0 in
-        let both = (and-both-ways (present origins T) (present editors T)).0 h.0.1.1.1.1.1.0 in
-        let keyword : (written cs 0).bytes ≡ bytes "#BOS" = column-there line 0 ∙ q in
-        let five-texts = bytes "#BOS" ∷ (written cs 1).bytes ∷ (written cs 2).bytes ∷ (written cs 3).bytes ∷ (written cs 4).bytes ∷ [] in
-        let front : bytes_of (fields cs) ≡ five-texts =
+        let o = number origin_id (written cs 4).bytes in
+        let seven = (and_both_ways (ltb 4 (length cs)) (empty (fields (drop 5 cs)))).0 h.0.0 in
+        let both = (and_both_ways (present origins T) (present editors T)).0 h.0.1.1.1.1.1.0 in
+        let keyword : (written cs 0).bytes ≡ bytes "#BOS" = column_there line 0 ∙ q in
+        let five_texts = bytes "#BOS" ∷ (written cs 1).bytes ∷ (written cs 2).bytes ∷ (written cs 3).bytes ∷ (written cs 4).bytes ∷ [] in
+        let front : bytes_of (fields cs) ≡ five_texts =
         five cs (ltb-true 4 (length cs) seven.0) (λ z. let c : ◌≡◌ {A = ℕ} 0 1 = cc in omega arith)
-        (not-sign (number sentenceNumber) (written cs 1).bytes refl h.0.1.0)
-        (not-sign signedId (written cs 2).bytes refl h.0.1.1.0)
-        (not-sign (number date) (written cs 3).bytes refl h.0.1.1.1.0)
-        (not-sign (number originId) (written cs 4).bytes refl h.0.1.1.1.1.0)
+        (not_sign (number sentence_number) (written cs 1).bytes refl h.0.1.0)
+        (not_sign signed_id (written cs 2).bytes refl h.0.1.1.0)
+        (not_sign (number date) (written cs 3).bytes refl h.0.1.1.1.0)
+        (not_sign (number origin_id) (written cs 4).bytes refl h.0.1.1.1.1.0)
         ∙ ap (λ (xs : List (List ℕ)). (written cs 0).bytes ∷ (written cs 1).bytes ∷ (written cs 2).bytes ∷ (written cs 3).bytes ∷ (written cs 4).bytes ∷ xs)
-        (ap bytes_of (none-given (fields (drop 5 cs)) seven.1))
+        (ap bytes_of (none_given (fields (drop 5 cs)) seven.1))
         ∙ ap (λ (x : List ℕ). x ∷ (written cs 1).bytes ∷ (written cs 2).bytes ∷ (written cs 3).bytes ∷ (written cs 4).bytes ∷ []) keyword in
         record {
           head = record { line = line.bytes; number = value n; editor1 = value e; date = value d; origin = value o; comment = (comment (drop 5 cs)).bytes };
-          its-line = refl;
+          its_line = refl;
           fit =
               record {
-                numberText = (written cs 1).bytes;
-                editorText = (written cs 2).bytes;
-                dateText = (written cs 3).bytes;
-                originText = (written cs 4).bytes;
+                number_text = (written cs 1).bytes;
+                editor_text = (written cs 2).bytes;
+                date_text = (written cs 3).bytes;
+                origin_text = (written cs 4).bytes;
                 columns =
-                    subst (Front line.bytes five-texts) (sym (comment-there line) ∙ ap (λ (t : Text). t.bytes) (fronted five-texts cs front).comment-behind)
-                    (front-said line.bytes five-texts (sym (front-columns line) ∙ front));
-                number-written = (number-said sentenceNumber (written cs 1).bytes (value n)).0 (good-some n h.0.1.0);
-                editor-written = (id-said (written cs 2).bytes (value e)).0 (good-some e h.0.1.1.0);
-                date-written = (number-said date (written cs 3).bytes (value d)).0 (good-some d h.0.1.1.1.0);
-                origin-written = (number-said originId (written cs 4).bytes (value o)).0 (good-some o h.0.1.1.1.1.0);
-                editor-known = (editor-said (value e)).0 h.0.1.1.1.1.1.1.1.0;
-                origin-known = (has-row T ts s origins (suc (value o))).0 h.0.1.1.1.1.1.1.1.1.0;
+                    subst (Front line.bytes five_texts) (sym (comment_there line) ∙ ap (λ (t : Text). t.bytes) (fronted five_texts cs front).comment_behind)
+                    (front_said line.bytes five_texts (sym (front_columns_lem line) ∙ front));
+                number_written = (number_said sentence_number (written cs 1).bytes (value n)).0 (good_some n h.0.1.0);
+                editor_written = (id_said (written cs 2).bytes (value e)).0 (good_some e h.0.1.1.0);
+                date_written = (number_said date (written cs 3).bytes (value d)).0 (good_some d h.0.1.1.1.0);
+                origin_written = (number_said origin_id (written cs 4).bytes (value o)).0 (good_some o h.0.1.1.1.1.0);
+                editor_known = (editor_said (value e)).0 h.0.1.1.1.1.1.1.1.0;
+                origin_known = (has_row T ts s origins (suc (value o))).0 h.0.1.1.1.1.1.1.1.1.0;
               };
-          origin-there = (is-there T ts s origins).0 both.0;
-          editor-there = (is-there T ts s editors).0 both.1;
-          new = (not-both-ways (before (value n))).0 h.0.1.1.1.1.1.1.0;
+          origin_there = (is_there T ts s origins).0 both.0;
+          editor_there = (is_there T ts s editors).0 both.1;
+          new = (not_both_ways (before (value n))).0 h.0.1.1.1.1.1.1.0;
           read_as = _;
           same = refl;
           goes_on = h.1;
         }
 
-    pub head-grants : (f : Heading → Answer) (head : HeadLine) → head.line ≡ line.bytes → HeadFits sentenceRange ts head → In origins (whiches ts) → In editors (whiches ts)
-        → (before head.number ≡ true → ⊥) → ((r : Heading) → headRead r ≡ headSays head → Through K out (f r)) → Through K out (next f (headingOf T before line))
-    unfolding headingOf
-    head-grants f head l t io ie new goes_on =
-        let w = head-written line ts head l t in
+    pub head_grants : (f : Heading → Answer) (head : HeadLine) → head.line ≡ line.bytes → HeadFits sentence_range ts head → In origins (whiches ts) → In editors (whiches ts)
+        → (before head.number ≡ true → ⊥) → ((r : Heading) → head_read r ≡ head_says head → Through K out (f r)) → Through K out (next f (heading_of T before line))
+    unfolding heading_of
+    head_grants f head l t io ie new goes_on =
+        let w = head_written line ts head l t in
         let cs = columns line in
-        let v-n : value (number sentenceNumber (written cs 1).bytes) ≡ head.number = ap (λ (c : HeadContent). c.number) w.same in
-        let v-e : value (signedId (written cs 2).bytes) ≡ head.editor1 = ap (λ (c : HeadContent). c.editor1) w.same in
-        let v-o : value (number originId (written cs 4).bytes) ≡ head.origin = ap (λ (c : HeadContent). c.origin) w.same in
-        held-through K out f _ _ (
+        let v_n : value (number sentence_number (written cs 1).bytes) ≡ head.number = ap (λ (c : HeadContent). c.number) w.same in
+        let v_e : value (signed_id (written cs 2).bytes) ≡ head.editor1 = ap (λ (c : HeadContent). c.editor1) w.same in
+        let v_o : value (number origin_id (written cs 4).bytes) ≡ head.origin = ap (λ (c : HeadContent). c.origin) w.same in
+        held_through K out f _ _ (
           w.rules.0,
           (
             w.rules.1.0,
@@ -264,12 +264,12 @@ module _ (T : Tables) (ts : List TableLines) (s : Stand T ts) where
                 (
                   w.rules.1.1.1.1.0,
                   (
-                    (and-both-ways (present origins T) (present editors T)).1 ((is-there T ts s origins).1 io, (is-there T ts s editors).1 ie),
+                    (and_both_ways (present origins T) (present editors T)).1 ((is_there T ts s origins).1 io, (is_there T ts s editors).1 ie),
                     (
-                      (not-both-ways (before (value (number sentenceNumber (written cs 1).bytes)))).1 (rw v-n new),
+                      (not_both_ways (before (value (number sentence_number (written cs 1).bytes)))).1 (rw v_n new),
                       (
-                        rw v-e ((editor-said head.editor1).1 t.editor-known),
-                        (rw v-o ((has-row T ts s origins (suc head.origin)).1 t.origin-known), tt),
+                        rw v_e ((editor_said head.editor1).1 t.editor_known),
+                        (rw v_o ((has_row T ts s origins (suc head.origin)).1 t.origin_known), tt),
                       ),
                     ),
                   ),

@@ -10,17 +10,17 @@ use mathlib.Core.List.{List, [], ◌∷◌, ◌++◌, append-nil, reverse}
 use lib.ListN.{length, length-reverse}
 use Rattle.rules.specs.Lists.{pick}
 use Rattle.rules.specs.Bytes.{newline}
-use Rattle.rules.specs.Phases.{Phase, start, top, in_table, inSentence, behindSentence, Answer, refuse, go, hand, step, atEnd}
-use Rattle.rules.specs.Reading.{begin, read, Handed, closing, closingUnless}
-use Rattle.rules.specs.Survey.{Survey, surveyOf}
+use Rattle.rules.specs.Phases.{Phase, start, top, in_table, in_sentence, behind_sentence, Answer, refuse, go, hand, step, at_end}
+use Rattle.rules.specs.Reading.{begin, read, Handed, closing, closing_unless}
+use Rattle.rules.specs.Survey.{Survey, survey_of}
 use Rattle.rules.specs.Refusals.{Clean, Unended}
-use Rattle.rules.proofs.Kept.{bothPresent}
-use Rattle.rules.proofs.CleanFronts.{survey-is, clean-fresh, fault-four}
+use Rattle.rules.proofs.Kept.{both_present}
+use Rattle.rules.proofs.CleanFronts.{survey_is, clean_fresh, fault_four}
 use Rattle.rules.specs.Rules.{Fault}
 use Rattle.rules.specs.LentBuffers.{WithinLimit}
 use Rattle.rules.specs.Places.{StartsLine}
 use Rattle.rules.proofs.ByLines.{LineAnswered, ReadByLines, by_lines}
-use Rattle.rules.proofs.LiesThere.{next-line}
+use Rattle.rules.proofs.LiesThere.{next_line}
 
 -- ---- whole lines
 
@@ -28,18 +28,18 @@ abbrev pub AtLine : List ℕ → List ℕ → Phase → Type 0
 AtLine file done phase = StartsLine file (length done)
 
 module _ (file : List ℕ) where
-  pub line-starts : (done l rest : List ℕ) → file ≡ done ++ (l ++ (newline ∷ rest)) → (a : Answer) → LineAnswered (AtLine file) (λ (h : Handed). Unit {0}) done l a
-  line-starts done l rest e (refuse q) = tt
-  line-starts done l rest e (go phase) = next-line file done l rest e
-  line-starts done l rest e (hand p s) = (next-line file done l rest e, tt)
+  pub line_starts : (done l rest : List ℕ) → file ≡ done ++ (l ++ (newline ∷ rest)) → (a : Answer) → LineAnswered (AtLine file) (λ (h : Handed). Unit {0}) done l a
+  line_starts done l rest e (refuse q) = tt
+  line_starts done l rest e (go phase) = next_line file done l rest e
+  line_starts done l rest e (hand p s) = (next_line file done l rest e, tt)
 
-  pub ends-at-line : ReadByLines file (AtLine file) (λ (h : Handed). Unit {0}) (λ done l rest phase used e o k. line-starts done l rest e (step phase used (record { start = length done; bytes = l })))
-  ends-at-line = by_lines file (AtLine file) (λ (h : Handed). Unit {0}) (λ done l rest phase used e o k. line-starts done l rest e (step phase used (record { start = length done; bytes = l }))) (inl refl)
+  pub ends_at_line : ReadByLines file (AtLine file) (λ (h : Handed). Unit {0}) (λ done l rest phase used e o k. line_starts done l rest e (step phase used (record { start = length done; bytes = l })))
+  ends_at_line = by_lines file (AtLine file) (λ (h : Handed). Unit {0}) (λ done l rest phase used e o k. line_starts done l rest e (step phase used (record { start = length done; bytes = l }))) (inl refl)
 
-pub front-lines : (front : List ℕ) → Clean front → StartsLine front (length front)
-front-lines front c =
-    let f = clean-fresh front c in
-    let r = ends-at-line front in
+pub front_lines : (front : List ℕ) → Clean front → StartsLine front (length front)
+front_lines front c =
+    let f = clean_fresh front c in
+    let r = ends_at_line front in
     let all : front ≡ r.done = r.parts f.sound ∙ ap (λ (l : List ℕ). r.done ++ reverse l) f.unbegun ∙ append-nil r.done in
     subst (λ (l : List ℕ). StartsLine front (length l)) (sym all) r.phase
 
@@ -48,24 +48,24 @@ front-lines front c =
 abbrev NotThree : ℕ → Type 0
 NotThree n = n ≡ 3 → ⊥
 
-end-not-three : (phase : Phase) → NotThree (atEnd phase)
-end-not-three start e = omega arith
-end-not-three (top p) e = by (bothPresent p.tables) e
+end_not_three : (phase : Phase) → NotThree (at_end phase)
+end_not_three start e = omega arith
+end_not_three (top p) e = by (both_present p.tables) e
   where
     by : (t : Bool) → ◌≡◌ {A = ℕ} (pick t 0 13) 3 → ⊥
     by true z = omega arith
     by false z = omega arith
-end-not-three (in_table p n rs) e = omega arith
-end-not-three (inSentence p s) e = omega arith
-end-not-three (behindSentence p) e = omega arith
+end_not_three (in_table p n rs) e = omega arith
+end_not_three (in_sentence p s) e = omega arith
+end_not_three (behind_sentence p) e = omega arith
 
-pub unended-only : (f : List ℕ) → WithinLimit f → (surveyOf f).refusal ≡ 3 → Unended f
-unended-only f fits z = by (read begin f).fault refl (sym (ap (λ (v : Survey). v.refusal) (survey-is f fits)) ∙ z)
+pub unended_only : (f : List ℕ) → WithinLimit f → (survey_of f).refusal ≡ 3 → Unended f
+unended_only f fits z = by (read begin f).fault refl (sym (ap (λ (v : Survey). v.refusal) (survey_is f fits)) ∙ z)
   where
     rest_of : (read begin f).fault ≡ none → (part : List ℕ) → (read begin f).part ≡ part → (closing (read begin f) part).number ≡ 3 → Unended f
-    rest_of e [] q y = absurd (end-not-three (read begin f).phase y)
+    rest_of e [] q y = absurd (end_not_three (read begin f).phase y)
     rest_of e (b ∷ bs) q y =
-        let r = ends-at-line f in
+        let r = ends_at_line f in
         let l : length (read begin f).part ≡ suc (length bs) = ap length q in
         record {
           front = r.done;
@@ -75,12 +75,12 @@ unended-only f fits z = by (read begin f).fault refl (sym (ap (λ (v : Survey). 
           given = omega (arith, length-reverse (read begin f).part);
           starts = r.phase;
           place =
-              ap (λ (v : Survey). v.place) (survey-is f fits)
-              ∙ ap (λ (o : Option Fault). (closingUnless o (read begin f)).place) e
+              ap (λ (v : Survey). v.place) (survey_is f fits)
+              ∙ ap (λ (o : Option Fault). (closing_unless o (read begin f)).place) e
               ∙ ap (λ (part : List ℕ). (closing (read begin f) part).place) q
               ∙ r.from e;
         }
 
-    by : (o : Option Fault) → (read begin f).fault ≡ o → (closingUnless o (read begin f)).number ≡ 3 → Unended f
+    by : (o : Option Fault) → (read begin f).fault ≡ o → (closing_unless o (read begin f)).number ≡ 3 → Unended f
     by none e y = rest_of e (read begin f).part refl y
-    by (some g) e y = absurd (omega (arith, fault-four f g e, y))
+    by (some g) e y = absurd (omega (arith, fault_four f g e, y))

@@ -10,21 +10,21 @@ use lib.ListN.{length, take, drop, get_or, length-append}
 use Rattle.rules.specs.Lists.{pick, member}
 use Rattle.rules.specs.Tables.{Tables, table, rows_of}
 use Rattle.rules.specs.Sentences.{Sentence, listed}
-use Rattle.rules.specs.Sheets.{tableSheet, seenSet, sentenceSheet}
-use Rattle.rules.specs.Survey.{surveyOf}
+use Rattle.rules.specs.Sheets.{table_sheet, seen_set, sentence_sheet}
+use Rattle.rules.specs.Survey.{survey_of}
 use Rattle.rules.specs.Climbing.{climbed, Climbs}
 use Rattle.rules.specs.Places.{StartsLine}
-use Rattle.rules.specs.Refusals.{OneLine, lineIn, RefusedInside, Unended}
+use Rattle.rules.specs.Refusals.{OneLine, line_in, RefusedInside, Unended}
 use Rattle.rules.specs.Layout.{TablesLaid, SeenLaid, SentenceLaid}
 
 -- ---- chains of parents: a step is taken, to 0 or to a larger number from which the chain climbs on in one step fewer
 
-pub climbs-somewhere : (parent : ℕ → ℕ) (n : ℕ) → Climbs parent 0 n → ⊥
-climbs-somewhere parent n c = omega (arith, c.some, c.few)
+pub climbs_somewhere : (parent : ℕ → ℕ) (n : ℕ) → Climbs parent 0 n → ⊥
+climbs_somewhere parent n c = omega (arith, c.some, c.few)
 
-pub climbs-on : (parent : ℕ → ℕ) (most n : ℕ) → Climbs parent (suc most) n
+pub climbs_on : (parent : ℕ → ℕ) (most n : ℕ) → Climbs parent (suc most) n
     → (parent n ≡ 0) ⊎ ((n < parent n) × Climbs parent most (parent n))
-climbs-on parent most n c = by c.steps c.some c.few c.rising c.top
+climbs_on parent most n c = by c.steps c.some c.few c.rising c.top
   where
     by : (steps : ℕ) → 1 ≤ steps → steps ≤ suc most → ((k : ℕ) → suc k < steps → climbed parent k n < climbed parent (suc k) n)
         → climbed parent steps n ≡ 0 → (parent n ≡ 0) ⊎ ((n < parent n) × Climbs parent most (parent n))
@@ -36,9 +36,9 @@ climbs-on parent most n c = by c.steps c.some c.few c.rising c.top
         inr (rising 0 (omega arith), record { steps = suc k; some = omega arith; few = omega (arith, few); rising = rises; top = top })
 
 -- a chain that stays at 500 never climbs, from whatever number, word 0 too
-pub stays-below : (most n : ℕ) → Climbs (λ (k : ℕ). 500) most n → ⊥
-stays-below zero n c = climbs-somewhere (λ (k : ℕ). 500) n c
-stays-below (suc most) n c = by (climbs-on (λ (k : ℕ). 500) most n c) (stays-below most 500)
+pub stays_below : (most n : ℕ) → Climbs (λ (k : ℕ). 500) most n → ⊥
+stays_below zero n c = climbs_somewhere (λ (k : ℕ). 500) n c
+stays_below (suc most) n c = by (climbs_on (λ (k : ℕ). 500) most n c) (stays_below most 500)
   where
     by : (◌≡◌ {A = ℕ} 500 0) ⊎ ((n < 500) × Climbs (λ (k : ℕ). 500) most 500) → (Climbs (λ (k : ℕ). 500) most 500 → ⊥) → ⊥
     by (inl e) never = omega (arith, e)
@@ -46,43 +46,43 @@ stays-below (suc most) n c = by (climbs-on (λ (k : ℕ). 500) most n c) (stays-
 
 -- ---- bytes of a line
 
-not-newline : (l x : List ℕ) → OneLine l → (n : ℕ) → n < length l → take 1 (drop n (l ++ x)) ≡ 10 ∷ [] → ⊥
-not-newline [] x o n h e = omega (arith, h)
-not-newline (b ∷ bs) x o zero h e = o.0 cc
-not-newline (b ∷ bs) x o (suc n) h e = not-newline bs x o.1 n (omega (arith, h)) e
+not_newline : (l x : List ℕ) → OneLine l → (n : ℕ) → n < length l → take 1 (drop n (l ++ x)) ≡ 10 ∷ [] → ⊥
+not_newline [] x o n h e = omega (arith, h)
+not_newline (b ∷ bs) x o zero h e = o.0 cc
+not_newline (b ∷ bs) x o (suc n) h e = not_newline bs x o.1 n (omega (arith, h)) e
 
-in-its-line : (front l x : List ℕ) → OneLine l → (n : ℕ) → length front ≤ n → n < length front + length l
+in_its_line : (front l x : List ℕ) → OneLine l → (n : ℕ) → length front ≤ n → n < length front + length l
     → take 1 (drop n (front ++ (l ++ x))) ≡ 10 ∷ [] → ⊥
-in-its-line [] l x o n from up_to e = not-newline l x o n (omega (arith, up_to)) e
-in-its-line (b ∷ bs) l x o zero from up_to e = omega (arith, from)
-in-its-line (b ∷ bs) l x o (suc n) from up_to e = in-its-line bs l x o n (omega (arith, from)) (omega (arith, up_to)) e
+in_its_line [] l x o n from up_to e = not_newline l x o n (omega (arith, up_to)) e
+in_its_line (b ∷ bs) l x o zero from up_to e = omega (arith, from)
+in_its_line (b ∷ bs) l x o (suc n) from up_to e = in_its_line bs l x o n (omega (arith, from)) (omega (arith, up_to)) e
 
 -- what points at a column never points at the line's newline
-pub newline-not-told : (number : ℕ) (front l x : List ℕ) → OneLine l → RefusedInside number front l (lineIn front l x)
-    → take 1 (drop (surveyOf (lineIn front l x)).place (lineIn front l x)) ≡ 10 ∷ [] → ⊥
-newline-not-told number front l x o r e = in-its-line front l (10 ∷ x) o (surveyOf (lineIn front l x)).place r.from r.up_to e
+pub newline_not_told : (number : ℕ) (front l x : List ℕ) → OneLine l → RefusedInside number front l (line_in front l x)
+    → take 1 (drop (survey_of (line_in front l x)).place (line_in front l x)) ≡ 10 ∷ [] → ⊥
+newline_not_told number front l x o r e = in_its_line front l (10 ∷ x) o (survey_of (line_in front l x)).place r.from r.up_to e
 
 -- a file with an unended rest isn't whole lines
-pub unended-not-whole : (file : List ℕ) → Unended file → StartsLine file (length file) → ⊥
-unended-not-whole file u s = by s (ap length u.are ∙ length-append u.front u.rest)
+pub unended_not_whole : (file : List ℕ) → Unended file → StartsLine file (length file) → ⊥
+unended_not_whole file u s = by s (ap length u.are ∙ length-append u.front u.rest)
   where
     by : StartsLine file (length file) → length file ≡ length u.front + length u.rest → ⊥
     by (inl z) e = omega (arith, z, e, u.given)
     by (inr a) e =
         let parts = u.are ∙ ap (λ (l : List ℕ). u.front ++ l) (sym (append-nil u.rest)) in
-        in-its-line u.front u.rest [] u.one_line a.before (omega (arith, a.place, e, u.given)) (omega (arith, a.place, e))
+        in_its_line u.front u.rest [] u.one_line a.before (omega (arith, a.place, e, u.given)) (omega (arith, a.place, e))
         (subst (λ (f : List ℕ). take 1 (drop a.before f) ≡ 10 ∷ []) parts a.newline)
 
 -- ---- the last number of each sheet
 
 -- of the table sheet, unless SECEDGETAG is full
-pub last-of-tables : (ts : Tables) → TablesLaid ts → length (rows_of (table 6 ts)) ≤ 255 → get_or (tableSheet ts) 10758 0 ≡ 0
-last-of-tables ts l few = (l.each 6 (omega arith)).unused 255 5 few (omega arith) (omega arith)
+pub last_of_tables : (ts : Tables) → TablesLaid ts → length (rows_of (table 6 ts)) ≤ 255 → get_or (table_sheet ts) 10758 0 ≡ 0
+last_of_tables ts l few = (l.each 6 (omega arith)).unused 255 5 few (omega arith) (omega arith)
 
 -- the highest bit of the seen set, which is that of sentence 65,535
-pub last-of-seen : (ns : List ℕ) → SeenLaid ns → get_or (seenSet ns) 8191 0 / 128 % 2 ≡ pick (member 65535 ns) 1 0
-last-of-seen ns l = l.bit 65535 (omega arith)
+pub last_of_seen : (ns : List ℕ) → SeenLaid ns → get_or (seen_set ns) 8191 0 / 128 % 2 ≡ pick (member 65535 ns) 1 0
+last_of_seen ns l = l.bit 65535 (omega arith)
 
 -- of the sentence sheet, unless there is a phrase 999
-pub last-of-sentence : (s : Sentence) → SentenceLaid s → listed (s.words ++ s.phrases) 999 ≡ false → get_or (sentenceSheet s) 11008 0 ≡ 0
-last-of-sentence s l none = l.no_node 999 10 (omega arith) (omega arith) none
+pub last_of_sentence : (s : Sentence) → SentenceLaid s → listed (s.words ++ s.phrases) 999 ≡ false → get_or (sentence_sheet s) 11008 0 ≡ 0
+last_of_sentence s l none = l.no_node 999 10 (omega arith) (omega arith) none

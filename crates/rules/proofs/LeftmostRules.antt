@@ -14,8 +14,8 @@ use Rattle.rules.specs.Lists.{pick, every, Each}
 use Rattle.rules.specs.Rules.{Rule, sooner, broken}
 use Rattle.rules.specs.GrammarLines.{In}
 use Rattle.rules.proofs.Conjunctions.{and_left, and_right}
-use Rattle.rules.proofs.EachElement.{each-then, each-joined}
-use Rattle.rules.proofs.SaidOfLists.{never_both, every-each, each-every}
+use Rattle.rules.proofs.EachElement.{each_then, each_joined}
+use Rattle.rules.proofs.SaidOfLists.{never_both, every_each, each_every}
 
 -- if both are broken and have one number, the second isn't to the left of the first
 abbrev pub NotLeft : Rule → Rule → Type 0
@@ -34,14 +34,14 @@ pub record Refusing (rs : List Rule) (q : Rule) : Type 0 where
 some_is : (p q : Rule) → some p ≡ some q → p ≡ q
 some_is p q e = cc
 
-refusing-more : (r : Rule) (rs : List Rule) (q : Rule) → (r.holds ≡ false → q.number ≤ r.number) → Refusing rs q → Refusing (r ∷ rs) q
-refusing-more r rs q h k = record { one = inr k.one; fails = k.fails; smallest = (h, k.smallest) }
+refusing_more : (r : Rule) (rs : List Rule) (q : Rule) → (r.holds ≡ false → q.number ≤ r.number) → Refusing rs q → Refusing (r ∷ rs) q
+refusing_more r rs q h k = record { one = inr k.one; fails = k.fails; smallest = (h, k.smallest) }
 
 -- all of them hold
-none-smaller : (rs : List Rule) (n : ℕ) → broken rs ≡ none → Each (λ (r : Rule). r.holds ≡ false → n ≤ r.number) rs
+none_smaller : (rs : List Rule) (n : ℕ) → broken rs ≡ none → Each (λ (r : Rule). r.holds ≡ false → n ≤ r.number) rs
 unfolding broken
-none-smaller [] n e = tt
-none-smaller (r ∷ rs) n e = by r.holds refl e (none-smaller rs n)
+none_smaller [] n e = tt
+none_smaller (r ∷ rs) n e = by r.holds refl e (none_smaller rs n)
   where
     by : (t : Bool) → r.holds ≡ t → pick t (broken rs) (some (sooner r (broken rs))) ≡ none → (broken rs ≡ none → Each (λ (x : Rule). x.holds ≡ false → n ≤ x.number) rs)
         → Each (λ (x : Rule). x.holds ≡ false → n ≤ x.number) (r ∷ rs)
@@ -57,17 +57,17 @@ refusing (r ∷ rs) q e = by r.holds refl e (refusing rs)
     itself h k z = subst (Refusing (r ∷ rs)) z (record { one = inl refl; fails = h; smallest = (λ f. omega arith, k) })
 
     either : (o : Option Rule) → broken rs ≡ o → r.holds ≡ false → sooner r o ≡ q → ((p : Rule) → broken rs ≡ some p → Refusing rs p) → Refusing (r ∷ rs) q
-    either none b h z more = itself h (none-smaller rs r.number b) z
+    either none b h z more = itself h (none_smaller rs r.number b) z
     either (some p) b h z more = which (leb r.number p.number) refl z
       where
         which : (t : Bool) → leb r.number p.number ≡ t → pick t r p ≡ q → Refusing (r ∷ rs) q
         which true l z =
-            itself h (each-then (λ (x : Rule). x.holds ≡ false → p.number ≤ x.number) (λ (x : Rule). x.holds ≡ false → r.number ≤ x.number)
+            itself h (each_then (λ (x : Rule). x.holds ≡ false → p.number ≤ x.number) (λ (x : Rule). x.holds ≡ false → r.number ≤ x.number)
             (λ x k f. omega (arith, leb-true r.number p.number l, k f)) rs (more p b).smallest) z
-        which false l z = subst (Refusing (r ∷ rs)) z (refusing-more r rs p (λ f. omega (arith, leb-false r.number p.number l)) (more p b))
+        which false l z = subst (Refusing (r ∷ rs)) z (refusing_more r rs p (λ f. omega (arith, leb-false r.number p.number l)) (more p b))
 
     by : (t : Bool) → r.holds ≡ t → pick t (broken rs) (some (sooner r (broken rs))) ≡ some q → ((p : Rule) → broken rs ≡ some p → Refusing rs p) → Refusing (r ∷ rs) q
-    by true h e more = refusing-more r rs q (λ f. absurd (never_both r.holds h f)) (more q e)
+    by true h e more = refusing_more r rs q (λ f. absurd (never_both r.holds h f)) (more q e)
     by false h e more = either (broken rs) refl h (some_is (sooner r (broken rs)) q e) more
 
 pub leftmost : (rs : List Rule) (q : Rule) → LeftToRight rs → broken rs ≡ some q → Each (NotLeft q) rs
@@ -101,32 +101,32 @@ abbrev pub past : ℕ → Rule → Bool
 past m r = leb (m + 1) r.number
 
 -- a group of smaller numbers in front
-pub left-joined : (m : ℕ) (rs qs : List Rule) → every (up_to m) rs ≡ true → every (past m) qs ≡ true → LeftToRight rs → LeftToRight qs → LeftToRight (rs ++ qs)
-left-joined m rs qs a b l k = by rs (every-each (up_to m) rs a) l
+pub left_joined : (m : ℕ) (rs qs : List Rule) → every (up_to m) rs ≡ true → every (past m) qs ≡ true → LeftToRight rs → LeftToRight qs → LeftToRight (rs ++ qs)
+left_joined m rs qs a b l k = by rs (every_each (up_to m) rs a) l
   where
     other : (r : Rule) → up_to m r ≡ true → Each (NotLeft r) qs
     other r h =
-        each-then (λ (x : Rule). past m x ≡ true) (NotLeft r) (λ x g d f n. absurd (omega (arith, leb-true r.number m h, leb-true (m + 1) x.number g, n))) qs (every-each (past m) qs b)
+        each_then (λ (x : Rule). past m x ≡ true) (NotLeft r) (λ x g d f n. absurd (omega (arith, leb-true r.number m h, leb-true (m + 1) x.number g, n))) qs (every_each (past m) qs b)
 
     by : (xs : List Rule) → Each (λ (r : Rule). up_to m r ≡ true) xs → LeftToRight xs → LeftToRight (xs ++ qs)
     by [] h l = k
-    by (x ∷ xs) h l = (each-joined (NotLeft x) xs qs l.0 (other x h.0), by xs h.1 l.1)
+    by (x ∷ xs) h l = (each_joined (NotLeft x) xs qs l.0 (other x h.0), by xs h.1 l.1)
 
 -- the first n rules have smaller numbers than the others
 pub left_split : (n m : ℕ) (rs : List Rule) → every (up_to m) (take n rs) ≡ true → every (past m) (drop n rs) ≡ true → LeftToRight (take n rs) → LeftToRight (drop n rs) → LeftToRight rs
-left_split n m rs a b l k = subst LeftToRight (take-append-drop n rs) (left-joined m (take n rs) (drop n rs) a b l k)
+left_split n m rs a b l k = subst LeftToRight (take-append-drop n rs) (left_joined m (take n rs) (drop n rs) a b l k)
 
 -- no two have one number
 abbrev pub strictly : List Rule → Bool
 strictly [] = true
 strictly (r ∷ rs) = every (past r.number) rs && strictly rs
 
-pub left-strictly : (rs : List Rule) → strictly rs ≡ true → LeftToRight rs
-left-strictly [] e = tt
-left-strictly (r ∷ rs) e =
-    let h = every-each (past r.number) rs (and_left (every (past r.number) rs) (strictly rs) e) in (
-      each-then (λ (x : Rule). past r.number x ≡ true) (NotLeft r) (λ x g d f n. absurd (omega (arith, leb-true (r.number + 1) x.number g, n))) rs h,
-      left-strictly rs (and_right (every (past r.number) rs) (strictly rs) e),
+pub left_strictly : (rs : List Rule) → strictly rs ≡ true → LeftToRight rs
+left_strictly [] e = tt
+left_strictly (r ∷ rs) e =
+    let h = every_each (past r.number) rs (and_left (every (past r.number) rs) (strictly rs) e) in (
+      each_then (λ (x : Rule). past r.number x ≡ true) (NotLeft r) (λ x g d f n. absurd (omega (arith, leb-true (r.number + 1) x.number g, n))) rs h,
+      left_strictly rs (and_right (every (past r.number) rs) (strictly rs) e),
     )
 
 -- rules with numbers from one to another, those of one number from left to right
@@ -134,16 +134,16 @@ pub record Run (lowest highest : ℕ) (rs : List Rule) : Type 0 where
   pub within : Each (λ (r : Rule). (lowest ≤ r.number) × (r.number ≤ highest)) rs
   pub left : LeftToRight rs
 
-pub run-joined : (a b c d : ℕ) (rs qs : List Rule) → a ≤ c → b < c → b ≤ d → Run a b rs → Run c d qs → Run a d (rs ++ qs)
-run-joined a b c d rs qs h k l x y =
+pub run_joined : (a b c d : ℕ) (rs qs : List Rule) → a ≤ c → b < c → b ≤ d → Run a b rs → Run c d qs → Run a d (rs ++ qs)
+run_joined a b c d rs qs h k l x y =
     record {
       within =
-          each-joined (λ (r : Rule). (a ≤ r.number) × (r.number ≤ d)) rs qs
-          (each-then (λ (r : Rule). (a ≤ r.number) × (r.number ≤ b)) (λ (r : Rule). (a ≤ r.number) × (r.number ≤ d)) (λ r w. (w.0, omega (arith, w.1))) rs x.within)
-          (each-then (λ (r : Rule). (c ≤ r.number) × (r.number ≤ d)) (λ (r : Rule). (a ≤ r.number) × (r.number ≤ d)) (λ r w. (omega (arith, w.0), w.1)) qs y.within);
+          each_joined (λ (r : Rule). (a ≤ r.number) × (r.number ≤ d)) rs qs
+          (each_then (λ (r : Rule). (a ≤ r.number) × (r.number ≤ b)) (λ (r : Rule). (a ≤ r.number) × (r.number ≤ d)) (λ r w. (w.0, omega (arith, w.1))) rs x.within)
+          (each_then (λ (r : Rule). (c ≤ r.number) × (r.number ≤ d)) (λ (r : Rule). (a ≤ r.number) × (r.number ≤ d)) (λ r w. (omega (arith, w.0), w.1)) qs y.within);
       left =
-          left-joined b rs qs
-          (each-every (up_to b) rs (each-then (λ (r : Rule). (a ≤ r.number) × (r.number ≤ b)) (λ (r : Rule). up_to b r ≡ true) (λ r w. le-leb r.number b w.1) rs x.within))
-          (each-every (past b) qs (each-then (λ (r : Rule). (c ≤ r.number) × (r.number ≤ d)) (λ (r : Rule). past b r ≡ true) (λ r w. le-leb (b + 1) r.number (omega (arith, w.0))) qs y.within))
+          left_joined b rs qs
+          (each_every (up_to b) rs (each_then (λ (r : Rule). (a ≤ r.number) × (r.number ≤ b)) (λ (r : Rule). up_to b r ≡ true) (λ r w. le-leb r.number b w.1) rs x.within))
+          (each_every (past b) qs (each_then (λ (r : Rule). (c ≤ r.number) × (r.number ≤ d)) (λ (r : Rule). past b r ≡ true) (λ r w. le-leb (b + 1) r.number (omega (arith, w.0))) qs y.within))
           x.left y.left;
     }

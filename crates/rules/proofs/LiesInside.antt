@@ -12,8 +12,8 @@ short zero l = omega arith
 short (suc n) [] = omega arith
 short (suc n) (x ∷ l) = omega (arith, short n l)
 
-pub lies-inside : (file : List ℕ) (t : Text) → LiesIn file t → t.start + length t.bytes ≤ length file
-lies-inside file t lies = by t.bytes refl
+pub lies_inside : (file : List ℕ) (t : Text) → LiesIn file t → t.start + length t.bytes ≤ length file
+lies_inside file t lies = by t.bytes refl
   where
     by : (bs : List ℕ) → t.bytes ≡ bs → t.start + length t.bytes ≤ length file
     by [] e = omega (arith, lies.absent e, ap length e)

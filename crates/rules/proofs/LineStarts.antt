@@ -13,42 +13,42 @@ use Rattle.rules.specs.Lists.{pick}
 use Rattle.rules.specs.Bytes.{newline}
 use Rattle.rules.specs.Places.{StartsLine}
 use Rattle.rules.specs.Refusals.{OneLine}
-use Rattle.rules.specs.SentenceFrom.{startsLine, putInFront, endedLine}
-use Rattle.rules.proofs.Conjunctions.{or-found, or-false}
+use Rattle.rules.specs.SentenceFrom.{starts_line, put_in_front, ended_line}
+use Rattle.rules.proofs.Conjunctions.{or_found, or_false}
 
 -- ---- the byte at a place
 
-byte-there : (l : List ℕ) (n b : ℕ) → take 1 (drop n l) ≡ b ∷ [] → get_or l n 0 ≡ b
-byte-there [] zero b e = absurd (let z : ◌≡◌ {A = ℕ} 0 1 = cc in omega arith)
-byte-there [] (suc n) b e = absurd (let z : ◌≡◌ {A = ℕ} 0 1 = cc in omega arith)
-byte-there (x ∷ xs) zero b e = cc
-byte-there (x ∷ xs) (suc n) b e = byte-there xs n b e
+byte_there : (l : List ℕ) (n b : ℕ) → take 1 (drop n l) ≡ b ∷ [] → get_or l n 0 ≡ b
+byte_there [] zero b e = absurd (let z : ◌≡◌ {A = ℕ} 0 1 = cc in omega arith)
+byte_there [] (suc n) b e = absurd (let z : ◌≡◌ {A = ℕ} 0 1 = cc in omega arith)
+byte_there (x ∷ xs) zero b e = cc
+byte_there (x ∷ xs) (suc n) b e = byte_there xs n b e
 
-there-byte : (l : List ℕ) (n b : ℕ) → get_or l n 0 ≡ suc b → take 1 (drop n l) ≡ suc b ∷ []
-there-byte [] n b e = absurd (omega (arith, e))
-there-byte (x ∷ xs) zero b e = ap (λ (y : ℕ). y ∷ []) e
-there-byte (x ∷ xs) (suc n) b e = there-byte xs n b e
+there_byte : (l : List ℕ) (n b : ℕ) → get_or l n 0 ≡ suc b → take 1 (drop n l) ≡ suc b ∷ []
+there_byte [] n b e = absurd (omega (arith, e))
+there_byte (x ∷ xs) zero b e = ap (λ (y : ℕ). y ∷ []) e
+there_byte (x ∷ xs) (suc n) b e = there_byte xs n b e
 
 -- ---- the place of a line's first byte
 
-pub tested-starts : (file : List ℕ) (at : ℕ) → startsLine file at ≡ true → StartsLine file at
-tested-starts file zero e = inl refl
-tested-starts file (suc n) e =
+pub tested_starts : (file : List ℕ) (at : ℕ) → starts_line file at ≡ true → StartsLine file at
+tested_starts file zero e = inl refl
+tested_starts file (suc n) e =
     let before : suc n - 1 ≡ n = omega arith in
-    let its = eqb-true (get_or file (suc n - 1) 0) newline (or-false (eqb (suc n) 0) (eqb (get_or file (suc n - 1) 0) newline) e (ne_eqb (suc n) 0 (λ z. omega (arith, z)))) in
-    inr (record { before = n; place = refl; newline = there-byte file n 9 (ap (λ (m : ℕ). get_or file m 0) (sym before) ∙ its) })
+    let its = eqb-true (get_or file (suc n - 1) 0) newline (or_false (eqb (suc n) 0) (eqb (get_or file (suc n - 1) 0) newline) e (ne_eqb (suc n) 0 (λ z. omega (arith, z)))) in
+    inr (record { before = n; place = refl; newline = there_byte file n 9 (ap (λ (m : ℕ). get_or file m 0) (sym before) ∙ its) })
 
-pub starts-tested : (file : List ℕ) (at : ℕ) → StartsLine file at → startsLine file at ≡ true
-starts-tested file at (inl e) = rw e
-starts-tested file at (inr a) =
+pub starts_tested : (file : List ℕ) (at : ℕ) → StartsLine file at → starts_line file at ≡ true
+starts_tested file at (inl e) = rw e
+starts_tested file at (inr a) =
     let before : at - 1 ≡ a.before = omega (arith, a.place) in
-    or-found (eqb at 0) (eqb (get_or file (at - 1) 0) newline)
-    (eq-eqb (get_or file (at - 1) 0) newline (ap (λ (n : ℕ). get_or file n 0) before ∙ byte-there file a.before newline a.newline))
+    or_found (eqb at 0) (eqb (get_or file (at - 1) 0) newline)
+    (eq-eqb (get_or file (at - 1) 0) newline (ap (λ (n : ℕ). get_or file n 0) before ∙ byte_there file a.before newline a.newline))
 
 -- whatever stands behind the place
-pub starts-same : (front x y : List ℕ) → startsLine (front ++ x) (length front) ≡ true → startsLine (front ++ y) (length front) ≡ true
-starts-same [] x y e = refl
-starts-same (c ∷ cs) x y e =
+pub starts_same : (front x y : List ℕ) → starts_line (front ++ x) (length front) ≡ true → starts_line (front ++ y) (length front) ≡ true
+starts_same [] x y e = refl
+starts_same (c ∷ cs) x y e =
     let at = length (c ∷ cs) in
     let inside : at - 1 < at = omega arith in
     ap (λ (b : ℕ). eqb at 0 || eqb b newline)
@@ -57,23 +57,23 @@ starts-same (c ∷ cs) x y e =
 
 -- ---- the first line
 
-pub first-line : (l x : List ℕ) → OneLine l → endedLine (l ++ (newline ∷ x)) ≡ some l
-unfolding endedLine
-first-line [] x o = refl
-first-line (b ∷ bs) x o = rw (ne_eqb b newline o.0, first-line bs x o.1)
+pub first_line_lem : (l x : List ℕ) → OneLine l → ended_line (l ++ (newline ∷ x)) ≡ some l
+unfolding ended_line
+first_line_lem [] x o = refl
+first_line_lem (b ∷ bs) x o = rw (ne_eqb b newline o.0, first_line_lem bs x o.1)
 
 pub record FirstLine (bs l : List ℕ) : Type 0 where
   pub rest : List ℕ
   pub parts : bs ≡ l ++ (newline ∷ rest)
   pub one_line : OneLine l
 
-pub line_first : (bs l : List ℕ) → endedLine bs ≡ some l → FirstLine bs l
-unfolding endedLine
+pub line_first : (bs l : List ℕ) → ended_line bs ≡ some l → FirstLine bs l
+unfolding ended_line
 line_first [] l e = absurd (let z : ◌≡◌ {A = ℕ} 0 1 = cc in omega arith)
-line_first (b ∷ bs) l e = by (eqb b newline) refl (endedLine bs) refl (line_first bs) e
+line_first (b ∷ bs) l e = by (eqb b newline) refl (ended_line bs) refl (line_first bs) e
   where
-    by : (t : Bool) → eqb b newline ≡ t → (o : Option (List ℕ)) → endedLine bs ≡ o → ((k : List ℕ) → endedLine bs ≡ some k → FirstLine bs k)
-        → pick t (some []) (putInFront b o) ≡ some l → FirstLine (b ∷ bs) l
+    by : (t : Bool) → eqb b newline ≡ t → (o : Option (List ℕ)) → ended_line bs ≡ o → ((k : List ℕ) → ended_line bs ≡ some k → FirstLine bs k)
+        → pick t (some []) (put_in_front b o) ≡ some l → FirstLine (b ∷ bs) l
     by true n o q more e =
         let nothing : [] ≡ l = cc in
         subst (FirstLine (b ∷ bs)) nothing (record { rest = bs; parts = ap (λ (c : ℕ). c ∷ bs) (eqb-true b newline n); one_line = tt })

@@ -8,95 +8,95 @@ use mathlib.Core.List.{List, [], ◌∷◌, map}
 use lib.ListN.{get_or-map}
 use lib.Dec.{eqb}
 use Rattle.rules.specs.Lists.{any, sorted}
-use Rattle.rules.specs.Texts.{Text, bare, sameBytes}
-use Rattle.rules.specs.Tables.{Tables, Row, origins, editors, table, there, present, rows_of, hasId, hasTag, reserved, known}
-use Rattle.rules.specs.Sentences.{knownEditor, knownOrigin}
-use Rattle.rules.specs.Meaning.{bareRow, rowId, meantRows, by_id, meantTables}
-use Rattle.rules.proofs.Sorting.{any-sorted, map-sorted, sorted-sorted}
+use Rattle.rules.specs.Texts.{Text, bare, same_bytes}
+use Rattle.rules.specs.Tables.{Tables, Row, origins, editors, table, there, present, rows_of, has_id, has_tag, reserved, known}
+use Rattle.rules.specs.Sentences.{known_editor, known_origin}
+use Rattle.rules.specs.Meaning.{bare_row, row_id, meant_rows, by_id, meant_tables}
+use Rattle.rules.proofs.Sorting.{any_sorted, map_sorted, sorted_sorted}
 
-pub there-meant : (o : Option (List Row)) → there (meantRows o) ≡ there o
-there-meant none = refl
-there-meant (some rs) = refl
+pub there_meant : (o : Option (List Row)) → there (meant_rows o) ≡ there o
+there_meant none = refl
+there_meant (some rs) = refl
 
-there-by-id : (o : Option (List Row)) → there (meantRows (by_id o)) ≡ there o
-there-by-id none = refl
-there-by-id (some rs) = refl
+there_by_id : (o : Option (List Row)) → there (meant_rows (by_id o)) ≡ there o
+there_by_id none = refl
+there_by_id (some rs) = refl
 
-pub present-meant : (n : ℕ) (ts : Tables) → present n (meantTables ts) ≡ present n ts
-present-meant n [] = refl
-present-meant zero (o ∷ []) = there-by-id o
-present-meant (suc n) (o ∷ []) = refl
-present-meant zero (o ∷ e ∷ ts) = there-by-id o
-present-meant (suc zero) (o ∷ e ∷ ts) = there-by-id e
-present-meant (suc (suc n)) (o ∷ e ∷ ts) = ap there (get_or-map meantRows ts n none) ∙ there-meant (table n ts)
+pub present_meant : (n : ℕ) (ts : Tables) → present n (meant_tables ts) ≡ present n ts
+present_meant n [] = refl
+present_meant zero (o ∷ []) = there_by_id o
+present_meant (suc n) (o ∷ []) = refl
+present_meant zero (o ∷ e ∷ ts) = there_by_id o
+present_meant (suc zero) (o ∷ e ∷ ts) = there_by_id e
+present_meant (suc (suc n)) (o ∷ e ∷ ts) = ap there (get_or-map meant_rows ts n none) ∙ there_meant (table n ts)
 
 -- a test of rows that doesn't see places
-module _ (f : Row → Bool) (placeless : (r : Row) → f (bareRow r) ≡ f r) where
-  pub any-bare : (rs : List Row) → any f (map bareRow rs) ≡ any f rs
-  any-bare [] = refl
-  any-bare (r ∷ rs) = ap₂ ◌||◌ (placeless r) (any-bare rs)
+module _ (f : Row → Bool) (placeless : (r : Row) → f (bare_row r) ≡ f r) where
+  pub any_bare : (rs : List Row) → any f (map bare_row rs) ≡ any f rs
+  any_bare [] = refl
+  any_bare (r ∷ rs) = ap₂ ◌||◌ (placeless r) (any_bare rs)
 
-  any-meant : (o : Option (List Row)) → any f (rows_of (meantRows o)) ≡ any f (rows_of o)
-  any-meant none = refl
-  any-meant (some rs) = any-bare rs
+  any_meant : (o : Option (List Row)) → any f (rows_of (meant_rows o)) ≡ any f (rows_of o)
+  any_meant none = refl
+  any_meant (some rs) = any_bare rs
 
-  any-by-id : (o : Option (List Row)) → any f (rows_of (meantRows (by_id o))) ≡ any f (rows_of o)
-  any-by-id none = refl
-  any-by-id (some rs) = any-bare (sorted rowId rs) ∙ any-sorted rowId f rs
+  any_by_id : (o : Option (List Row)) → any f (rows_of (meant_rows (by_id o))) ≡ any f (rows_of o)
+  any_by_id none = refl
+  any_by_id (some rs) = any_bare (sorted row_id rs) ∙ any_sorted row_id f rs
 
-  pub rows-meant : (n : ℕ) (ts : Tables) → any f (rows_of (table n (meantTables ts))) ≡ any f (rows_of (table n ts))
-  rows-meant n [] = refl
-  rows-meant zero (o ∷ []) = any-by-id o
-  rows-meant (suc n) (o ∷ []) = refl
-  rows-meant zero (o ∷ e ∷ ts) = any-by-id o
-  rows-meant (suc zero) (o ∷ e ∷ ts) = any-by-id e
-  rows-meant (suc (suc n)) (o ∷ e ∷ ts) = ap (λ (o : Option (List Row)). any f (rows_of o)) (get_or-map meantRows ts n none) ∙ any-meant (table n ts)
+  pub rows_meant : (n : ℕ) (ts : Tables) → any f (rows_of (table n (meant_tables ts))) ≡ any f (rows_of (table n ts))
+  rows_meant n [] = refl
+  rows_meant zero (o ∷ []) = any_by_id o
+  rows_meant (suc n) (o ∷ []) = refl
+  rows_meant zero (o ∷ e ∷ ts) = any_by_id o
+  rows_meant (suc zero) (o ∷ e ∷ ts) = any_by_id e
+  rows_meant (suc (suc n)) (o ∷ e ∷ ts) = ap (λ (o : Option (List Row)). any f (rows_of o)) (get_or-map meant_rows ts n none) ∙ any_meant (table n ts)
 
-pub has-id-meant : (i n : ℕ) (ts : Tables) → hasId i (rows_of (table n (meantTables ts))) ≡ hasId i (rows_of (table n ts))
-unfolding hasId
-has-id-meant i n ts = rows-meant (λ (r : Row). eqb i r.id1) (λ r. refl) n ts
+pub has_id_meant : (i n : ℕ) (ts : Tables) → has_id i (rows_of (table n (meant_tables ts))) ≡ has_id i (rows_of (table n ts))
+unfolding has_id
+has_id_meant i n ts = rows_meant (λ (r : Row). eqb i r.id1) (λ r. refl) n ts
 
-has-tag-meant : (t : Text) (n : ℕ) (ts : Tables) → hasTag (bare t) (rows_of (table n (meantTables ts))) ≡ hasTag t (rows_of (table n ts))
-unfolding hasTag
-has-tag-meant t n ts = rows-meant (λ (r : Row). sameBytes t r.first) (λ r. refl) n ts
+has_tag_meant : (t : Text) (n : ℕ) (ts : Tables) → has_tag (bare t) (rows_of (table n (meant_tables ts))) ≡ has_tag t (rows_of (table n ts))
+unfolding has_tag
+has_tag_meant t n ts = rows_meant (λ (r : Row). same_bytes t r.first) (λ r. refl) n ts
 
-pub known-meant : (ts : Tables) (n : ℕ) (t : Text) → known (meantTables ts) n (bare t) ≡ known ts n t
+pub known_meant : (ts : Tables) (n : ℕ) (t : Text) → known (meant_tables ts) n (bare t) ≡ known ts n t
 unfolding known
-known-meant ts n t = ap₂ (λ (a b : Bool). reserved t || not a || b) (present-meant n ts) (has-tag-meant t n ts)
+known_meant ts n t = ap₂ (λ (a b : Bool). reserved t || not a || b) (present_meant n ts) (has_tag_meant t n ts)
 
-pub known-editor-meant : (ts : Tables) (i : ℕ) → knownEditor (meantTables ts) i ≡ knownEditor ts i
-known-editor-meant ts i = rw (has-id-meant i editors ts)
+pub known_editor_meant : (ts : Tables) (i : ℕ) → known_editor (meant_tables ts) i ≡ known_editor ts i
+known_editor_meant ts i = rw (has_id_meant i editors ts)
 
-pub known-origin-meant : (ts : Tables) (n : ℕ) → knownOrigin (meantTables ts) n ≡ knownOrigin ts n
-known-origin-meant ts n = has-id-meant (suc n) origins ts
+pub known_origin_meant : (ts : Tables) (n : ℕ) → known_origin (meant_tables ts) n ≡ known_origin ts n
+known_origin_meant ts n = has_id_meant (suc n) origins ts
 
 -- ---- tables with the texts of what is meant mean the same
 
-pub meant-by-id : (o : Option (List Row)) → meantRows (by_id o) ≡ by_id (meantRows o)
-meant-by-id none = refl
-meant-by-id (some rs) = ap some (map-sorted rowId rowId bareRow (λ r. refl) rs)
+pub meant_by_id : (o : Option (List Row)) → meant_rows (by_id o) ≡ by_id (meant_rows o)
+meant_by_id none = refl
+meant_by_id (some rs) = ap some (map_sorted row_id row_id bare_row (λ r. refl) rs)
 
-by-id-twice : (o : Option (List Row)) → by_id (by_id o) ≡ by_id o
-by-id-twice none = refl
-by-id-twice (some rs) = ap some (sorted-sorted rowId rs)
+by_id_twice : (o : Option (List Row)) → by_id (by_id o) ≡ by_id o
+by_id_twice none = refl
+by_id_twice (some rs) = ap some (sorted_sorted row_id rs)
 
 -- the rows of one table in the order of what is meant
-again-by-id : (o p : Option (List Row)) → meantRows o ≡ meantRows (by_id p) → meantRows (by_id o) ≡ meantRows (by_id p)
-again-by-id o p e =
-    meant-by-id o ∙ ap by_id (e ∙ meant-by-id p) ∙ by-id-twice (meantRows p) ∙ sym (meant-by-id p)
+again_by_id : (o p : Option (List Row)) → meant_rows o ≡ meant_rows (by_id p) → meant_rows (by_id o) ≡ meant_rows (by_id p)
+again_by_id o p e =
+    meant_by_id o ∙ ap by_id (e ∙ meant_by_id p) ∙ by_id_twice (meant_rows p) ∙ sym (meant_by_id p)
 
-pub meant-again : (us ts : Tables) → map meantRows us ≡ meantTables ts → meantTables us ≡ meantTables ts
-meant-again [] [] e = refl
-meant-again [] (o ∷ []) e = e
-meant-again [] (o ∷ p ∷ ts) e = e
-meant-again (u ∷ []) [] e = cc
-meant-again (u ∷ []) (o ∷ []) e = let a : meantRows u ≡ meantRows (by_id o) = cc in ap (λ (x : Option (List Row)). x ∷ []) (again-by-id u o a)
-meant-again (u ∷ []) (o ∷ p ∷ ts) e = cc
-meant-again (u ∷ v ∷ us) [] e = cc
-meant-again (u ∷ v ∷ us) (o ∷ []) e = cc
-meant-again (u ∷ v ∷ us) (o ∷ p ∷ ts) e =
-    let a : meantRows u ≡ meantRows (by_id o) = cc in
-    let b : meantRows v ≡ meantRows (by_id p) = cc in
-    let c : map meantRows us ≡ map meantRows ts = cc in
-    ap₂ (λ (x y : Option (List Row)). x ∷ y ∷ map meantRows us) (again-by-id u o a) (again-by-id v p b)
-    ∙ ap (λ (l : Tables). meantRows (by_id o) ∷ meantRows (by_id p) ∷ l) c
+pub meant_again : (us ts : Tables) → map meant_rows us ≡ meant_tables ts → meant_tables us ≡ meant_tables ts
+meant_again [] [] e = refl
+meant_again [] (o ∷ []) e = e
+meant_again [] (o ∷ p ∷ ts) e = e
+meant_again (u ∷ []) [] e = cc
+meant_again (u ∷ []) (o ∷ []) e = let a : meant_rows u ≡ meant_rows (by_id o) = cc in ap (λ (x : Option (List Row)). x ∷ []) (again_by_id u o a)
+meant_again (u ∷ []) (o ∷ p ∷ ts) e = cc
+meant_again (u ∷ v ∷ us) [] e = cc
+meant_again (u ∷ v ∷ us) (o ∷ []) e = cc
+meant_again (u ∷ v ∷ us) (o ∷ p ∷ ts) e =
+    let a : meant_rows u ≡ meant_rows (by_id o) = cc in
+    let b : meant_rows v ≡ meant_rows (by_id p) = cc in
+    let c : map meant_rows us ≡ map meant_rows ts = cc in
+    ap₂ (λ (x y : Option (List Row)). x ∷ y ∷ map meant_rows us) (again_by_id u o a) (again_by_id v p b)
+    ∙ ap (λ (l : Tables). meant_rows (by_id o) ∷ meant_rows (by_id p) ∷ l) c

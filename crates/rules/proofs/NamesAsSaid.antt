@@ -5,65 +5,65 @@ use mathlib.Core.Path.{◌≡◌, refl}
 use mathlib.Core.List.{[], ◌∷◌}
 use Rattle.rules.specs.Lists.{bytes, counting}
 use Rattle.rules.specs.Bytes.{newline, percents}
-use Rattle.rules.specs.Numbers.{sentenceNumber, originId, date, formatNumber, phraseNumber, fileLimit, lineLimit, rowLimit, wordLimit, edgeLimit}
-use Rattle.rules.specs.Tables.{origins, editors, wordTags, morphTags, nodeTags, edgeTags, secEdgeTags, tableNames, dashes, unknown, tagLimit}
-use Rattle.rules.specs.GrammarNumbers.{sentenceRange, originRange, dateRange, formatRange, phraseRange, fileBytes, lineBytes, tableRows, sentenceWords, sentenceEdges, tagBytes}
-use Rattle.rules.specs.GrammarNames.{endOfLine, commentSign, noTag, unknownTag, titles, ofOrigin, ofEditor, ofWordtag, ofMorphtag, ofNodetag, ofEdgetag, ofSecedgetag}
-use Rattle.rules.proofs.NumeralsAsSaid.{rangeOfKind}
+use Rattle.rules.specs.Numbers.{sentence_number, origin_id, date, format_number, phrase_number, file_limit, line_limit, row_limit, word_limit, edge_limit}
+use Rattle.rules.specs.Tables.{origins, editors, word_tags, morph_tags, node_tags, edge_tags, sec_edge_tags, table_names, dashes, unknown, tag_limit}
+use Rattle.rules.specs.GrammarNumbers.{sentence_range, origin_range, date_range, format_range, phrase_range, file_bytes, line_bytes, table_rows, sentence_words, sentence_edges, tag_bytes}
+use Rattle.rules.specs.GrammarNames.{end_of_line, comment_sign, no_tag, unknown_tag, titles, of_origin, of_editor, of_wordtag, of_morphtag, of_nodetag, of_edgetag, of_secedgetag}
+use Rattle.rules.proofs.NumeralsAsSaid.{range_of_kind}
 
 pub record NamesSaid : Type 0 where
   pub letters : bytes "ABCDEFGHIJKLMNOPQRSTUVWXYZ" ≡ counting 65 26
   pub signs : bytes "#%-1" ≡ 35 ∷ 37 ∷ 45 ∷ 49 ∷ []
-  pub line-end : newline ≡ endOfLine
-  pub comment-sign : percents ≡ commentSign
-  pub no-tag : dashes ≡ noTag
-  pub unknown-tag : unknown ≡ unknownTag
-  pub names : tableNames ≡ titles
-  pub origin-place : origins ≡ ofOrigin
-  pub editor-place : editors ≡ ofEditor
-  pub wordtag-place : wordTags ≡ ofWordtag
-  pub morphtag-place : morphTags ≡ ofMorphtag
-  pub nodetag-place : nodeTags ≡ ofNodetag
-  pub edgetag-place : edgeTags ≡ ofEdgetag
-  pub secedgetag-place : secEdgeTags ≡ ofSecedgetag
+  pub line_end : newline ≡ end_of_line
+  pub comment_sign_lem : percents ≡ comment_sign
+  pub no_tag_lem : dashes ≡ no_tag
+  pub unknown_tag_lem : unknown ≡ unknown_tag
+  pub names : table_names ≡ titles
+  pub origin_place : origins ≡ of_origin
+  pub editor_place : editors ≡ of_editor
+  pub wordtag_place : word_tags ≡ of_wordtag
+  pub morphtag_place : morph_tags ≡ of_morphtag
+  pub nodetag_place : node_tags ≡ of_nodetag
+  pub edgetag_place : edge_tags ≡ of_edgetag
+  pub secedgetag_place : sec_edge_tags ≡ of_secedgetag
 
-pub names-said : NamesSaid
-names-said =
+pub names_said : NamesSaid
+names_said =
     record {
       letters = refl;
       signs = refl;
-      line-end = refl;
-      comment-sign = refl;
-      no-tag = refl;
-      unknown-tag = refl;
+      line_end = refl;
+      comment_sign_lem = refl;
+      no_tag_lem = refl;
+      unknown_tag_lem = refl;
       names = refl;
-      origin-place = refl;
-      editor-place = refl;
-      wordtag-place = refl;
-      morphtag-place = refl;
-      nodetag-place = refl;
-      edgetag-place = refl;
-      secedgetag-place = refl;
+      origin_place = refl;
+      editor_place = refl;
+      wordtag_place = refl;
+      morphtag_place = refl;
+      nodetag_place = refl;
+      edgetag_place = refl;
+      secedgetag_place = refl;
     }
 
 pub record LimitsSaid : Type 0 where
-  pub sentence-numbers : rangeOfKind sentenceNumber ≡ sentenceRange
-  pub origin-ids : rangeOfKind originId ≡ originRange
-  pub dates : rangeOfKind date ≡ dateRange
-  pub formats : rangeOfKind formatNumber ≡ formatRange
-  pub phrases : rangeOfKind phraseNumber ≡ phraseRange
-  pub file : fileLimit ≡ fileBytes
-  pub line : lineLimit ≡ lineBytes
-  pub rows : rowLimit ≡ tableRows
-  pub words : wordLimit ≡ sentenceWords
-  pub edges : edgeLimit ≡ sentenceEdges
-  pub tags : (which : ℕ) → tagLimit which ≡ tagBytes which
+  pub sentence_numbers : range_of_kind sentence_number ≡ sentence_range
+  pub origin_ids : range_of_kind origin_id ≡ origin_range
+  pub dates : range_of_kind date ≡ date_range
+  pub formats : range_of_kind format_number ≡ format_range
+  pub phrases : range_of_kind phrase_number ≡ phrase_range
+  pub file : file_limit ≡ file_bytes
+  pub line : line_limit ≡ line_bytes
+  pub rows : row_limit ≡ table_rows
+  pub words : word_limit ≡ sentence_words
+  pub edges : edge_limit ≡ sentence_edges
+  pub tags : (which : ℕ) → tag_limit which ≡ tag_bytes which
 
-pub limits-said : LimitsSaid
-limits-said =
+pub limits_said : LimitsSaid
+limits_said =
     record {
-      sentence-numbers = refl;
-      origin-ids = refl;
+      sentence_numbers = refl;
+      origin_ids = refl;
       dates = refl;
       formats = refl;
       phrases = refl;

@@ -11,7 +11,7 @@ use lib.Dec.{leb, ltb}
 use borrow.Author.Tests.{leb-true, leb-false, ltb-true, ltb-false}
 use Rattle.rules.specs.Lists.{counting}
 use Rattle.rules.specs.GrammarLines.{In, Differ}
-use Rattle.rules.proofs.Counting.{length-counting}
+use Rattle.rules.proofs.Counting.{length_counting}
 
 -- a list without one of its elements
 record Without (x : ℕ) (xs : List ℕ) : Type 0 where
@@ -41,29 +41,29 @@ no_more (y ∷ ys) xs d f =
 
 -- ---- counted numbers
 
-in-counting : (a k n : ℕ) → In n (counting a k) → (a ≤ n) × (n < a + k)
-in-counting a zero n i = absurd i
-in-counting a (suc k) n (inl e) = (omega (arith, e), omega (arith, e))
-in-counting a (suc k) n (inr i) = let h = in-counting (suc a) k n i in (omega (arith, h.0), omega (arith, h.1))
+in_counting : (a k n : ℕ) → In n (counting a k) → (a ≤ n) × (n < a + k)
+in_counting a zero n i = absurd i
+in_counting a (suc k) n (inl e) = (omega (arith, e), omega (arith, e))
+in_counting a (suc k) n (inr i) = let h = in_counting (suc a) k n i in (omega (arith, h.0), omega (arith, h.1))
 
-counting-differ : (a k : ℕ) → Differ (counting a k)
-counting-differ a zero = tt
-counting-differ a (suc k) = ((λ i. absurd (omega (arith, (in-counting (suc a) k a i).0))), counting-differ (suc a) k)
+counting_differ : (a k : ℕ) → Differ (counting a k)
+counting_differ a zero = tt
+counting_differ a (suc k) = ((λ i. absurd (omega (arith, (in_counting (suc a) k a i).0))), counting_differ (suc a) k)
 
 module _ (xs : List ℕ) (a : ℕ) (all : (n : ℕ) → a ≤ n → n < a + length xs → In n xs) where
   outside : (n : ℕ) → In n xs → (In n (counting a (length xs)) → ⊥) → ⊥
   outside n i o =
-      let h : length (n ∷ counting a (length xs)) ≤ length xs = no_more (n ∷ counting a (length xs)) xs (o, counting-differ a (length xs)) (λ y j. either y j) in
-      omega (arith, length-counting a (length xs))
+      let h : length (n ∷ counting a (length xs)) ≤ length xs = no_more (n ∷ counting a (length xs)) xs (o, counting_differ a (length xs)) (λ y j. either y j) in
+      omega (arith, length_counting a (length xs))
     where
       either : (y : ℕ) → In y (n ∷ counting a (length xs)) → In y xs
       either y (inl e) = subst (λ (n : ℕ). In n xs) (sym e) i
-      either y (inr j) = let h = in-counting a (length xs) y j in all y h.0 h.1
+      either y (inr j) = let h = in_counting a (length xs) y j in all y h.0 h.1
 
-  pub no-others : (n : ℕ) → In n xs → (a ≤ n) × (n < a + length xs)
-  no-others n i = by (leb a n) refl (ltb n (a + length xs)) refl
+  pub no_others : (n : ℕ) → In n xs → (a ≤ n) × (n < a + length xs)
+  no_others n i = by (leb a n) refl (ltb n (a + length xs)) refl
     where
       by : (t : Bool) → leb a n ≡ t → (u : Bool) → ltb n (a + length xs) ≡ u → (a ≤ n) × (n < a + length xs)
       by true e true f = (leb-true a n e, ltb-true n (a + length xs) f)
-      by true e false f = absurd (outside n i (λ j. omega (arith, (in-counting a (length xs) n j).1, ltb-false n (a + length xs) f)))
-      by false e u f = absurd (outside n i (λ j. omega (arith, (in-counting a (length xs) n j).0, leb-false a n e)))
+      by true e false f = absurd (outside n i (λ j. omega (arith, (in_counting a (length xs) n j).1, ltb-false n (a + length xs) f)))
+      by false e u f = absurd (outside n i (λ j. omega (arith, (in_counting a (length xs) n j).0, leb-false a n e)))

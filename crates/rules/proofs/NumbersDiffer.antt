@@ -7,84 +7,84 @@ use mathlib.Core.Option.{Option, none, some}
 use mathlib.Core.List.{List, [], ◌∷◌, map}
 use lib.ListN.{length}
 use Rattle.rules.specs.Lists.{pick, Each}
-use Rattle.rules.specs.Tables.{Tables, Row, origins, editors, table, rows_of, hasId}
+use Rattle.rules.specs.Tables.{Tables, Row, origins, editors, table, rows_of, has_id}
 use Rattle.rules.specs.Sentences.{Sentence}
-use Rattle.rules.specs.Phases.{Preamble, Phase, start, top, in_table, inSentence, behindSentence, tablesAt}
+use Rattle.rules.specs.Phases.{Preamble, Phase, start, top, in_table, in_sentence, behind_sentence, tables_at}
 use Rattle.rules.specs.Reading.{Handed, begin, read}
-use Rattle.rules.specs.Survey.{Survey, answered, nothingRead, surveyOf, fileFits}
-use Rattle.rules.specs.Meaning.{bareRow, bareNode, rowId, nodeNumber, sentenceNumberOf}
-use Rattle.rules.specs.Same.{handedNumber}
+use Rattle.rules.specs.Survey.{Survey, answered, nothing_read, survey_of, file_fits}
+use Rattle.rules.specs.Meaning.{bare_row, bare_node, row_id, node_number, sentence_number_of}
+use Rattle.rules.specs.Same.{handed_number}
 use Rattle.rules.proofs.Sorting.{Distinct}
-use Rattle.rules.proofs.RowsKept.{RowNew, distinct-rows}
-use Rattle.rules.proofs.SentencesKept.{bareSentence}
+use Rattle.rules.proofs.RowsKept.{RowNew, distinct_rows}
+use Rattle.rules.proofs.SentencesKept.{bare_sentence}
 use Rattle.rules.proofs.Kept.{TableKept, TablesKept, PreambleKept, PhaseKept}
-use Rattle.rules.proofs.KeptReading.{bares, file-kept}
-use Rattle.rules.proofs.HandedKept.{handed-kept}
-use Rattle.rules.proofs.AlikeLists.{distinct-mapped}
+use Rattle.rules.proofs.KeptReading.{bares, file_kept}
+use Rattle.rules.proofs.HandedKept.{handed_kept}
+use Rattle.rules.proofs.AlikeLists.{distinct_mapped}
 use Rattle.rules.proofs.SameFields.{PhrasesDiffer}
 
 -- ---- ids
 
 abbrev pub IdsDiffer : Option (List Row) → Type 0
-IdsDiffer o = Distinct rowId (rows_of o)
+IdsDiffer o = Distinct row_id (rows_of o)
 
-module _ (n : ℕ) (new : (done : List Row) (r : Row) → RowNew n done r → hasId r.id1 done ≡ false) where
-  ids-differ : (o : Option (List Row)) → TableKept n o → IdsDiffer o
-  ids-differ none k = tt
-  ids-differ (some rs) k = distinct-mapped rowId rowId bareRow (λ r. refl) rs (distinct-rows n new [] (map bareRow rs) tt k)
+module _ (n : ℕ) (new : (done : List Row) (r : Row) → RowNew n done r → has_id r.id1 done ≡ false) where
+  ids_differ : (o : Option (List Row)) → TableKept n o → IdsDiffer o
+  ids_differ none k = tt
+  ids_differ (some rs) k = distinct_mapped row_id row_id bare_row (λ r. refl) rs (distinct_rows n new [] (map bare_row rs) tt k)
 
 pub record TablesDiffer (ts : Tables) : Type 0 where
   pub seven : length ts ≡ 7
-  pub origin-ids : IdsDiffer (table origins ts)
-  pub editor-ids : IdsDiffer (table editors ts)
+  pub origin_ids : IdsDiffer (table origins ts)
+  pub editor_ids : IdsDiffer (table editors ts)
 
-tables-differ : (ts : Tables) → length ts ≡ 7 → TablesKept 0 ts → TablesDiffer ts
-tables-differ [] e k = record { seven = e; origin-ids = tt; editor-ids = tt }
-tables-differ (o ∷ []) e k = record { seven = e; origin-ids = ids-differ 0 (λ done r h. h) o k.0; editor-ids = tt }
-tables-differ (o ∷ p ∷ ts) e k = record { seven = e; origin-ids = ids-differ 0 (λ done r h. h) o k.0; editor-ids = ids-differ 1 (λ done r h. h) p k.1.0 }
+tables_differ : (ts : Tables) → length ts ≡ 7 → TablesKept 0 ts → TablesDiffer ts
+tables_differ [] e k = record { seven = e; origin_ids = tt; editor_ids = tt }
+tables_differ (o ∷ []) e k = record { seven = e; origin_ids = ids_differ 0 (λ done r h. h) o k.0; editor_ids = tt }
+tables_differ (o ∷ p ∷ ts) e k = record { seven = e; origin_ids = ids_differ 0 (λ done r h. h) o k.0; editor_ids = ids_differ 1 (λ done r h. h) p k.1.0 }
 
 -- ---- where a reading stands
 
-preamble-differs : (p : Preamble) → PreambleKept p → TablesDiffer p.tables
-preamble-differs p k = tables-differ p.tables k.seven k.tables
+preamble_differs : (p : Preamble) → PreambleKept p → TablesDiffer p.tables
+preamble_differs p k = tables_differ p.tables k.seven k.tables
 
-phase-tables : (phase : Phase) (ss : List Sentence) → PhaseKept phase ss → TablesDiffer (tablesAt phase)
-phase-tables start ss k = record { seven = refl; origin-ids = tt; editor-ids = tt }
-phase-tables (top p) ss k = preamble-differs p k.0
-phase-tables (in_table p n rs) ss k = preamble-differs p k.preamble
-phase-tables (inSentence p s) ss k = preamble-differs p k.preamble
-phase-tables (behindSentence p) ss k = preamble-differs p k.preamble
+phase_tables : (phase : Phase) (ss : List Sentence) → PhaseKept phase ss → TablesDiffer (tables_at phase)
+phase_tables start ss k = record { seven = refl; origin_ids = tt; editor_ids = tt }
+phase_tables (top p) ss k = preamble_differs p k.0
+phase_tables (in_table p n rs) ss k = preamble_differs p k.preamble
+phase_tables (in_sentence p s) ss k = preamble_differs p k.preamble
+phase_tables (behind_sentence p) ss k = preamble_differs p k.preamble
 
-none_differ : (ss : List Sentence) → ss ≡ [] → Distinct sentenceNumberOf ss
-none_differ ss e = subst (Distinct sentenceNumberOf) (sym e) tt
+none_differ : (ss : List Sentence) → ss ≡ [] → Distinct sentence_number_of ss
+none_differ ss e = subst (Distinct sentence_number_of) (sym e) tt
 
-phase-sentences : (phase : Phase) (ss : List Sentence) → PhaseKept phase ss → Distinct sentenceNumberOf ss
-phase-sentences start ss k = none_differ ss k
-phase-sentences (top p) ss k = none_differ ss k.1
-phase-sentences (in_table p n rs) ss k = none_differ ss k.nothing
-phase-sentences (inSentence p s) ss k = k.sentences.distinct
-phase-sentences (behindSentence p) ss k = k.sentences.distinct
+phase_sentences : (phase : Phase) (ss : List Sentence) → PhaseKept phase ss → Distinct sentence_number_of ss
+phase_sentences start ss k = none_differ ss k
+phase_sentences (top p) ss k = none_differ ss k.1
+phase_sentences (in_table p n rs) ss k = none_differ ss k.nothing
+phase_sentences (in_sentence p s) ss k = k.sentences.distinct
+phase_sentences (behind_sentence p) ss k = k.sentences.distinct
 
 -- ---- a survey
 
 pub record NumbersDiffer (v : Survey) : Type 0 where
   pub tables : TablesDiffer v.tables
   pub phrases : Each (λ (h : Handed). PhrasesDiffer h.sentence) v.handed
-  pub sentences : Distinct handedNumber v.handed
+  pub sentences : Distinct handed_number v.handed
 
-pub numbers-differ : (f : List ℕ) → NumbersDiffer (surveyOf f)
-unfolding surveyOf
-numbers-differ f = record { tables = of-tables (fileFits f); phrases = of-phrases; sentences = of-sentences (fileFits f) }
+pub numbers_differ : (f : List ℕ) → NumbersDiffer (survey_of f)
+unfolding survey_of
+numbers_differ f = record { tables = of_tables (file_fits f); phrases = of_phrases; sentences = of_sentences (file_fits f) }
   where
-    of-tables : (t : Bool) → TablesDiffer (pick t (answered (read begin f)) (nothingRead 2)).tables
-    of-tables true = phase-tables (read begin f).phase (bares (read begin f).handed) (file-kept f).phase
-    of-tables false = record { seven = refl; origin-ids = tt; editor-ids = tt }
+    of_tables : (t : Bool) → TablesDiffer (pick t (answered (read begin f)) (nothing_read 2)).tables
+    of_tables true = phase_tables (read begin f).phase (bares (read begin f).handed) (file_kept f).phase
+    of_tables false = record { seven = refl; origin_ids = tt; editor_ids = tt }
 
-    of-phrases : Each (λ (h : Handed). PhrasesDiffer h.sentence) (surveyOf f).handed
-    of-phrases = handed-kept (λ v s. PhrasesDiffer s) (λ v s k. distinct-mapped nodeNumber nodeNumber bareNode (λ n. refl) s.phrases k.part.distinct) f
+    of_phrases : Each (λ (h : Handed). PhrasesDiffer h.sentence) (survey_of f).handed
+    of_phrases = handed_kept (λ v s. PhrasesDiffer s) (λ v s k. distinct_mapped node_number node_number bare_node (λ n. refl) s.phrases k.part.distinct) f
 
-    of-sentences : (t : Bool) → Distinct handedNumber (pick t (answered (read begin f)) (nothingRead 2)).handed
-    of-sentences true =
-        distinct-mapped handedNumber sentenceNumberOf (λ (h : Handed). bareSentence h.sentence) (λ h. refl) (read begin f).handed
-        (phase-sentences (read begin f).phase (bares (read begin f).handed) (file-kept f).phase)
-    of-sentences false = tt
+    of_sentences : (t : Bool) → Distinct handed_number (pick t (answered (read begin f)) (nothing_read 2)).handed
+    of_sentences true =
+        distinct_mapped handed_number sentence_number_of (λ (h : Handed). bare_sentence h.sentence) (λ h. refl) (read begin f).handed
+        (phase_sentences (read begin f).phase (bares (read begin f).handed) (file_kept f).phase)
+    of_sentences false = tt

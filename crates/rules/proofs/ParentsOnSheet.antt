@@ -13,55 +13,55 @@ use lib.Dec.{eqb}
 use Rattle.rules.specs.Lists.{pick, counting, joined, Each}
 use Rattle.rules.specs.Sentences.{Node, Sentence}
 use Rattle.rules.specs.Reading.{Handed}
-use Rattle.rules.specs.SheetFields.{nodeRoom, nodeWidth, parentPlace}
-use Rattle.rules.specs.Sheets.{nodes, leading, nodeNumbers, recordAt, sentenceSheet}
-use Rattle.rules.specs.Survey.{surveyOf}
-use Rattle.rules.specs.Climbing.{parentAmong, parent_in, parentOn, climbed, Climbs, EveryChainClimbs}
-use Rattle.rules.proofs.EachElement.{each-then}
+use Rattle.rules.specs.SheetFields.{node_room, node_width, parent_place}
+use Rattle.rules.specs.Sheets.{nodes, leading, node_numbers, record_at, sentence_sheet}
+use Rattle.rules.specs.Survey.{survey_of}
+use Rattle.rules.specs.Climbing.{parent_among, parent_in, parent_on, climbed, Climbs, EveryChainClimbs}
+use Rattle.rules.proofs.EachElement.{each_then}
 use Rattle.rules.proofs.FieldsOnSheet.{field_at}
 use Rattle.rules.proofs.NodeNumbers.{InRoom}
-use Rattle.rules.proofs.Climbable.{Climbable, handed-climbable}
-use Rattle.rules.proofs.Chains.{ZeroOrAbove, climbed-same, climbs-same}
-use Rattle.rules.proofs.ParentsClimb.{parent_above, sentence-climbs}
+use Rattle.rules.proofs.Climbable.{Climbable, handed_climbable}
+use Rattle.rules.proofs.Chains.{ZeroOrAbove, climbed_same, climbs_same}
+use Rattle.rules.proofs.ParentsClimb.{parent_above, sentence_climbs}
 
 -- ---- the parent of a number
 
-record-parent : (ns : List Node) (k : ℕ) → get_or (recordAt ns k) parentPlace 0 ≡ parentAmong ns k
-record-parent [] k = refl
-record-parent (n ∷ ns) k = by (eqb n.number k) (record-parent ns k)
+record_parent : (ns : List Node) (k : ℕ) → get_or (record_at ns k) parent_place 0 ≡ parent_among ns k
+record_parent [] k = refl
+record_parent (n ∷ ns) k = by (eqb n.number k) (record_parent ns k)
   where
-    by : (t : Bool) → get_or (recordAt ns k) parentPlace 0 ≡ parentAmong ns k
-        → get_or (pick t (nodeNumbers n) (recordAt ns k)) parentPlace 0 ≡ pick t n.parent (parentAmong ns k)
+    by : (t : Bool) → get_or (record_at ns k) parent_place 0 ≡ parent_among ns k
+        → get_or (pick t (node_numbers n) (record_at ns k)) parent_place 0 ≡ pick t n.parent (parent_among ns k)
     by true more = refl
     by false more = more
 
 -- of any sentence, at each number that a node may have
-pub parent-on-sheet : (s : Sentence) (n : ℕ) → n < nodeRoom → parentOn (sentenceSheet s) n ≡ parent_in s n
-parent-on-sheet s n h = field_at s parentPlace n (omega arith) h ∙ record-parent (nodes s) n
+pub parent_on_sheet : (s : Sentence) (n : ℕ) → n < node_room → parent_on (sentence_sheet s) n ≡ parent_in s n
+parent_on_sheet s n h = field_at s parent_place n (omega arith) h ∙ record_parent (nodes s) n
 
 -- ---- a sentence whose chains climb
 
 module _ (s : Sentence) (k : Climbable s) where
-  pub parent-in-room : (n : ℕ) → parent_in s n < nodeRoom
-  parent-in-room n = by (parent_above s k n)
+  pub parent_in_room : (n : ℕ) → parent_in s n < node_room
+  parent_in_room n = by (parent_above s k n)
     where
-      by : ZeroOrAbove (length s.phrases) n (parent_in s n) → parent_in s n < nodeRoom
+      by : ZeroOrAbove (length s.phrases) n (parent_in s n) → parent_in s n < node_room
       by (inl e) = omega (arith, e)
       by (inr a) = omega (arith, a.highest)
 
-  on-sheet-same : (steps n : ℕ) → n < nodeRoom → climbed (parentOn (sentenceSheet s)) steps n ≡ climbed (parent_in s) steps n
-  on-sheet-same steps n h = climbed-same (parent_in s) (parentOn (sentenceSheet s)) nodeRoom (parent-on-sheet s) (λ m l. parent-in-room m) steps n h
+  on_sheet_same : (steps n : ℕ) → n < node_room → climbed (parent_on (sentence_sheet s)) steps n ≡ climbed (parent_in s) steps n
+  on_sheet_same steps n h = climbed_same (parent_in s) (parent_on (sentence_sheet s)) node_room (parent_on_sheet s) (λ m l. parent_in_room m) steps n h
 
-  climbs-from : (n : ℕ) → n < nodeRoom → Climbs (parentOn (sentenceSheet s)) (suc (length s.phrases)) n
-  climbs-from n h = climbs-same (parent_in s) (parentOn (sentenceSheet s)) (suc (length s.phrases)) n (λ j. on-sheet-same j n h) (sentence-climbs s k n)
+  climbs_from : (n : ℕ) → n < node_room → Climbs (parent_on (sentence_sheet s)) (suc (length s.phrases)) n
+  climbs_from n h = climbs_same (parent_in s) (parent_on (sentence_sheet s)) (suc (length s.phrases)) n (λ j. on_sheet_same j n h) (sentence_climbs s k n)
 
-  pub chains-climb-on-sheet : EveryChainClimbs s (parentOn (sentenceSheet s))
-  chains-climb-on-sheet = each-then InRoom (λ (n : Node). Climbs (parentOn (sentenceSheet s)) (suc (length s.phrases)) n.number) (λ n h. climbs-from n.number h) (nodes s) k.in-room
+  pub chains_climb_on_sheet : EveryChainClimbs s (parent_on (sentence_sheet s))
+  chains_climb_on_sheet = each_then InRoom (λ (n : Node). Climbs (parent_on (sentence_sheet s)) (suc (length s.phrases)) n.number) (λ n h. climbs_from n.number h) (nodes s) k.in_room
 
 -- ---- every sentence handed out
 
 -- every chain of parents climbs on the sheet
-pub climbs-on-sheet : (f : List ℕ) → Each (λ (h : Handed). EveryChainClimbs h.sentence (parentOn (sentenceSheet h.sentence))) (surveyOf f).handed
-climbs-on-sheet f =
-    each-then (λ (h : Handed). Climbable h.sentence) (λ (h : Handed). EveryChainClimbs h.sentence (parentOn (sentenceSheet h.sentence)))
-    (λ h c. chains-climb-on-sheet h.sentence c) (surveyOf f).handed (handed-climbable f)
+pub climbs_on_sheet : (f : List ℕ) → Each (λ (h : Handed). EveryChainClimbs h.sentence (parent_on (sentence_sheet h.sentence))) (survey_of f).handed
+climbs_on_sheet f =
+    each_then (λ (h : Handed). Climbable h.sentence) (λ (h : Handed). EveryChainClimbs h.sentence (parent_on (sentence_sheet h.sentence)))
+    (λ h c. chains_climb_on_sheet h.sentence c) (survey_of f).handed (handed_climbable f)

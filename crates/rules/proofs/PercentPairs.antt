@@ -8,7 +8,7 @@ use lib.Dec.{eqb}
 use borrow.Author.Tests.{not-true}
 use Rattle.rules.specs.Lists.{pick, every}
 use Rattle.rules.specs.Bytes.{white}
-use Rattle.rules.specs.Texts.{noText, unlessWhite, rightTrim, trimFrom, startsComment, frontBytes, behindFrom}
+use Rattle.rules.specs.Texts.{no_text, unless_white, right_trim, trim_from, starts_comment, front_bytes, behind_from}
 use Rattle.rules.specs.Tidy.{tab}
 use Rattle.rules.proofs.Conjunctions.{and_left, and_right, and_both}
 
@@ -16,121 +16,121 @@ use Rattle.rules.proofs.Conjunctions.{and_left, and_right, and_both}
 abbrev pub pairless : List ℕ → Bool
 pairless [] = true
 pairless (a ∷ []) = true
-pairless (a ∷ b ∷ bs) = not (startsComment a b) && pairless (b ∷ bs)
+pairless (a ∷ b ∷ bs) = not (starts_comment a b) && pairless (b ∷ bs)
 
-no-pair : (a b : ℕ) (bs : List ℕ) → pairless (a ∷ b ∷ bs) ≡ true → startsComment a b ≡ false
-no-pair a b bs h = not-true (startsComment a b) (and_left (not (startsComment a b)) (pairless (b ∷ bs)) h)
+no_pair : (a b : ℕ) (bs : List ℕ) → pairless (a ∷ b ∷ bs) ≡ true → starts_comment a b ≡ false
+no_pair a b bs h = not-true (starts_comment a b) (and_left (not (starts_comment a b)) (pairless (b ∷ bs)) h)
 
-no-later : (a b : ℕ) (bs : List ℕ) → pairless (a ∷ b ∷ bs) ≡ true → pairless (b ∷ bs) ≡ true
-no-later a b bs h = and_right (not (startsComment a b)) (pairless (b ∷ bs)) h
+no_later : (a b : ℕ) (bs : List ℕ) → pairless (a ∷ b ∷ bs) ≡ true → pairless (b ∷ bs) ≡ true
+no_later a b bs h = and_right (not (starts_comment a b)) (pairless (b ∷ bs)) h
 
 -- ---- a text that has none
 
-pub front-whole : (n : List ℕ) → pairless n ≡ true → frontBytes n ≡ n
-unfolding frontBytes
-front-whole [] h = refl
-front-whole (a ∷ []) h = refl
-front-whole (a ∷ b ∷ bs) h = rw (no-pair a b bs h) (ap (λ (l : List ℕ). a ∷ l) (front-whole (b ∷ bs) (no-later a b bs h)))
+pub front_whole : (n : List ℕ) → pairless n ≡ true → front_bytes n ≡ n
+unfolding front_bytes
+front_whole [] h = refl
+front_whole (a ∷ []) h = refl
+front_whole (a ∷ b ∷ bs) h = rw (no_pair a b bs h) (ap (λ (l : List ℕ). a ∷ l) (front_whole (b ∷ bs) (no_later a b bs h)))
 
-pub behind-nothing : (at : ℕ) (n : List ℕ) → pairless n ≡ true → behindFrom at n ≡ noText
-unfolding behindFrom
-behind-nothing at [] h = refl
-behind-nothing at (a ∷ []) h = refl
-behind-nothing at (a ∷ b ∷ bs) h = rw (no-pair a b bs h) (behind-nothing (suc at) (b ∷ bs) (no-later a b bs h))
+pub behind_nothing : (at : ℕ) (n : List ℕ) → pairless n ≡ true → behind_from at n ≡ no_text
+unfolding behind_from
+behind_nothing at [] h = refl
+behind_nothing at (a ∷ []) h = refl
+behind_nothing at (a ∷ b ∷ bs) h = rw (no_pair a b bs h) (behind_nothing (suc at) (b ∷ bs) (no_later a b bs h))
 
-pub front_cut : (n x : List ℕ) → pairless n ≡ true → frontBytes (n ++ (tab ∷ 37 ∷ 37 ∷ x)) ≡ n ++ (tab ∷ [])
-unfolding frontBytes
+pub front_cut : (n x : List ℕ) → pairless n ≡ true → front_bytes (n ++ (tab ∷ 37 ∷ 37 ∷ x)) ≡ n ++ (tab ∷ [])
+unfolding front_bytes
 front_cut [] x h = refl
 front_cut (a ∷ []) x h = rw (and-false (eqb a 37))
-front_cut (a ∷ b ∷ bs) x h = rw (no-pair a b bs h) (ap (λ (l : List ℕ). a ∷ l) (front_cut (b ∷ bs) x (no-later a b bs h)))
+front_cut (a ∷ b ∷ bs) x h = rw (no_pair a b bs h) (ap (λ (l : List ℕ). a ∷ l) (front_cut (b ∷ bs) x (no_later a b bs h)))
 
-pub behind-cut : (at : ℕ) (n x : List ℕ) → pairless n ≡ true → (behindFrom at (n ++ (tab ∷ 37 ∷ 37 ∷ x))).bytes ≡ x
-unfolding behindFrom
-behind-cut at [] x h = refl
-behind-cut at (a ∷ []) x h = rw (and-false (eqb a 37))
-behind-cut at (a ∷ b ∷ bs) x h = rw (no-pair a b bs h) (behind-cut (suc at) (b ∷ bs) x (no-later a b bs h))
+pub behind_cut : (at : ℕ) (n x : List ℕ) → pairless n ≡ true → (behind_from at (n ++ (tab ∷ 37 ∷ 37 ∷ x))).bytes ≡ x
+unfolding behind_from
+behind_cut at [] x h = refl
+behind_cut at (a ∷ []) x h = rw (and-false (eqb a 37))
+behind_cut at (a ∷ b ∷ bs) x h = rw (no_pair a b bs h) (behind_cut (suc at) (b ∷ bs) x (no_later a b bs h))
 
-pub pairless-tab : (n : List ℕ) → pairless n ≡ true → pairless (tab ∷ n) ≡ true
-pairless-tab [] h = refl
-pairless-tab (b ∷ bs) h = h
+pub pairless_tab : (n : List ℕ) → pairless n ≡ true → pairless (tab ∷ n) ≡ true
+pairless_tab [] h = refl
+pairless_tab (b ∷ bs) h = h
 
 -- ---- what stands in front of the first two
 
-pub front-pairless : (n : List ℕ) → pairless (frontBytes n) ≡ true
-unfolding frontBytes
-front-pairless [] = refl
-front-pairless (a ∷ []) = refl
-front-pairless (a ∷ b ∷ []) = by (startsComment a b) refl
+pub front_pairless : (n : List ℕ) → pairless (front_bytes n) ≡ true
+unfolding front_bytes
+front_pairless [] = refl
+front_pairless (a ∷ []) = refl
+front_pairless (a ∷ b ∷ []) = by (starts_comment a b) refl
   where
-    by : (t : Bool) → startsComment a b ≡ t → pairless (pick t [] (a ∷ b ∷ [])) ≡ true
+    by : (t : Bool) → starts_comment a b ≡ t → pairless (pick t [] (a ∷ b ∷ [])) ≡ true
     by true e = refl
     by false e = rw e
-front-pairless (a ∷ b ∷ c ∷ cs) = by (startsComment a b) refl (startsComment b c) (front-pairless (b ∷ c ∷ cs))
+front_pairless (a ∷ b ∷ c ∷ cs) = by (starts_comment a b) refl (starts_comment b c) (front_pairless (b ∷ c ∷ cs))
   where
-    by : (t : Bool) → startsComment a b ≡ t → (u : Bool) → pairless (pick u [] (b ∷ frontBytes (c ∷ cs))) ≡ true
-        → pairless (pick t [] (a ∷ pick u [] (b ∷ frontBytes (c ∷ cs)))) ≡ true
+    by : (t : Bool) → starts_comment a b ≡ t → (u : Bool) → pairless (pick u [] (b ∷ front_bytes (c ∷ cs))) ≡ true
+        → pairless (pick t [] (a ∷ pick u [] (b ∷ front_bytes (c ∷ cs)))) ≡ true
     by true e u i = refl
     by false e true i = refl
     by false e false i = rw e i
 
 -- ---- white bytes lost at both ends add none
 
-unless-pairless : (a b : ℕ) (r : List ℕ) → startsComment a b ≡ false → pairless (unlessWhite b r) ≡ true → pairless (unlessWhite a (unlessWhite b r)) ≡ true
-unless-pairless a b [] e i = by (white a) (white b)
+unless_pairless : (a b : ℕ) (r : List ℕ) → starts_comment a b ≡ false → pairless (unless_white b r) ≡ true → pairless (unless_white a (unless_white b r)) ≡ true
+unless_pairless a b [] e i = by (white a) (white b)
   where
-    by : (t u : Bool) → pairless (unlessWhite a (pick u [] (b ∷ []))) ≡ true
+    by : (t u : Bool) → pairless (unless_white a (pick u [] (b ∷ []))) ≡ true
     by t true = one (white a)
       where
         one : (t : Bool) → pairless (pick t [] (a ∷ [])) ≡ true
         one true = refl
         one false = refl
     by t false = rw e
-unless-pairless a b (c ∷ cs) e i = rw e i
+unless_pairless a b (c ∷ cs) e i = rw e i
 
-right-pairless : (n : List ℕ) → pairless n ≡ true → pairless (rightTrim n) ≡ true
-unfolding rightTrim
-right-pairless [] h = refl
-right-pairless (a ∷ []) h = one (white a)
+right_pairless : (n : List ℕ) → pairless n ≡ true → pairless (right_trim n) ≡ true
+unfolding right_trim
+right_pairless [] h = refl
+right_pairless (a ∷ []) h = one (white a)
   where
     one : (t : Bool) → pairless (pick t [] (a ∷ [])) ≡ true
     one true = refl
     one false = refl
-right-pairless (a ∷ b ∷ bs) h = unless-pairless a b (rightTrim bs) (no-pair a b bs h) (right-pairless (b ∷ bs) (no-later a b bs h))
+right_pairless (a ∷ b ∷ bs) h = unless_pairless a b (right_trim bs) (no_pair a b bs h) (right_pairless (b ∷ bs) (no_later a b bs h))
 
-pairless-rest : (a : ℕ) (n : List ℕ) → pairless (a ∷ n) ≡ true → pairless n ≡ true
-pairless-rest a [] h = refl
-pairless-rest a (b ∷ bs) h = no-later a b bs h
+pairless_rest : (a : ℕ) (n : List ℕ) → pairless (a ∷ n) ≡ true → pairless n ≡ true
+pairless_rest a [] h = refl
+pairless_rest a (b ∷ bs) h = no_later a b bs h
 
-pub trim-pairless : (at : ℕ) (n : List ℕ) → pairless n ≡ true → pairless (trimFrom at n).bytes ≡ true
-unfolding trimFrom
-trim-pairless at [] h = refl
-trim-pairless at (b ∷ bs) h = by (white b) (trim-pairless (suc at) bs (pairless-rest b bs h))
+pub trim_pairless : (at : ℕ) (n : List ℕ) → pairless n ≡ true → pairless (trim_from at n).bytes ≡ true
+unfolding trim_from
+trim_pairless at [] h = refl
+trim_pairless at (b ∷ bs) h = by (white b) (trim_pairless (suc at) bs (pairless_rest b bs h))
   where
-    by : (t : Bool) → pairless (trimFrom (suc at) bs).bytes ≡ true
-        → pairless (pick t (trimFrom (suc at) bs) (record { start = at; bytes = rightTrim (b ∷ bs) })).bytes ≡ true
+    by : (t : Bool) → pairless (trim_from (suc at) bs).bytes ≡ true
+        → pairless (pick t (trim_from (suc at) bs) (record { start = at; bytes = right_trim (b ∷ bs) })).bytes ≡ true
     by true i = i
-    by false i = right-pairless (b ∷ bs) h
+    by false i = right_pairless (b ∷ bs) h
 
 -- ---- what holds of every byte
 
 module _ (f : ℕ → Bool) where
-  pub front-every : (n : List ℕ) → every f n ≡ true → every f (frontBytes n) ≡ true
-  unfolding frontBytes
-  front-every [] h = refl
-  front-every (a ∷ []) h = h
-  front-every (a ∷ b ∷ bs) h = by (startsComment a b) (front-every (b ∷ bs) (and_right (f a) (every f (b ∷ bs)) h))
+  pub front_every : (n : List ℕ) → every f n ≡ true → every f (front_bytes n) ≡ true
+  unfolding front_bytes
+  front_every [] h = refl
+  front_every (a ∷ []) h = h
+  front_every (a ∷ b ∷ bs) h = by (starts_comment a b) (front_every (b ∷ bs) (and_right (f a) (every f (b ∷ bs)) h))
     where
-      by : (t : Bool) → every f (frontBytes (b ∷ bs)) ≡ true → every f (pick t [] (a ∷ frontBytes (b ∷ bs))) ≡ true
+      by : (t : Bool) → every f (front_bytes (b ∷ bs)) ≡ true → every f (pick t [] (a ∷ front_bytes (b ∷ bs))) ≡ true
       by true i = refl
-      by false i = and_both (f a) (every f (frontBytes (b ∷ bs))) (and_left (f a) (every f (b ∷ bs)) h) i
+      by false i = and_both (f a) (every f (front_bytes (b ∷ bs))) (and_left (f a) (every f (b ∷ bs)) h) i
 
-  pub behind-every : (at : ℕ) (n : List ℕ) → every f n ≡ true → every f (behindFrom at n).bytes ≡ true
-  unfolding behindFrom
-  behind-every at [] h = refl
-  behind-every at (a ∷ []) h = refl
-  behind-every at (a ∷ b ∷ bs) h = by (startsComment a b) (behind-every (suc at) (b ∷ bs) (and_right (f a) (every f (b ∷ bs)) h))
+  pub behind_every : (at : ℕ) (n : List ℕ) → every f n ≡ true → every f (behind_from at n).bytes ≡ true
+  unfolding behind_from
+  behind_every at [] h = refl
+  behind_every at (a ∷ []) h = refl
+  behind_every at (a ∷ b ∷ bs) h = by (starts_comment a b) (behind_every (suc at) (b ∷ bs) (and_right (f a) (every f (b ∷ bs)) h))
     where
-      by : (t : Bool) → every f (behindFrom (suc at) (b ∷ bs)).bytes ≡ true
-          → every f (pick t (record { start = suc (suc at); bytes = bs }) (behindFrom (suc at) (b ∷ bs))).bytes ≡ true
+      by : (t : Bool) → every f (behind_from (suc at) (b ∷ bs)).bytes ≡ true
+          → every f (pick t (record { start = suc (suc at); bytes = bs }) (behind_from (suc at) (b ∷ bs))).bytes ≡ true
       by true i = and_right (f b) (every f bs) (and_right (f a) (every f (b ∷ bs)) h)
       by false i = i

@@ -17,18 +17,18 @@ use Rattle.rules.specs.GrammarLines.{In}
 use Rattle.rules.specs.ColumnsAtFault.{pointing}
 use Rattle.rules.specs.PointedAt.{AtColumn}
 use Rattle.rules.proofs.LeftmostRules.{NotLeft, LeftToRight, Refusing, refusing, leftmost}
-use Rattle.rules.proofs.TextPlaces.{part-there}
-use Rattle.rules.proofs.ColumnsRise.{Inside, inside-from, inside-up-to}
-use Rattle.rules.proofs.SaidOfLists.{true-or-not, never_both}
+use Rattle.rules.proofs.TextPlaces.{part_there}
+use Rattle.rules.proofs.ColumnsRise.{Inside, inside_from, inside_up_to}
+use Rattle.rules.proofs.SaidOfLists.{true_or_not, never_both}
 use Rattle.rules.proofs.TestsAsFacts.{is_member}
 
 abbrev pub points : Rule → Bool
 points r = member r.number pointing
 
-pub each-one : {A : Type 0} (P : A → Type 0) (xs : List A) (x : A) → Each P xs → In x xs → P x
-each-one P [] x e i = absurd i
-each-one P (y ∷ ys) x e (inl h) = subst P (sym h) e.0
-each-one P (y ∷ ys) x e (inr i) = each-one P ys x e.1 i
+pub each_one : {A : Type 0} (P : A → Type 0) (xs : List A) (x : A) → Each P xs → In x xs → P x
+each_one P [] x e i = absurd i
+each_one P (y ∷ ys) x e (inl h) = subst P (sym h) e.0
+each_one P (y ∷ ys) x e (inr i) = each_one P ys x e.1 i
 
 -- a broken rule of this number about this text
 pub record Found (rs : List Rule) (n : ℕ) (t : Text) : Type 0 where
@@ -57,36 +57,36 @@ module _ (Broken : ℕ → Text → Type 0) (line : Text) where
 
   module _ {A : Type 0} (f : A → Answer) (rs : List Rule) (a : A) (granted : Placing (f a)) (Whole : Type 0) (each : Each (Told Whole) rs)
       (whole : (q : Rule) → Refusing rs q → points q ≡ true → Whole) (left : Whole → LeftToRight rs) (found : (n : ℕ) (t : Text) → Broken n t → Found rs n t) where
-    at-column : (q : Rule) → broken rs ≡ some q → points q ≡ true → AtColumn Broken line q.number q.about.start
-    at-column q e p =
+    at_column : (q : Rule) → broken rs ≡ some q → points q ≡ true → AtColumn Broken line q.number q.about.start
+    at_column q e p =
         let k = refusing rs q e in
         let w = whole q k p in
-        let t = each-one (Told Whole) rs q each k.one in
+        let t = each_one (Told Whole) rs q each k.one in
         let i = t.inside w k.fails p in
         record {
           column = q.about;
           starts = refl;
           broken = t.breaks k.fails p;
-          from = inside-from _ _ _ i;
-          up_to = inside-up-to _ _ _ i;
-          there = part-there line.start line.bytes q.about i.part (q.about.start - line.start) (omega (arith, inside-from _ _ _ i));
+          from = inside_from _ _ _ i;
+          up_to = inside_up_to _ _ _ i;
+          there = part_there line.start line.bytes q.about i.part (q.about.start - line.start) (omega (arith, inside_from _ _ _ i));
           some = i.some;
           leftmost =
               λ other b.
               let x = found q.number other b in
-              subst (λ (u : Text). q.about.start ≤ u.start) x.about (each-one (NotLeft q) rs x.of (leftmost rs q (left w) e) x.one k.fails x.fails x.number);
+              subst (λ (u : Text). q.about.start ≤ u.start) x.about (each_one (NotLeft q) rs x.of (leftmost rs q (left w) e) x.one k.fails x.fails x.number);
         }
 
-    pub placing-checked : Placing (next f (checked rs a))
+    pub placing_checked : Placing (next f (checked rs a))
     unfolding checked
-    placing-checked = by (broken rs) refl
+    placing_checked = by (broken rs) refl
       where
         by : (o : Option Rule) → broken rs ≡ o → Placing (next f (unless o a))
         by none e = granted
         by (some q) e =
             record {
-              column = at-column q e;
-              first = λ p. (each-one (Told Whole) rs q each (refusing rs q e).one).first p;
+              column = at_column q e;
+              first = λ p. (each_one (Told Whole) rs q each (refusing rs q e).one).first p;
             }
 
 -- ---- what is known of a rule
@@ -95,28 +95,28 @@ module _ (Broken : ℕ → Text → Type 0) (line : Text) (Whole : Type 0) where
   abbrev Knows : Rule → Type 0
   Knows r = Told Broken line Whole r
 
-  pub of-line : (n : ℕ) (b : Bool) → member n pointing ≡ false → Knows (rule n line b)
-  of-line n b p =
+  pub of_line : (n : ℕ) (b : Bool) → member n pointing ≡ false → Knows (rule n line b)
+  of_line n b p =
       record { first = λ e. refl; inside = λ w f e. absurd (never_both (member n pointing) e p); breaks = λ f e. absurd (never_both (member n pointing) e p) }
 
   -- no rule points at a column
-  pub placing-plain : {A : Type 0} (f : A → Answer) (rs : List Rule) (a : A) → Placing Broken line (f a) → Each (λ (r : Rule). (points r ≡ false) × (r.about ≡ line)) rs
+  pub placing_plain : {A : Type 0} (f : A → Answer) (rs : List Rule) (a : A) → Placing Broken line (f a) → Each (λ (r : Rule). (points r ≡ false) × (r.about ≡ line)) rs
       → Placing Broken line (next f (checked rs a))
   unfolding checked
-  placing-plain f rs a g k = by (broken rs) refl
+  placing_plain f rs a g k = by (broken rs) refl
     where
       by : (o : Option Rule) → broken rs ≡ o → Placing Broken line (next f (unless o a))
       by none e = g
       by (some q) e =
-          let h = each-one (λ (r : Rule). (points r ≡ false) × (r.about ≡ line)) rs q k (refusing rs q e).one in
+          let h = each_one (λ (r : Rule). (points r ≡ false) × (r.about ≡ line)) rs q k (refusing rs q e).one in
           record { column = λ p. absurd (never_both (points q) p h.0); first = λ p. ap (λ (t : Text). t.start) h.1 }
 
-  pub of-column : (n : ℕ) (t : Text) (b : Bool) → member n pointing ≡ true → (Whole → b ≡ false → Inside line.start line.bytes t) → (b ≡ false → Broken n t) → Knows (rule n t b)
-  of-column n t b p i k = record { first = λ e. absurd (never_both (member n pointing) p e); inside = λ w f e. i w f; breaks = λ f e. k f }
+  pub of_column : (n : ℕ) (t : Text) (b : Bool) → member n pointing ≡ true → (Whole → b ≡ false → Inside line.start line.bytes t) → (b ≡ false → Broken n t) → Knows (rule n t b)
+  of_column n t b p i k = record { first = λ e. absurd (never_both (member n pointing) p e); inside = λ w f e. i w f; breaks = λ f e. k f }
 
 -- the rules in front of those that point at a column hold
-pub pointing-from : (q : Rule) → points q ≡ true → 8 ≤ q.number
-pointing-from q p = by ((is_member q.number pointing).0 p)
+pub pointing_from : (q : Rule) → points q ≡ true → 8 ≤ q.number
+pointing_from q p = by ((is_member q.number pointing).0 p)
   where
     by : In q.number pointing → 8 ≤ q.number
     by (inl e) = omega (arith, e)
@@ -125,9 +125,9 @@ pointing-from q p = by ((is_member q.number pointing).0 p)
     by (inr (inr (inr (inl e)))) = omega (arith, e)
     by (inr (inr (inr (inr (inl e))))) = omega (arith, e)
 
-pub has-held : (q : Rule) → points q ≡ true → (n : ℕ) (holds : Bool) → leb n 7 ≡ true → (holds ≡ false → q.number ≤ n) → holds ≡ true
-has-held q p n holds seven k = by (true-or-not holds)
+pub has_held : (q : Rule) → points q ≡ true → (n : ℕ) (holds : Bool) → leb n 7 ≡ true → (holds ≡ false → q.number ≤ n) → holds ≡ true
+has_held q p n holds seven k = by (true_or_not holds)
   where
     by : (holds ≡ true) ⊎ (holds ≡ false) → holds ≡ true
     by (inl e) = e
-    by (inr e) = absurd (omega (arith, pointing-from q p, leb-true n 7 seven, k e))
+    by (inr e) = absurd (omega (arith, pointing_from q p, leb-true n 7 seven, k e))

@@ -12,14 +12,14 @@ use Rattle.rules.specs.Lists.{pick, Each}
 use Rattle.rules.specs.Bytes.{newline}
 use Rattle.rules.specs.Rules.{Verdict, refused, granted}
 use Rattle.rules.specs.Sentences.{Heading, Sentence}
-use Rattle.rules.specs.Phases.{Phase, inSentence, begun, step}
+use Rattle.rules.specs.Phases.{Phase, in_sentence, begun, step}
 use Rattle.rules.specs.Reading.{Handed, read}
 use Rattle.rules.specs.Places.{StartsLine}
-use Rattle.rules.specs.SentenceFrom.{startsLine, endedLine, headingAlone, behindHeading, firstHanded, headedBy, begunBy, sentenceFrom}
+use Rattle.rules.specs.SentenceFrom.{starts_line, ended_line, heading_alone, behind_heading, first_handed, headed_by, begun_by, sentence_from}
 use Rattle.rules.specs.Refusals.{OneLine}
 use Rattle.rules.proofs.ByLines.{LineAnswered, lines_from}
-use Rattle.rules.proofs.LineStarts.{starts-tested, tested-starts, starts-same, first-line, line_first}
-use Rattle.rules.proofs.HeadingsAlone.{Alone, alone-heading}
+use Rattle.rules.proofs.LineStarts.{starts_tested, tested_starts, starts_same, first_line_lem, line_first}
+use Rattle.rules.proofs.HeadingsAlone.{Alone, alone_heading}
 use Rattle.rules.proofs.WithoutTables.{alone}
 
 -- ---- what is read from a place on
@@ -32,17 +32,17 @@ past front head = omega (arith, length-append front (head ++ (newline ∷ [])), 
 
 module _ (file : List ℕ) where
   -- a heading stands at the end of the front
-  pub read-from : (front head x : List ℕ) (h : Heading) → file ≡ front ++ (head ++ (newline ∷ x)) → startsLine file (length front) ≡ true → OneLine head
-      → headingAlone (record { start = length front; bytes = head }) ≡ granted h
-      → sentenceFrom file (length front) ≡ firstHanded (read (behindHeading (length front) h (suc (length front + length head))) x).handed
-  unfolding sentenceFrom
-  read-from front head x h parts starts o e =
+  pub read_from : (front head x : List ℕ) (h : Heading) → file ≡ front ++ (head ++ (newline ∷ x)) → starts_line file (length front) ≡ true → OneLine head
+      → heading_alone (record { start = length front; bytes = head }) ≡ granted h
+      → sentence_from file (length front) ≡ first_handed (read (behind_heading (length front) h (suc (length front + length head))) x).handed
+  unfolding sentence_from
+  read_from front head x h parts starts o e =
       let at = length front in
       let next = suc (at + length head) in
-      ap (λ (t : Bool). pick t (begunBy file at (endedLine (drop at file))) none) starts
-      ∙ ap (begunBy file at) (ap endedLine (ap (drop at) parts ∙ drop_at front (head ++ (newline ∷ x)) at refl) ∙ first-line head x o)
-      ∙ ap (headedBy file at next) e
-      ∙ ap (λ (bs : List ℕ). firstHanded (read (behindHeading at h next) bs).handed) (ap (drop next) (parts ∙ around front head x) ∙ drop_at (front ++ (head ++ (newline ∷ []))) x next (past front head))
+      ap (λ (t : Bool). pick t (begun_by file at (ended_line (drop at file))) none) starts
+      ∙ ap (begun_by file at) (ap ended_line (ap (drop at) parts ∙ drop_at front (head ++ (newline ∷ x)) at refl) ∙ first_line_lem head x o)
+      ∙ ap (headed_by file at next) e
+      ∙ ap (λ (bs : List ℕ). first_handed (read (behind_heading at h next) bs).handed) (ap (drop next) (parts ∙ around front head x) ∙ drop_at (front ++ (head ++ (newline ∷ []))) x next (past front head))
 
 -- a heading stands at the place, and the first sentence that is handed out behind it is the one
 pub record Begun (file : List ℕ) (at : ℕ) (s : Sentence) : Type 0 where
@@ -54,11 +54,11 @@ pub record Begun (file : List ℕ) (at : ℕ) (s : Sentence) : Type 0 where
   pub starts : StartsLine file at
   pub one_line : OneLine head
   pub heading : Heading
-  pub granted : headingAlone (record { start = at; bytes = head }) ≡ granted heading
+  pub granted : heading_alone (record { start = at; bytes = head }) ≡ granted heading
   pub alone : Alone (record { start = at; bytes = head }) heading
   pub handed : Handed
   pub others : List Handed
-  pub gives : (read (behindHeading at heading (suc (at + length head))) rest).handed ≡ handed ∷ others
+  pub gives : (read (behind_heading at heading (suc (at + length head))) rest).handed ≡ handed ∷ others
   pub its : handed.sentence ≡ s
 
 record First (hs : List Handed) (s : Sentence) : Type 0 where
@@ -67,15 +67,15 @@ record First (hs : List Handed) (s : Sentence) : Type 0 where
   pub gives : hs ≡ handed ∷ others
   pub its : handed.sentence ≡ s
 
-first_of : (hs : List Handed) (s : Sentence) → firstHanded hs ≡ some s → First hs s
+first_of : (hs : List Handed) (s : Sentence) → first_handed hs ≡ some s → First hs s
 first_of [] s e = absurd (let z : ◌≡◌ {A = ℕ} 0 1 = cc in omega arith)
 first_of (h ∷ hs) s e = record { handed = h; others = hs; gives = refl; its = cc }
 
 module _ (file : List ℕ) (at : ℕ) (s : Sentence) where
-  begun-headed : (l : List ℕ) → endedLine (drop at file) ≡ some l → startsLine file at ≡ true → (v : Verdict Heading) → headingAlone (record { start = at; bytes = l }) ≡ v
-      → headedBy file at (suc (at + length l)) v ≡ some s → Begun file at s
-  begun-headed l q starts (refused r) g e = absurd (let z : ◌≡◌ {A = ℕ} 0 1 = cc in omega arith)
-  begun-headed l q starts (granted h) g e =
+  begun_headed : (l : List ℕ) → ended_line (drop at file) ≡ some l → starts_line file at ≡ true → (v : Verdict Heading) → heading_alone (record { start = at; bytes = l }) ≡ v
+      → headed_by file at (suc (at + length l)) v ≡ some s → Begun file at s
+  begun_headed l q starts (refused r) g e = absurd (let z : ◌≡◌ {A = ℕ} 0 1 = cc in omega arith)
+  begun_headed l q starts (granted h) g e =
       let f = line_first (drop at file) l q in
       let next = suc (at + length l) in
       let inside : at ≤ length file = omega (arith, length-drop at file, ap length f.parts, length-append l (newline ∷ f.rest)) in
@@ -83,47 +83,47 @@ module _ (file : List ℕ) (at : ℕ) (s : Sentence) where
       let parts : file ≡ take at file ++ (l ++ (newline ∷ f.rest)) = sym (take-append-drop at file) ∙ ap (λ (x : List ℕ). take at file ++ x) f.parts in
       let left : drop next file ≡ f.rest =
       ap (drop next) (parts ∙ around (take at file) l f.rest) ∙ drop_at (take at file ++ (l ++ (newline ∷ []))) f.rest next (past (take at file) l ∙ ap (λ (n : ℕ). suc (n + length l)) place) in
-      let o = first_of (read (behindHeading at h next) f.rest).handed s (sym (ap (λ (bs : List ℕ). firstHanded (read (behindHeading at h next) bs).handed) left) ∙ e) in
+      let o = first_of (read (behind_heading at h next) f.rest).handed s (sym (ap (λ (bs : List ℕ). first_handed (read (behind_heading at h next) bs).handed) left) ∙ e) in
       record {
         front = take at file;
         head = l;
         rest = f.rest;
         parts = parts;
         place = place;
-        starts = tested-starts file at starts;
+        starts = tested_starts file at starts;
         one_line = f.one_line;
         heading = h;
         granted = g;
-        alone = alone-heading (record { start = at; bytes = l }) h g;
+        alone = alone_heading (record { start = at; bytes = l }) h g;
         handed = o.handed;
         others = o.others;
         gives = o.gives;
         its = o.its;
       }
 
-  pub begun-at : sentenceFrom file at ≡ some s → Begun file at s
-  unfolding sentenceFrom
-  begun-at e = by (startsLine file at) refl (endedLine (drop at file)) refl e
+  pub begun_at : sentence_from file at ≡ some s → Begun file at s
+  unfolding sentence_from
+  begun_at e = by (starts_line file at) refl (ended_line (drop at file)) refl e
     where
-      by : (t : Bool) → startsLine file at ≡ t → (o : Option (List ℕ)) → endedLine (drop at file) ≡ o → pick t (begunBy file at o) none ≡ some s → Begun file at s
+      by : (t : Bool) → starts_line file at ≡ t → (o : Option (List ℕ)) → ended_line (drop at file) ≡ o → pick t (begun_by file at o) none ≡ some s → Begun file at s
       by false t o q e = absurd (let z : ◌≡◌ {A = ℕ} 0 1 = cc in omega arith)
       by true t none q e = absurd (let z : ◌≡◌ {A = ℕ} 0 1 = cc in omega arith)
-      by true t (some l) q e = begun-headed l q t (headingAlone (record { start = at; bytes = l })) refl e
+      by true t (some l) q e = begun_headed l q t (heading_alone (record { start = at; bytes = l })) refl e
 
 module _ (f : List ℕ) (at : ℕ) (s : Sentence) (b : Begun f at s) where
   -- a file that goes on like this one up to behind the heading
-  pub from_bytes : (file x : List ℕ) → file ≡ b.front ++ (b.head ++ (newline ∷ x)) → sentenceFrom file at ≡ firstHanded (read (behindHeading at b.heading (suc (at + length b.head))) x).handed
+  pub from_bytes : (file x : List ℕ) → file ≡ b.front ++ (b.head ++ (newline ∷ x)) → sentence_from file at ≡ first_handed (read (behind_heading at b.heading (suc (at + length b.head))) x).handed
   from_bytes file x parts =
-      let starts : startsLine file (length b.front) ≡ true =
-      subst (λ (l : List ℕ). startsLine l (length b.front) ≡ true) (sym parts)
-      (starts-same b.front (b.head ++ (newline ∷ b.rest)) (b.head ++ (newline ∷ x))
-      (subst (λ (l : List ℕ). startsLine l (length b.front) ≡ true) b.parts (starts-tested f (length b.front) (subst (StartsLine f) (sym b.place) b.starts)))) in
-      let heads = subst (λ (n : ℕ). headingAlone (record { start = n; bytes = b.head }) ≡ granted b.heading) (sym b.place) b.granted in
-      subst (λ (n : ℕ). sentenceFrom file n ≡ firstHanded (read (behindHeading n b.heading (suc (n + length b.head))) x).handed) b.place
-      (read-from file b.front b.head x b.heading parts starts b.one_line heads)
+      let starts : starts_line file (length b.front) ≡ true =
+      subst (λ (l : List ℕ). starts_line l (length b.front) ≡ true) (sym parts)
+      (starts_same b.front (b.head ++ (newline ∷ b.rest)) (b.head ++ (newline ∷ x))
+      (subst (λ (l : List ℕ). starts_line l (length b.front) ≡ true) b.parts (starts_tested f (length b.front) (subst (StartsLine f) (sym b.place) b.starts)))) in
+      let heads = subst (λ (n : ℕ). heading_alone (record { start = n; bytes = b.head }) ≡ granted b.heading) (sym b.place) b.granted in
+      subst (λ (n : ℕ). sentence_from file n ≡ first_handed (read (behind_heading n b.heading (suc (n + length b.head))) x).handed) b.place
+      (read_from file b.front b.head x b.heading parts starts b.one_line heads)
 
-  pub from-begun : sentenceFrom f at ≡ some s
-  from-begun = from_bytes f b.rest b.parts ∙ ap firstHanded b.gives ∙ ap some b.its
+  pub from_begun : sentence_from f at ≡ some s
+  from_begun = from_bytes f b.rest b.parts ∙ ap first_handed b.gives ∙ ap some b.its
 
 -- a sentence handed out begins at its place, and ends there too
 pub record HandedAt (file : List ℕ) (h : Handed) : Type 0 where
@@ -133,12 +133,12 @@ pub record HandedAt (file : List ℕ) (h : Handed) : Type 0 where
 module _ (file : List ℕ) (P : List ℕ → Phase → Type 0) (H : Handed → Type 0)
     (one : (done l rest : List ℕ) (phase : Phase) (used : List ℕ) → file ≡ done ++ (l ++ (newline ∷ rest)) → OneLine l → P done phase
     → LineAnswered P H done l (step phase used (record { start = length done; bytes = l }))) where
-  pub first-keeps : (at : ℕ) (s : Sentence) (b : Begun file at s) → P (b.front ++ (b.head ++ (newline ∷ []))) (inSentence alone (begun at b.heading))
+  pub first_keeps : (at : ℕ) (s : Sentence) (b : Begun file at s) → P (b.front ++ (b.head ++ (newline ∷ []))) (in_sentence alone (begun at b.heading))
       → H (record { end = b.handed.end; sentence = s })
-  first-keeps at s b p =
+  first_keeps at s b p =
       let done = b.front ++ (b.head ++ (newline ∷ [])) in
       let next : length done ≡ suc (at + length b.head) = past b.front b.head ∙ ap (λ (n : ℕ). suc (n + length b.head)) b.place in
-      let all = lines_from file P H one done b.rest (inSentence alone (begun at b.heading)) (b.parts ∙ around b.front b.head b.rest) p in
+      let all = lines_from file P H one done b.rest (in_sentence alone (begun at b.heading)) (b.parts ∙ around b.front b.head b.rest) p in
       let each : Each H (b.handed ∷ b.others) =
-      subst (Each H) b.gives (subst (λ (n : ℕ). Each H (read (behindHeading at b.heading n) b.rest).handed) next all) in
+      subst (Each H) b.gives (subst (λ (n : ℕ). Each H (read (behind_heading at b.heading n) b.rest).handed) next all) in
       subst (λ (t : Sentence). H (record { end = b.handed.end; sentence = t })) b.its each.0

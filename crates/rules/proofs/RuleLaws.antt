@@ -34,27 +34,27 @@ all_hold (r ∷ rs) e = by r.holds e (all_hold rs)
     by true e more = more e
     by false e more = absurd (let z : ◌≡◌ {A = ℕ} 0 1 = cc in omega arith)
 
-pub none-broken : (rs : List Rule) → broken rs ≡ none → every holds_of rs ≡ true
+pub none_broken : (rs : List Rule) → broken rs ≡ none → every holds_of rs ≡ true
 unfolding broken
-none-broken [] e = refl
-none-broken (r ∷ rs) e = by r.holds e (none-broken rs)
+none_broken [] e = refl
+none_broken (r ∷ rs) e = by r.holds e (none_broken rs)
   where
     by : (t : Bool) → pick t (broken rs) (some (sooner r (broken rs))) ≡ none → (broken rs ≡ none → every holds_of rs ≡ true) → (t && every holds_of rs) ≡ true
     by true e more = more e
     by false e more = absurd (let z : ◌≡◌ {A = ℕ} 0 1 = cc in omega arith)
 
 -- a line that is granted has kept every rule, and is read as what it would be
-pub granted-holds : {A : Type 0} (rs : List Rule) (a b : A) → checked rs a ≡ granted b → (every holds_of rs ≡ true) × (a ≡ b)
+pub granted_holds : {A : Type 0} (rs : List Rule) (a b : A) → checked rs a ≡ granted b → (every holds_of rs ≡ true) × (a ≡ b)
 unfolding checked
-granted-holds rs a b e = by (broken rs) refl e
+granted_holds rs a b e = by (broken rs) refl e
   where
     by : (o : Option Rule) → broken rs ≡ o → unless o a ≡ granted b → (every holds_of rs ≡ true) × (a ≡ b)
-    by none q e = (none-broken rs q, (cc))
+    by none q e = (none_broken rs q, (cc))
     by (some r) q e = absurd (let z : ◌≡◌ {A = ℕ} 0 1 = cc in omega arith)
 
-pub holds-granted : {A : Type 0} (rs : List Rule) (a : A) → every holds_of rs ≡ true → checked rs a ≡ granted a
+pub holds_granted : {A : Type 0} (rs : List Rule) (a : A) → every holds_of rs ≡ true → checked rs a ≡ granted a
 unfolding checked
-holds-granted rs a e = rw (all_hold rs e)
+holds_granted rs a e = rw (all_hold rs e)
 
 -- ---- rules put together
 
@@ -62,9 +62,9 @@ abbrev pub or_else : Option Rule → Option Rule → Option Rule
 or_else none o = o
 or_else (some r) o = some (sooner r o)
 
-sooner-sooner : (r q : Rule) (o : Option Rule) → sooner r (some (sooner q o)) ≡ sooner (sooner r (some q)) o
-sooner-sooner r q none = refl
-sooner-sooner r q (some p) = by (leb r.number q.number) refl (leb q.number p.number) refl
+sooner_sooner : (r q : Rule) (o : Option Rule) → sooner r (some (sooner q o)) ≡ sooner (sooner r (some q)) o
+sooner_sooner r q none = refl
+sooner_sooner r q (some p) = by (leb r.number q.number) refl (leb q.number p.number) refl
   where
     by : (t : Bool) → leb r.number q.number ≡ t → (u : Bool) → leb q.number p.number ≡ u
         → sooner r (some (pick u q p)) ≡ sooner (pick t r q) (some p)
@@ -77,19 +77,19 @@ sooner-sooner r q (some p) = by (leb r.number q.number) refl (leb q.number p.num
         let h : p.number < r.number = omega (arith, leb-false r.number q.number e, leb-false q.number p.number f) in
         rw (f, lt-leb r.number p.number h)
 
-orElse-assoc : (r : Rule) (o p : Option Rule) → some (sooner r (or_else o p)) ≡ or_else (some (sooner r o)) p
-orElse-assoc r none p = refl
-orElse-assoc r (some q) p = ap some (sooner-sooner r q p)
+or_else_assoc : (r : Rule) (o p : Option Rule) → some (sooner r (or_else o p)) ≡ or_else (some (sooner r o)) p
+or_else_assoc r none p = refl
+or_else_assoc r (some q) p = ap some (sooner_sooner r q p)
 
-pub broken-append : (rs qs : List Rule) → broken (rs ++ qs) ≡ or_else (broken rs) (broken qs)
+pub broken_append : (rs qs : List Rule) → broken (rs ++ qs) ≡ or_else (broken rs) (broken qs)
 unfolding broken
-broken-append [] qs = refl
-broken-append (r ∷ rs) qs = by r.holds (broken-append rs qs)
+broken_append [] qs = refl
+broken_append (r ∷ rs) qs = by r.holds (broken_append rs qs)
   where
     by : (t : Bool) → broken (rs ++ qs) ≡ or_else (broken rs) (broken qs)
         → pick t (broken (rs ++ qs)) (some (sooner r (broken (rs ++ qs)))) ≡ or_else (pick t (broken rs) (some (sooner r (broken rs)))) (broken qs)
     by true e = e
-    by false e = ap (λ (o : Option Rule). some (sooner r o)) e ∙ orElse-assoc r (broken rs) (broken qs)
+    by false e = ap (λ (o : Option Rule). some (sooner r o)) e ∙ or_else_assoc r (broken rs) (broken qs)
 
 -- ---- the numbers alone
 
@@ -103,11 +103,11 @@ reaches n (r ∷ rs) h p e =
   where
     either : (o : Option Rule) → broken rs ≡ o → n ≤ r.number → ((p : Rule) → broken rs ≡ some p → n ≤ p.number) → n ≤ (sooner r o).number
     either none q k more = k
-    either (some x) q k more = pick-either (leb r.number x.number) k (more x q)
+    either (some x) q k more = pick_either (leb r.number x.number) k (more x q)
       where
-        pick-either : (t : Bool) → n ≤ r.number → n ≤ x.number → n ≤ (pick t r x).number
-        pick-either true a b = a
-        pick-either false a b = b
+        pick_either : (t : Bool) → n ≤ r.number → n ≤ x.number → n ≤ (pick t r x).number
+        pick_either true a b = a
+        pick_either false a b = b
 
     by : (t : Bool) → pick t (broken rs) (some (sooner r (broken rs))) ≡ some p → n ≤ r.number → ((p : Rule) → broken rs ≡ some p → n ≤ p.number) → n ≤ p.number
     by true e k more = more p e
@@ -138,15 +138,15 @@ lesser (suc m) (suc n) = pick (leb (suc m) (suc n)) (suc m) (suc n)
 abbrev pub numbered : List Rule → Bool
 numbered rs = every (λ (q : Rule). leb 1 q.number) rs
 
-pub lesser-number : (o p : Option Rule) → ((r : Rule) → o ≡ some r → 1 ≤ r.number) → ((r : Rule) → p ≡ some r → 1 ≤ r.number)
+pub lesser_number : (o p : Option Rule) → ((r : Rule) → o ≡ some r → 1 ≤ r.number) → ((r : Rule) → p ≡ some r → 1 ≤ r.number)
     → number_of (or_else o p) ≡ lesser (number_of o) (number_of p)
-lesser-number none p f g = refl
-lesser-number (some r) none f g = alone r.number (f r refl)
+lesser_number none p f g = refl
+lesser_number (some r) none f g = alone r.number (f r refl)
   where
     alone : (m : ℕ) → 1 ≤ m → m ≡ lesser m 0
     alone zero h = refl
     alone (suc m) h = refl
-lesser-number (some r) (some q) f g = by r.number q.number (f r refl) (g q refl) refl refl
+lesser_number (some r) (some q) f g = by r.number q.number (f r refl) (g q refl) refl refl
   where
     by : (m n : ℕ) → 1 ≤ m → 1 ≤ n → r.number ≡ m → q.number ≡ n → (pick (leb r.number q.number) r q).number ≡ lesser m n
     by zero n h k a b = absurd (omega arith)
@@ -157,19 +157,19 @@ lesser-number (some r) (some q) f g = by r.number q.number (f r refl) (g q refl)
         which true = refl
         which false = refl
 
-pub smallest-append : (rs qs : List Rule) → numbered rs ≡ true → numbered qs ≡ true → smallest (rs ++ qs) ≡ lesser (smallest rs) (smallest qs)
-smallest-append rs qs h k =
-    ap number_of (broken-append rs qs) ∙ lesser-number (broken rs) (broken qs) (λ r e. reaches 1 rs h r e) (λ r e. reaches 1 qs k r e)
+pub smallest_append : (rs qs : List Rule) → numbered rs ≡ true → numbered qs ≡ true → smallest (rs ++ qs) ≡ lesser (smallest rs) (smallest qs)
+smallest_append rs qs h k =
+    ap number_of (broken_append rs qs) ∙ lesser_number (broken rs) (broken qs) (λ r e. reaches 1 rs h r e) (λ r e. reaches 1 qs k r e)
 
 -- what is made of a verdict, told by the smallest number
 abbrev pub told {ℓ} : {A : Type 0} {X : Type ℓ} → (ℕ → X) → (A → X) → Verdict A → X
 told f g (refused r) = f r.number
 told f g (granted a) = g a
 
-pub told-checked {ℓ} : {A : Type 0} {X : Type ℓ} (f : ℕ → X) (g : A → X) (rs : List Rule) (a : A) → numbered rs ≡ true
+pub told_checked {ℓ} : {A : Type 0} {X : Type ℓ} (f : ℕ → X) (g : A → X) (rs : List Rule) (a : A) → numbered rs ≡ true
     → told f g (checked rs a) ≡ pick (eqb (smallest rs) 0) (g a) (f (smallest rs))
 unfolding checked
-told-checked f g rs a h = by (broken rs) refl
+told_checked f g rs a h = by (broken rs) refl
   where
     by : (o : Option Rule) → broken rs ≡ o → told f g (unless o a) ≡ pick (eqb (number_of o) 0) (g a) (f (number_of o))
     by none q = refl
@@ -181,22 +181,22 @@ abbrev pub rising : List Rule → Bool
 rising [] = true
 rising (r ∷ rs) = every (λ (q : Rule). leb r.number q.number) rs && rising rs
 
-unfoldable pub inOrder : {A : Type 0} → List Rule → A → Verdict A
-inOrder [] a = granted a
-inOrder (r ∷ rs) a = pick r.holds (inOrder rs a) (refused r)
+unfoldable pub in_order : {A : Type 0} → List Rule → A → Verdict A
+in_order [] a = granted a
+in_order (r ∷ rs) a = pick r.holds (in_order rs a) (refused r)
 
-pub in_order : {A : Type 0} (rs : List Rule) (a : A) → rising rs ≡ true → checked rs a ≡ inOrder rs a
-unfolding checked broken inOrder
-in_order [] a e = refl
-in_order (r ∷ rs) a e =
-    by r.holds (in_order rs a (and_right (every (λ (q : Rule). leb r.number q.number) rs) (rising rs) e))
+pub in_order_lem : {A : Type 0} (rs : List Rule) (a : A) → rising rs ≡ true → checked rs a ≡ in_order rs a
+unfolding checked broken in_order
+in_order_lem [] a e = refl
+in_order_lem (r ∷ rs) a e =
+    by r.holds (in_order_lem rs a (and_right (every (λ (q : Rule). leb r.number q.number) rs) (rising rs) e))
     (and_left (every (λ (q : Rule). leb r.number q.number) rs) (rising rs) e)
   where
     first : (o : Option Rule) → broken rs ≡ o → every (λ (q : Rule). leb r.number q.number) rs ≡ true → sooner r o ≡ r
     first none q h = refl
     first (some p) q h = rw (le-leb r.number p.number (reaches r.number rs h p q))
 
-    by : (t : Bool) → checked rs a ≡ inOrder rs a → every (λ (q : Rule). leb r.number q.number) rs ≡ true
-        → unless (pick t (broken rs) (some (sooner r (broken rs)))) a ≡ pick t (inOrder rs a) (refused r)
+    by : (t : Bool) → checked rs a ≡ in_order rs a → every (λ (q : Rule). leb r.number q.number) rs ≡ true
+        → unless (pick t (broken rs) (some (sooner r (broken rs)))) a ≡ pick t (in_order rs a) (refused r)
     by true more h = more
     by false more h = ap (λ (q : Rule). refused q) (first (broken rs) refl h)

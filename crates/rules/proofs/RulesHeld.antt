@@ -5,7 +5,7 @@ use mathlib.Core.List.{List, [], ◌∷◌}
 use Rattle.rules.specs.Lists.{every}
 use Rattle.rules.specs.Rules.{Rule, granted, checked}
 use Rattle.rules.proofs.Conjunctions.{every_first, every_rest, and_both}
-use Rattle.rules.proofs.RuleLaws.{holds_of, granted-holds}
+use Rattle.rules.proofs.RuleLaws.{holds_of, granted_holds}
 
 abbrev pub Held : List Rule → Type 0
 Held [] = Unit {0}
@@ -20,5 +20,5 @@ hold [] h = refl
 hold (r ∷ rs) h = and_both r.holds (every holds_of rs) h.0 (hold rs h.1)
 
 -- each rule of a line that is granted holds
-pub granted-held : {A : Type 0} (rs : List Rule) (a b : A) → checked rs a ≡ granted b → Held rs
-granted-held rs a b e = held rs (granted-holds rs a b e).0
+pub granted_held : {A : Type 0} (rs : List Rule) (a b : A) → checked rs a ≡ granted b → Held rs
+granted_held rs a b e = held rs (granted_holds rs a b e).0

@@ -9,8 +9,8 @@ use mathlib.Core.List.{List, [], ◌∷◌, map}
 use lib.Dec.{leb}
 use Rattle.rules.specs.Lists.{pick, inserted, sorted, Each}
 use Rattle.rules.specs.Same.{Some}
-use Rattle.rules.proofs.EachElement.{each-then, each_both}
-use Rattle.rules.proofs.Sorting.{Distinct, Rising, all-sorted, rising-from-zero}
+use Rattle.rules.proofs.EachElement.{each_then, each_both}
+use Rattle.rules.proofs.Sorting.{Distinct, Rising, all_sorted, rising_from_zero}
 
 -- ---- one of a list
 
@@ -20,20 +20,20 @@ module _ {A : Type 0} where
   some_then P Q f (x ∷ xs) (inl p) = inl (f x p)
   some_then P Q f (x ∷ xs) (inr s) = inr (some_then P Q f xs s)
 
-  pub each-some : (P Q : A → Type 0) (xs : List A) → Each P xs → Some Q xs → Some (λ (x : A). P x × Q x) xs
-  each-some P Q [] a s = s
-  each-some P Q (x ∷ xs) a (inl q) = inl (a.0, q)
-  each-some P Q (x ∷ xs) a (inr s) = inr (each-some P Q xs a.1 s)
+  pub each_some : (P Q : A → Type 0) (xs : List A) → Each P xs → Some Q xs → Some (λ (x : A). P x × Q x) xs
+  each_some P Q [] a s = s
+  each_some P Q (x ∷ xs) a (inl q) = inl (a.0, q)
+  each_some P Q (x ∷ xs) a (inr s) = inr (each_some P Q xs a.1 s)
 
-  pub each-itself : (xs : List A) → Each (λ (x : A). Some (λ (y : A). x ≡ y) xs) xs
-  each-itself [] = tt
-  each-itself (x ∷ xs) = (inl refl, each-then _ _ (λ z s. inr s) xs (each-itself xs))
+  pub each_itself : (xs : List A) → Each (λ (x : A). Some (λ (y : A). x ≡ y) xs) xs
+  each_itself [] = tt
+  each_itself (x ∷ xs) = (inl refl, each_then _ _ (λ z s. inr s) xs (each_itself xs))
 
 module _ {A B : Type 0} (g : A → B) (P : B → Type 0) where
-  pub some-map : (xs : List A) → Some (λ (x : A). P (g x)) xs → Some P (map g xs)
-  some-map [] s = s
-  some-map (x ∷ xs) (inl p) = inl p
-  some-map (x ∷ xs) (inr s) = inr (some-map xs s)
+  pub some_map : (xs : List A) → Some (λ (x : A). P (g x)) xs → Some P (map g xs)
+  some_map [] s = s
+  some_map (x ∷ xs) (inl p) = inl p
+  some_map (x ∷ xs) (inr s) = inr (some_map xs s)
 
   pub some_mapped : (xs : List A) → Some P (map g xs) → Some (λ (x : A). P (g x)) xs
   some_mapped [] s = s
@@ -43,10 +43,10 @@ module _ {A B : Type 0} (g : A → B) (P : B → Type 0) where
 -- ---- sorted
 
 module _ {A : Type 0} (key : A → ℕ) (P : A → Type 0) where
-  some-inserted : (x : A) (ys : List A) → P x ⊎ Some P ys → Some P (inserted key x ys)
+  some_inserted : (x : A) (ys : List A) → P x ⊎ Some P ys → Some P (inserted key x ys)
   unfolding inserted
-  some-inserted x [] s = s
-  some-inserted x (y ∷ ys) s = by (leb (key x) (key y)) s (some-inserted x ys)
+  some_inserted x [] s = s
+  some_inserted x (y ∷ ys) s = by (leb (key x) (key y)) s (some_inserted x ys)
     where
       by : (t : Bool) → P x ⊎ Some P (y ∷ ys) → (P x ⊎ Some P ys → Some P (inserted key x ys)) → Some P (pick t (x ∷ y ∷ ys) (y ∷ inserted key x ys))
       by true s more = s
@@ -54,16 +54,16 @@ module _ {A : Type 0} (key : A → ℕ) (P : A → Type 0) where
       by false (inr (inl p)) more = inl p
       by false (inr (inr s)) more = inr (more (inr s))
 
-  pub some-sorted : (xs : List A) → Some P xs → Some P (sorted key xs)
+  pub some_sorted : (xs : List A) → Some P xs → Some P (sorted key xs)
   unfolding sorted
-  some-sorted [] s = s
-  some-sorted (x ∷ xs) (inl p) = some-inserted x (sorted key xs) (inl p)
-  some-sorted (x ∷ xs) (inr s) = some-inserted x (sorted key xs) (inr (some-sorted xs s))
+  some_sorted [] s = s
+  some_sorted (x ∷ xs) (inl p) = some_inserted x (sorted key xs) (inl p)
+  some_sorted (x ∷ xs) (inr s) = some_inserted x (sorted key xs) (inr (some_sorted xs s))
 
-  inserted-some : (x : A) (ys : List A) → Some P (inserted key x ys) → P x ⊎ Some P ys
+  inserted_some : (x : A) (ys : List A) → Some P (inserted key x ys) → P x ⊎ Some P ys
   unfolding inserted
-  inserted-some x [] s = s
-  inserted-some x (y ∷ ys) s = by (leb (key x) (key y)) s (inserted-some x ys)
+  inserted_some x [] s = s
+  inserted_some x (y ∷ ys) s = by (leb (key x) (key y)) s (inserted_some x ys)
     where
       further : P x ⊎ Some P ys → P x ⊎ Some P (y ∷ ys)
       further (inl p) = inl p
@@ -74,10 +74,10 @@ module _ {A : Type 0} (key : A → ℕ) (P : A → Type 0) where
       by false (inl p) more = inr (inl p)
       by false (inr s) more = further (more s)
 
-  pub sorted-some : (xs : List A) → Some P (sorted key xs) → Some P xs
+  pub sorted_some : (xs : List A) → Some P (sorted key xs) → Some P xs
   unfolding sorted
-  sorted-some [] s = s
-  sorted-some (x ∷ xs) s = by (inserted-some x (sorted key xs) s) (sorted-some xs)
+  sorted_some [] s = s
+  sorted_some (x ∷ xs) s = by (inserted_some x (sorted key xs) s) (sorted_some xs)
     where
       by : P x ⊎ Some P (sorted key xs) → (Some P (sorted key xs) → Some P xs) → Some P (x ∷ xs)
       by (inl p) more = inl p
@@ -95,43 +95,43 @@ module _ {A : Type 0} (key : A → ℕ) where
   above k x (y ∷ xs) r (inl e) = subst (λ (z : A). k ≤ key z) (sym e) r.0
   above k x (y ∷ xs) r (inr s) = let higher = above (suc (key y)) x xs r.1 s in omega (arith, r.0)
 
-  each-above : (k : ℕ) (xs : List A) → Rising key k xs → Each (λ (x : A). k ≤ key x) xs
-  each-above k xs r = each-then _ _ (λ x s. above k x xs r s) xs (each-itself xs)
+  each_above : (k : ℕ) (xs : List A) → Rising key k xs → Each (λ (x : A). k ≤ key x) xs
+  each_above k xs r = each_then _ _ (λ x s. above k x xs r s) xs (each_itself xs)
 
   -- what isn't the first is one of the others
   later : (x y : A) (ys : List A) → key y < key x → Some (λ (z : A). x ≡ z) (y ∷ ys) → Some (λ (z : A). x ≡ z) ys
   later x y ys h (inl e) = absurd (omega (arith, ap key e))
   later x y ys h (inr s) = s
 
-  all-later : (k : ℕ) (xs : List A) (y : A) (ys : List A) → key y ≡ k → Rising key (suc k) xs → Among xs (y ∷ ys) → Among xs ys
-  all-later k xs y ys e r a =
-      each-then _ _ (λ x p. later x y ys (omega (arith, p.0)) p.1) xs (each_both _ _ xs (each-above (suc k) xs r) a)
+  all_later : (k : ℕ) (xs : List A) (y : A) (ys : List A) → key y ≡ k → Rising key (suc k) xs → Among xs (y ∷ ys) → Among xs ys
+  all_later k xs y ys e r a =
+      each_then _ _ (λ x p. later x y ys (omega (arith, p.0)) p.1) xs (each_both _ _ xs (each_above (suc k) xs r) a)
 
   first_alike : (x y : A) (xs ys : List A) → Rising key (suc (key x)) xs → Rising key (suc (key y)) ys → Some (λ (z : A). x ≡ z) (y ∷ ys) → Some (λ (z : A). y ≡ z) (x ∷ xs) → x ≡ y
   first_alike x y xs ys r q (inl e) t = e
   first_alike x y xs ys r q (inr s) (inl e) = sym e
   first_alike x y xs ys r q (inr s) (inr t) = absurd (omega (arith, above (suc (key y)) x ys q s, above (suc (key x)) y xs r t))
 
-  pub rising-alike : (k : ℕ) (xs ys : List A) → Rising key k xs → Rising key k ys → Among xs ys → Among ys xs → xs ≡ ys
-  rising-alike k [] [] r q a b = refl
-  rising-alike k [] (y ∷ ys) r q a b = absurd b.0
-  rising-alike k (x ∷ xs) [] r q a b = absurd a.0
-  rising-alike k (x ∷ xs) (y ∷ ys) r q a b =
+  pub rising_alike : (k : ℕ) (xs ys : List A) → Rising key k xs → Rising key k ys → Among xs ys → Among ys xs → xs ≡ ys
+  rising_alike k [] [] r q a b = refl
+  rising_alike k [] (y ∷ ys) r q a b = absurd b.0
+  rising_alike k (x ∷ xs) [] r q a b = absurd a.0
+  rising_alike k (x ∷ xs) (y ∷ ys) r q a b =
       let e = first_alike x y xs ys r.1 q.1 a.0 b.0 in
       let n : key y ≡ key x = ap key (sym e) in
       let q' : Rising key (suc (key x)) ys = subst (λ (i : ℕ). Rising key (suc i) ys) n q.1 in
       ap₂ (λ (z : A) (zs : List A). z ∷ zs) e
-      (rising-alike (suc (key x)) xs ys r.1 q' (all-later (key x) xs y ys n r.1 a.1) (all-later (key x) ys x xs refl q' b.1))
+      (rising_alike (suc (key x)) xs ys r.1 q' (all_later (key x) xs y ys n r.1 a.1) (all_later (key x) ys x xs refl q' b.1))
 
-  among-sorted : (xs ys : List A) → Among xs ys → Among (sorted key xs) (sorted key ys)
-  among-sorted xs ys a =
-      all-sorted key (λ (x : A). Some (λ (y : A). x ≡ y) (sorted key ys)) xs
-      (each-then _ _ (λ x s. some-sorted key (λ (y : A). x ≡ y) ys s) xs a)
+  among_sorted : (xs ys : List A) → Among xs ys → Among (sorted key xs) (sorted key ys)
+  among_sorted xs ys a =
+      all_sorted key (λ (x : A). Some (λ (y : A). x ≡ y) (sorted key ys)) xs
+      (each_then _ _ (λ x s. some_sorted key (λ (y : A). x ≡ y) ys s) xs a)
 
-  pub sorted-alike : (xs ys : List A) → Distinct key xs → Distinct key ys → Among xs ys → Among ys xs → sorted key xs ≡ sorted key ys
-  sorted-alike xs ys d c a b =
-      rising-alike 0 (sorted key xs) (sorted key ys) (rising-from-zero key xs d) (rising-from-zero key ys c) (among-sorted xs ys a) (among-sorted ys xs b)
+  pub sorted_alike : (xs ys : List A) → Distinct key xs → Distinct key ys → Among xs ys → Among ys xs → sorted key xs ≡ sorted key ys
+  sorted_alike xs ys d c a b =
+      rising_alike 0 (sorted key xs) (sorted key ys) (rising_from_zero key xs d) (rising_from_zero key ys c) (among_sorted xs ys a) (among_sorted ys xs b)
 
-  pub alike-sorted : (xs ys : List A) → sorted key xs ≡ sorted key ys → Among xs ys
-  alike-sorted xs ys e =
-      each-then _ _ (λ x s. sorted-some key (λ (y : A). x ≡ y) ys (subst (λ (zs : List A). Some (λ (y : A). x ≡ y) zs) e (some-sorted key (λ (y : A). x ≡ y) xs s))) xs (each-itself xs)
+  pub alike_sorted : (xs ys : List A) → sorted key xs ≡ sorted key ys → Among xs ys
+  alike_sorted xs ys e =
+      each_then _ _ (λ x s. sorted_some key (λ (y : A). x ≡ y) ys (subst (λ (zs : List A). Some (λ (y : A). x ≡ y) zs) e (some_sorted key (λ (y : A). x ≡ y) xs s))) xs (each_itself xs)

@@ -4,37 +4,37 @@ use Prim.Native.Nat.{ℕ}
 use mathlib.Core.Path.{◌≡◌, ap}
 use mathlib.Core.Logic.{◌↔◌}
 use mathlib.Core.List.{List}
-use Rattle.rules.specs.Survey.{surveyOf}
-use Rattle.rules.specs.Meaning.{Meaning, meaningOf}
+use Rattle.rules.specs.Survey.{survey_of}
+use Rattle.rules.specs.Meaning.{Meaning, meaning_of}
 use Rattle.rules.specs.Same.{SameTables, SameSentences, SameMeaning}
-use Rattle.rules.proofs.NumbersDiffer.{numbers-differ}
+use Rattle.rules.proofs.NumbersDiffer.{numbers_differ}
 use Rattle.rules.proofs.TablesAgree.{tables_agree}
-use Rattle.rules.proofs.SentencesAgree.{sentences-agree}
+use Rattle.rules.proofs.SentencesAgree.{sentences_agree}
 
 module _ (f g : List ℕ) where
-  pub same_tables : ((meaningOf (surveyOf f)).tables ≡ (meaningOf (surveyOf g)).tables) ↔ SameTables f g
-  unfolding meaningOf
-  same_tables = tables_agree (surveyOf f).tables (surveyOf g).tables (numbers-differ f).tables (numbers-differ g).tables
+  pub same_tables : ((meaning_of (survey_of f)).tables ≡ (meaning_of (survey_of g)).tables) ↔ SameTables f g
+  unfolding meaning_of
+  same_tables = tables_agree (survey_of f).tables (survey_of g).tables (numbers_differ f).tables (numbers_differ g).tables
 
-  pub same-sentences : ((meaningOf (surveyOf f)).sentences ≡ (meaningOf (surveyOf g)).sentences) ↔ SameSentences f g
-  unfolding meaningOf
-  same-sentences =
-      let d = numbers-differ f in
-      let c = numbers-differ g in
-      sentences-agree (surveyOf f).handed (surveyOf g).handed d.phrases c.phrases d.sentences c.sentences
+  pub same_sentences : ((meaning_of (survey_of f)).sentences ≡ (meaning_of (survey_of g)).sentences) ↔ SameSentences f g
+  unfolding meaning_of
+  same_sentences =
+      let d = numbers_differ f in
+      let c = numbers_differ g in
+      sentences_agree (survey_of f).handed (survey_of g).handed d.phrases c.phrases d.sentences c.sentences
 
-  same-to : meaningOf (surveyOf f) ≡ meaningOf (surveyOf g) → SameMeaning f g
-  unfolding meaningOf
-  same-to e =
+  same_to : meaning_of (survey_of f) ≡ meaning_of (survey_of g) → SameMeaning f g
+  unfolding meaning_of
+  same_to e =
       record {
         format = ap (λ (m : Meaning). m.format) e;
         tables = same_tables.0 (ap (λ (m : Meaning). m.tables) e);
-        sentences = same-sentences.0 (ap (λ (m : Meaning). m.sentences) e);
+        sentences = same_sentences.0 (ap (λ (m : Meaning). m.sentences) e);
       }
 
-  same_from : SameMeaning f g → meaningOf (surveyOf f) ≡ meaningOf (surveyOf g)
-  unfolding meaningOf
-  same_from s = rw (s.format, same_tables.1 s.tables, same-sentences.1 s.sentences)
+  same_from : SameMeaning f g → meaning_of (survey_of f) ≡ meaning_of (survey_of g)
+  unfolding meaning_of
+  same_from s = rw (s.format, same_tables.1 s.tables, same_sentences.1 s.sentences)
 
-  pub same-meaning : (meaningOf (surveyOf f) ≡ meaningOf (surveyOf g)) ↔ SameMeaning f g
-  same-meaning = (same-to, same_from)
+  pub same_meaning : (meaning_of (survey_of f) ≡ meaning_of (survey_of g)) ↔ SameMeaning f g
+  same_meaning = (same_to, same_from)

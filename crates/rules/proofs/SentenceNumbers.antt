@@ -11,21 +11,21 @@ use lib.Seq.{get_or_at}
 use lib.Dec.{eqb}
 use borrow.Author.Tests.{eq-eqb, ne_eqb}
 use Rattle.rules.specs.Lists.{counting, joined, Each}
-use Rattle.rules.specs.Sentences.{Edge, Node, Sentence, edge_count, edgesOf, listed}
-use Rattle.rules.specs.SheetFields.{fieldPlace}
-use Rattle.rules.specs.Sheets.{leading, nodeNumbers, recordAt, sentenceSheet, EdgeRecord, edgeRecord, edgeList}
-use Rattle.rules.specs.Meaning.{nodeNumber}
-use Rattle.rules.specs.Layout.{NodeLaid, edgesIn, zeroRecord, SentenceLaid}
+use Rattle.rules.specs.Sentences.{Edge, Node, Sentence, edge_count, edges_of, listed}
+use Rattle.rules.specs.SheetFields.{field_place}
+use Rattle.rules.specs.Sheets.{leading, node_numbers, record_at, sentence_sheet, EdgeRecord, edge_record, edge_list}
+use Rattle.rules.specs.Meaning.{node_number}
+use Rattle.rules.specs.Layout.{NodeLaid, edges_in, zero_record, SentenceLaid}
 use Rattle.rules.proofs.Conjunctions.{or_left, or_right}
-use Rattle.rules.proofs.EachElement.{each-then, each_both, each_of}
-use Rattle.rules.proofs.Counting.{length-counting}
-use Rattle.rules.proofs.Elements.{map-append}
+use Rattle.rules.proofs.EachElement.{each_then, each_both, each_of}
+use Rattle.rules.proofs.Counting.{length_counting}
+use Rattle.rules.proofs.Elements.{map_append}
 use Rattle.rules.proofs.SaidOfLists.{never_both}
 use Rattle.rules.proofs.Sorting.{Distinct}
-use Rattle.rules.proofs.SentencesKept.{edges-append}
+use Rattle.rules.proofs.SentencesKept.{edges_append}
 use Rattle.rules.proofs.NodeNumbers.{InRoom}
-use Rattle.rules.proofs.FieldsOnSheet.{record-wide, FieldsStand, fields-stand, no_field}
-use Rattle.rules.proofs.Rooms.{behind-at, joined-around, length-joined}
+use Rattle.rules.proofs.FieldsOnSheet.{record_wide, FieldsStand, fields_stand, no_field}
+use Rattle.rules.proofs.Rooms.{behind_at, joined_around, length_joined}
 
 -- ---- the nodes' records
 
@@ -34,128 +34,128 @@ module _ (s : Sentence) where
   ns = s.words ++ s.phrases
 
   abbrev records : List ℕ
-  records = joined (map (recordAt ns) (counting 0 1000))
+  records = joined (map (record_at ns) (counting 0 1000))
 
-  sheet-size : length (sentenceSheet s) ≡ 11009
-  unfolding sentenceSheet
-  sheet-size =
+  sheet_size : length (sentence_sheet s) ≡ 11009
+  unfolding sentence_sheet
+  sheet_size =
       length-append (leading s) records
       ∙ ap (λ (m : ℕ). 9 + m)
-      (length-joined (recordAt ns) 11 (counting 0 1000) (each_of (λ (k : ℕ). length (recordAt ns k) ≡ 11) (record-wide ns) (counting 0 1000))
-      ∙ ap (λ (m : ℕ). 11 * m) (length-counting 0 1000))
+      (length_joined (record_at ns) 11 (counting 0 1000) (each_of (λ (k : ℕ). length (record_at ns k) ≡ 11) (record_wide ns) (counting 0 1000))
+      ∙ ap (λ (m : ℕ). 11 * m) (length_counting 0 1000))
 
-  node-laid : (n : Node) → FieldsStand (sentenceSheet s) n → NodeLaid (sentenceSheet s) (9 + 11 * n.number) n
-  node-laid n own =
+  node_laid : (n : Node) → FieldsStand (sentence_sheet s) n → NodeLaid (sentence_sheet s) (9 + 11 * n.number) n
+  node_laid n own =
       record {
-        word-start = at 0 (omega arith);
-        word-length = at 1 (omega arith);
-        tag-start = at 2 (omega arith);
-        tag-length = at 3 (omega arith);
-        morphology-start = at 4 (omega arith);
-        morphology-length = at 5 (omega arith);
-        edge-start = at 6 (omega arith);
-        edge-length = at 7 (omega arith);
+        word_start = at 0 (omega arith);
+        word_length = at 1 (omega arith);
+        tag_start = at 2 (omega arith);
+        tag_length = at 3 (omega arith);
+        morphology_start = at 4 (omega arith);
+        morphology_length = at 5 (omega arith);
+        edge_start = at 6 (omega arith);
+        edge_length = at 7 (omega arith);
         parent = at 8 (omega arith);
-        comment-start = at 9 (omega arith);
-        comment-length = at 10 (omega arith);
+        comment_start = at 9 (omega arith);
+        comment_length = at 10 (omega arith);
       }
     where
-      at : (j : ℕ) → j < 11 → get_or (sentenceSheet s) (9 + 11 * n.number + j) 0 ≡ get_or (nodeNumbers n) j 0
+      at : (j : ℕ) → j < 11 → get_or (sentence_sheet s) (9 + 11 * n.number + j) 0 ≡ get_or (node_numbers n) j 0
       at j h =
-          let place : 9 + 11 * n.number + j ≡ fieldPlace j n.number = omega arith in
-          ap (λ (m : ℕ). get_or (sentenceSheet s) m 0) place ∙ own j h
+          let place : 9 + 11 * n.number + j ≡ field_place j n.number = omega arith in
+          ap (λ (m : ℕ). get_or (sentence_sheet s) m 0) place ∙ own j h
 
 -- ---- secondary edges
 
-count-edges : (ns : List Node) → edge_count ns ≡ length (edgesIn ns)
-count-edges [] = refl
-count-edges (n ∷ ns) = omega (arith, length-append n.secondary (edgesIn ns), count-edges ns)
+count_edges : (ns : List Node) → edge_count ns ≡ length (edges_in ns)
+count_edges [] = refl
+count_edges (n ∷ ns) = omega (arith, length-append n.secondary (edges_in ns), count_edges ns)
 
-abbrev recordsOf : Node → List EdgeRecord
-recordsOf n = map (edgeRecord n.number) n.secondary
+abbrev records_of : Node → List EdgeRecord
+records_of n = map (edge_record n.number) n.secondary
 
-length-records : (ns : List Node) → length (joined (map recordsOf ns)) ≡ length (edgesIn ns)
-length-records [] = refl
-length-records (n ∷ ns) =
-    length-append (recordsOf n) (joined (map recordsOf ns)) ∙ ap₂ ◌+◌ (length-map n.secondary (edgeRecord n.number)) (length-records ns)
-    ∙ sym (length-append n.secondary (edgesIn ns))
+length_records : (ns : List Node) → length (joined (map records_of ns)) ≡ length (edges_in ns)
+length_records [] = refl
+length_records (n ∷ ns) =
+    length-append (records_of n) (joined (map records_of ns)) ∙ ap₂ ◌+◌ (length-map n.secondary (edge_record n.number)) (length_records ns)
+    ∙ sym (length-append n.secondary (edges_in ns))
 
 module _ (s : Sentence) where
   abbrev all : List EdgeRecord
-  all = joined (map recordsOf (s.words ++ s.phrases))
+  all = joined (map records_of (s.words ++ s.phrases))
 
   abbrev zeros : List EdgeRecord
-  zeros = replicate (512 - length all) zeroRecord
+  zeros = replicate (512 - length all) zero_record
 
-  list-size : length (edgesIn (s.words ++ s.phrases)) ≤ 512 → length (edgeList s) ≡ 512
-  unfolding edgeList
-  list-size h =
-      let e : length all ≡ length (edgesIn (s.words ++ s.phrases)) = length-records (s.words ++ s.phrases) in
-      length-append all zeros ∙ ap (λ (m : ℕ). length all + m) (length-replicate {A = EdgeRecord} (512 - length all) zeroRecord)
+  list_size : length (edges_in (s.words ++ s.phrases)) ≤ 512 → length (edge_list s) ≡ 512
+  unfolding edge_list
+  list_size h =
+      let e : length all ≡ length (edges_in (s.words ++ s.phrases)) = length_records (s.words ++ s.phrases) in
+      length-append all zeros ∙ ap (λ (m : ℕ). length all + m) (length-replicate {A = EdgeRecord} (512 - length all) zero_record)
       ∙ (let g : length all + (512 - length all) ≡ 512 = omega arith in g)
 
   -- the record of an edge, and those behind it
   edge_at : (front : List Node) (n : Node) (back : List Node) (before : List Edge) (e : Edge) (behind : List Edge)
       → s.words ++ s.phrases ≡ front ++ (n ∷ back) → n.secondary ≡ before ++ (e ∷ behind)
-      → get_or (edgeList s) (length (edgesIn front) + length before) zeroRecord ≡ edgeRecord n.number e
-  unfolding edgeList
+      → get_or (edge_list s) (length (edges_in front) + length before) zero_record ≡ edge_record n.number e
+  unfolding edge_list
   edge_at front n back before e behind p q =
       let m = n.number in
-      let xs = joined (map recordsOf front) in
-      let ys = map (edgeRecord m) before in
-      let rest = joined (map recordsOf back) ++ zeros in
-      let parts : all ++ zeros ≡ xs ++ (ys ++ (edgeRecord m e ∷ map (edgeRecord m) behind ++ rest)) =
+      let xs = joined (map records_of front) in
+      let ys = map (edge_record m) before in
+      let rest = joined (map records_of back) ++ zeros in
+      let parts : all ++ zeros ≡ xs ++ (ys ++ (edge_record m e ∷ map (edge_record m) behind ++ rest)) =
       ap (λ (l : List EdgeRecord). l ++ zeros)
-      (ap (λ (l : List Node). joined (map recordsOf l)) p ∙ joined-around recordsOf front n back
-      ∙ ap (λ (l : List Edge). xs ++ (map (edgeRecord m) l ++ joined (map recordsOf back))) q
-      ∙ ap (λ (l : List EdgeRecord). xs ++ (l ++ joined (map recordsOf back))) (map-append (edgeRecord m) before (e ∷ behind)))
+      (ap (λ (l : List Node). joined (map records_of l)) p ∙ joined_around records_of front n back
+      ∙ ap (λ (l : List Edge). xs ++ (map (edge_record m) l ++ joined (map records_of back))) q
+      ∙ ap (λ (l : List EdgeRecord). xs ++ (l ++ joined (map records_of back))) (map_append (edge_record m) before (e ∷ behind)))
       ∙ simp append_assoc in
-      ap (λ (l : List EdgeRecord). get_or l (length (edgesIn front) + length before) zeroRecord) parts
-      ∙ behind-at xs (ys ++ (edgeRecord m e ∷ map (edgeRecord m) behind ++ rest)) (length (edgesIn front)) (length before) zeroRecord (length-records front)
-      ∙ get_or_at ys (edgeRecord m e) (map (edgeRecord m) behind ++ rest) zeroRecord (length before) (length-map before (edgeRecord m))
+      ap (λ (l : List EdgeRecord). get_or l (length (edges_in front) + length before) zero_record) parts
+      ∙ behind_at xs (ys ++ (edge_record m e ∷ map (edge_record m) behind ++ rest)) (length (edges_in front)) (length before) zero_record (length_records front)
+      ∙ get_or_at ys (edge_record m e) (map (edge_record m) behind ++ rest) zero_record (length before) (length-map before (edge_record m))
 
-  none-behind : (k : ℕ) → length (edgesIn (s.words ++ s.phrases)) ≤ k → get_or (edgeList s) k zeroRecord ≡ zeroRecord
-  unfolding edgeList
-  none-behind k h =
-      let e : length all ≡ length (edgesIn (s.words ++ s.phrases)) = length-records (s.words ++ s.phrases) in
+  none_behind : (k : ℕ) → length (edges_in (s.words ++ s.phrases)) ≤ k → get_or (edge_list s) k zero_record ≡ zero_record
+  unfolding edge_list
+  none_behind k h =
+      let e : length all ≡ length (edges_in (s.words ++ s.phrases)) = length_records (s.words ++ s.phrases) in
       let p : k ≡ length all + (k - length all) = omega arith in
-      ap (λ (i : ℕ). get_or (all ++ zeros) i zeroRecord) p
-      ∙ behind-at all zeros (length all) (k - length all) zeroRecord refl
-      ∙ same-replicated (512 - length all) (k - length all)
+      ap (λ (i : ℕ). get_or (all ++ zeros) i zero_record) p
+      ∙ behind_at all zeros (length all) (k - length all) zero_record refl
+      ∙ same_replicated (512 - length all) (k - length all)
     where
-      same-replicated : (m i : ℕ) → get_or (replicate m zeroRecord) i zeroRecord ≡ zeroRecord
-      same-replicated zero i = refl
-      same-replicated (suc m) zero = refl
-      same-replicated (suc m) (suc i) = same-replicated m i
+      same_replicated : (m i : ℕ) → get_or (replicate m zero_record) i zero_record ≡ zero_record
+      same_replicated zero i = refl
+      same_replicated (suc m) zero = refl
+      same_replicated (suc m) (suc i) = same_replicated m i
 
 -- ---- the whole
 
-pub sentence-laid : (s : Sentence) → Distinct nodeNumber (s.words ++ s.phrases) → Each InRoom (s.words ++ s.phrases) → edgesOf s ≤ 512 → SentenceLaid s
-unfolding sentenceSheet
-sentence-laid s distinct room few =
+pub sentence_laid : (s : Sentence) → Distinct node_number (s.words ++ s.phrases) → Each InRoom (s.words ++ s.phrases) → edges_of s ≤ 512 → SentenceLaid s
+unfolding sentence_sheet
+sentence_laid s distinct room few =
     let ms = s.words ++ s.phrases in
-    let counted : edgesOf s ≡ length (edgesIn ms) = sym (edges-append s.words s.phrases) ∙ count-edges ms in
+    let counted : edges_of s ≡ length (edges_in ms) = sym (edges_append s.words s.phrases) ∙ count_edges ms in
     record {
-      size = sheet-size s;
+      size = sheet_size s;
       number = refl;
       editor = refl;
       date = refl;
       origin = refl;
-      comment-start = refl;
-      comment-length = refl;
+      comment_start = refl;
+      comment_length = refl;
       words = refl;
       phrases = refl;
       edges = counted;
       nodes =
-          each-then (FieldsStand (sentenceSheet s)) (λ (n : Node). NodeLaid (sentenceSheet s) (9 + 11 * n.number) n) (node-laid s) ms (fields-stand s distinct room);
+          each_then (FieldsStand (sentence_sheet s)) (λ (n : Node). NodeLaid (sentence_sheet s) (9 + 11 * n.number) n) (node_laid s) ms (fields_stand s distinct room);
       no_node =
           λ k j h l e.
-          let place : 9 + 11 * k + j ≡ fieldPlace j k = omega arith in
-          ap (λ (m : ℕ). get_or (sentenceSheet s) m 0) place ∙ no_field s j k l h e;
-      list-size = list-size s (omega (arith, counted));
+          let place : 9 + 11 * k + j ≡ field_place j k = omega arith in
+          ap (λ (m : ℕ). get_or (sentence_sheet s) m 0) place ∙ no_field s j k l h e;
+      list_size = list_size s (omega (arith, counted));
       edge =
           λ front n back before e behind p q.
           let at = edge_at s front n back before e behind p q in
-          record { child = ap (λ (r : EdgeRecord). r.child) at; label-start = ap (λ (r : EdgeRecord). r.labelStart) at; label-length = ap (λ (r : EdgeRecord). r.labelLength) at; parent = ap (λ (r : EdgeRecord). r.parent) at };
-      no_edge = none-behind s;
+          record { child = ap (λ (r : EdgeRecord). r.child) at; label_start = ap (λ (r : EdgeRecord). r.label_start) at; label_length = ap (λ (r : EdgeRecord). r.label_length) at; parent = ap (λ (r : EdgeRecord). r.parent) at };
+      no_edge = none_behind s;
     }

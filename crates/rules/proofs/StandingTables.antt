@@ -11,40 +11,40 @@ use lib.Seq.{get_or-set_same, get_or-set_other}
 use Rattle.rules.specs.Lists.{pick, bytes, empty, same, Each}
 use Rattle.rules.specs.Texts.{Text, reads}
 use Rattle.rules.specs.Columns.{Column, columns, written}
-use Rattle.rules.specs.Tables.{Tables, Row, table, there as there-is, present, tableNames}
+use Rattle.rules.specs.Tables.{Tables, Row, table, there as there_is, present, table_names}
 use Rattle.rules.specs.Rows.{row_of}
 use Rattle.rules.specs.Sentences.{Sentence}
-use Rattle.rules.specs.Keywords.{tableOpened, tableEnded, firstColumn, hashed, hashAndDigits, startsRow}
-use Rattle.rules.specs.Phases.{Preamble, Phase, start, top, in_table, inSentence, behindSentence, withTable, tablesAt, Answer, go, next}
+use Rattle.rules.specs.Keywords.{table_opened, table_ended, first_column, hashed, hash_and_digits, starts_row}
+use Rattle.rules.specs.Phases.{Preamble, Phase, start, top, in_table, in_sentence, behind_sentence, with_table, tables_at, Answer, go, next}
 use Rattle.rules.specs.GrammarTables.{Names}
 use Rattle.rules.specs.AsWritten.{EachWith, TableRowSaid}
-use Rattle.rules.proofs.Conjunctions.{false-if-never}
-use Rattle.rules.proofs.AnyLine.{bytes_of, begun-by}
-use Rattle.rules.proofs.BareColumns.{columnAt}
-use Rattle.rules.proofs.TestsAsFacts.{reads-are}
-use Rattle.rules.proofs.TablesAsSaid.{is-named}
-use Rattle.rules.proofs.KeywordsAsSaid.{keyword-first, name-second, opened-granted, ended-granted}
-use Rattle.rules.proofs.ReadSoFar.{first-is}
-use Rattle.rules.proofs.RowsSaid.{row-said}
-use Rattle.rules.proofs.Takings.{goClosed, goRow, refuseSix, answerStart, answerBehind, answerTop, answerRows, answerNodes, answerAt}
-use Rattle.rules.proofs.LineByLine.{numbersIn, Through, Takes}
-use Rattle.rules.proofs.WalkedLines.{Walks, one-taken, Holds, walked}
+use Rattle.rules.proofs.Conjunctions.{false_if_never}
+use Rattle.rules.proofs.AnyLine.{bytes_of, begun_by}
+use Rattle.rules.proofs.BareColumns.{column_at}
+use Rattle.rules.proofs.TestsAsFacts.{reads_are}
+use Rattle.rules.proofs.TablesAsSaid.{is_named}
+use Rattle.rules.proofs.KeywordsAsSaid.{keyword_first, name_second, opened_granted, ended_granted}
+use Rattle.rules.proofs.ReadSoFar.{first_is}
+use Rattle.rules.proofs.RowsSaid.{row_said}
+use Rattle.rules.proofs.Takings.{go_closed, go_row, refuse_six, answer_start, answer_behind, answer_top, answer_rows, answer_nodes, answer_at}
+use Rattle.rules.proofs.LineByLine.{numbers_in, Through, Takes}
+use Rattle.rules.proofs.WalkedLines.{Walks, one_taken, Holds, walked}
 
 -- ---- the first column
 
 -- a test that fails of no column and of the line's own fails
-first-test : (line : Text) (T : List ℕ → Bool) → T [] ≡ false → T (columnAt 0 line.bytes) ≡ false → T (firstColumn line).bytes ≡ false
-first-test line T empty-so its = by (firstColumn line).bytes refl
+first_test : (line : Text) (T : List ℕ → Bool) → T [] ≡ false → T (column_at 0 line.bytes) ≡ false → T (first_column line).bytes ≡ false
+first_test line T empty_so its = by (first_column line).bytes refl
   where
-    by : (c : List ℕ) → (firstColumn line).bytes ≡ c → T c ≡ false
-    by [] e = empty-so
-    by (b ∷ bs) e = sym (ap T (first-is line (b ∷ bs) (omega arith) e).1) ∙ its
+    by : (c : List ℕ) → (first_column line).bytes ≡ c → T c ≡ false
+    by [] e = empty_so
+    by (b ∷ bs) e = sym (ap T (first_is line (b ∷ bs) (omega arith) e).1) ∙ its
 
 -- a first column that begins with # begins the line
-hash-first : (line : Text) (c : List ℕ) → (firstColumn line).bytes ≡ bytes "#" ++ c → (rest : List ℕ) × (line.bytes ≡ bytes "#" ++ rest)
-hash-first line c e =
-    let s = first-is line (bytes "#" ++ c) (omega arith) e in
-    let b = begun-by 0 line.bytes s.0 in
+hash_first : (line : Text) (c : List ℕ) → (first_column line).bytes ≡ bytes "#" ++ c → (rest : List ℕ) × (line.bytes ≡ bytes "#" ++ rest)
+hash_first line c e =
+    let s = first_is line (bytes "#" ++ c) (omega arith) e in
+    let b = begun_by 0 line.bytes s.0 in
     let its : b.first.text.bytes ≡ bytes "#" ++ c = sym (ap (λ (cs : List Column). (written cs 0).bytes) b.form) ∙ s.1 in
     (c ++ b.first.after.bytes, b.whole ∙ ap (λ (xs : List ℕ). xs ++ b.first.after.bytes) its)
 
@@ -58,11 +58,11 @@ module _ (K : Phase → List Sentence → Type 0) (out : List Sentence) (line : 
   passes t a b e k = subst (λ (t : Bool). Through K out (pick t a b)) e k
 
   module _ (keyword : List ℕ) (n : ℕ) (names : Names keyword n line.bytes) where
-    its-keyword : columnAt 0 line.bytes ≡ keyword
-    its-keyword = keyword-first line keyword (get_or tableNames n []) names
+    its_keyword : column_at 0 line.bytes ≡ keyword
+    its_keyword = keyword_first line keyword (get_or table_names n []) names
 
-    not_so : (T : List ℕ → Bool) → T [] ≡ false → T keyword ≡ false → T (firstColumn line).bytes ≡ false
-    not_so T empty-so other = first-test line T empty-so (ap T its-keyword ∙ other)
+    not_so : (T : List ℕ → Bool) → T [] ≡ false → T keyword ≡ false → T (first_column line).bytes ≡ false
+    not_so T empty_so other = first_test line T empty_so (ap T its_keyword ∙ other)
 
   -- #BOT and a name
   pub record Opens (n : ℕ) (ph : Phase) : Type 0 where
@@ -72,15 +72,15 @@ module _ (K : Phase → List Sentence → Type 0) (out : List Sentence) (line : 
     pub goes_on : K (in_table preamble n []) out
 
   module _ (n : ℕ) (l : n < 7) (names : Names (bytes "#BOT") n line.bytes) where
-    other : (keyword : List ℕ) → same [] keyword ≡ false → same (bytes "#BOT") keyword ≡ false → reads keyword (firstColumn line) ≡ false
-    other keyword empty-so e = not_so (bytes "#BOT") n names (λ (c : List ℕ). same c keyword) empty-so e
+    other : (keyword : List ℕ) → same [] keyword ≡ false → same (bytes "#BOT") keyword ≡ false → reads keyword (first_column line) ≡ false
+    other keyword empty_so e = not_so (bytes "#BOT") n names (λ (c : List ℕ). same c keyword) empty_so e
 
-    opens-here : (p : Preamble) → Through K out (next (λ n. go (in_table p n [])) (tableOpened p.tables line)) → Opens n (top p)
-    opens-here p t =
-        let o = opened-granted K out line (λ n. go (in_table p n [])) p.tables (its-keyword (bytes "#BOT") n names) t in
-        let mine = is-named (written (columns line) 1) n l (name-second line (bytes "#BOT") (get_or tableNames n []) names) in
-        let its = is-named (written (columns line) 1) o.which o.one-of-seven
-        (name-second line (bytes "#BOT") (get_or tableNames o.which []) o.names) in
+    opens_here : (p : Preamble) → Through K out (next (λ n. go (in_table p n [])) (table_opened p.tables line)) → Opens n (top p)
+    opens_here p t =
+        let o = opened_granted K out line (λ n. go (in_table p n [])) p.tables (its_keyword (bytes "#BOT") n names) t in
+        let mine = is_named (written (columns line) 1) n l (name_second line (bytes "#BOT") (get_or table_names n []) names) in
+        let its = is_named (written (columns line) 1) o.which o.one_of_seven
+        (name_second line (bytes "#BOT") (get_or table_names o.which []) o.names) in
         let e : o.which ≡ n = one_name o.which n (sym its ∙ mine) in
         record {
           preamble = p;
@@ -89,65 +89,65 @@ module _ (K : Phase → List Sentence → Type 0) (out : List Sentence) (line : 
           goes_on = subst (λ (m : ℕ). K (in_table p m []) out) e o.goes_on;
         }
 
-    nothing-behind : (p : Preamble) → Through K out (answerBehind line (firstColumn line) p used) → ⊥
-    unfolding answerBehind
-    nothing-behind p t = passes (reads (bytes "#BOS") (firstColumn line)) _ (refuseSix line) (other (bytes "#BOS") refl refl) t
+    nothing_behind : (p : Preamble) → Through K out (answer_behind line (first_column line) p used) → ⊥
+    unfolding answer_behind
+    nothing_behind p t = passes (reads (bytes "#BOS") (first_column line)) _ (refuse_six line) (other (bytes "#BOS") refl refl) t
 
-    pub bot-opens : (ph : Phase) → Through K out (answerAt ph used line (firstColumn line)) → Opens n ph
-    unfolding answerAt answerStart answerTop answerRows answerNodes
-    bot-opens start t =
-        absurd (passes (reads (bytes "#FORMAT") (firstColumn line)) _ (refuseSix line) (other (bytes "#FORMAT") refl refl) t)
-    bot-opens (top p) t = by (reads (bytes "#BOT") (firstColumn line)) t
+    pub bot_opens : (ph : Phase) → Through K out (answer_at ph used line (first_column line)) → Opens n ph
+    unfolding answer_at answer_start answer_top answer_rows answer_nodes
+    bot_opens start t =
+        absurd (passes (reads (bytes "#FORMAT") (first_column line)) _ (refuse_six line) (other (bytes "#FORMAT") refl refl) t)
+    bot_opens (top p) t = by (reads (bytes "#BOT") (first_column line)) t
       where
         by : (b : Bool)
-            → Through K out (pick b (next (λ n. go (in_table p n [])) (tableOpened p.tables line)) (answerBehind line (firstColumn line) p used))
+            → Through K out (pick b (next (λ n. go (in_table p n [])) (table_opened p.tables line)) (answer_behind line (first_column line) p used))
             → Opens n (top p)
-        by true t = opens-here p t
-        by false t = absurd (nothing-behind p t)
-    bot-opens (in_table p m rs) t =
-        absurd (passes (startsRow (firstColumn line)) _ (refuseSix line)
+        by true t = opens_here p t
+        by false t = absurd (nothing_behind p t)
+    bot_opens (in_table p m rs) t =
+        absurd (passes (starts_row (first_column line)) _ (refuse_six line)
         (not_so (bytes "#BOT") n names (λ (c : List ℕ). not (empty c) && not (hashed c)) refl refl)
-        (passes (reads (bytes "#EOT") (firstColumn line)) _ _ (other (bytes "#EOT") refl refl) t))
-    bot-opens (inSentence p s) t =
-        absurd (passes _ _ (refuseSix line)
+        (passes (reads (bytes "#EOT") (first_column line)) _ _ (other (bytes "#EOT") refl refl) t))
+    bot_opens (in_sentence p s) t =
+        absurd (passes _ _ (refuse_six line)
         (not_so (bytes "#BOT") n names (λ (c : List ℕ). same c (bytes "#") || (not (empty c) && not (hashed c))) refl refl)
-        (passes _ _ _ (not_so (bytes "#BOT") n names hashAndDigits refl refl)
-        (passes (reads (bytes "#EOS") (firstColumn line)) _ _ (other (bytes "#EOS") refl refl) t)))
-    bot-opens (behindSentence p) t = absurd (nothing-behind p t)
+        (passes _ _ _ (not_so (bytes "#BOT") n names hash_and_digits refl refl)
+        (passes (reads (bytes "#EOS") (first_column line)) _ _ (other (bytes "#EOS") refl refl) t)))
+    bot_opens (behind_sentence p) t = absurd (nothing_behind p t)
 
   module _ (p : Preamble) (n : ℕ) (rs : List Row) where
     -- a line that doesn't begin with #
-    pub row-taken : ((rest : List ℕ) → line.bytes ≡ bytes "#" ++ rest → ⊥)
-        → Through K out (answerAt (in_table p n rs) used line (firstColumn line))
+    pub row_taken : ((rest : List ℕ) → line.bytes ≡ bytes "#" ++ rest → ⊥)
+        → Through K out (answer_at (in_table p n rs) used line (first_column line))
         → (r : Row) × TableRowSaid n r line.bytes × K (in_table p n (rs ++ (r ∷ []))) out
-    unfolding answerAt answerRows
-    row-taken plain t =
-        by (startsRow (firstColumn line))
-        (passes (reads (bytes "#EOT") (firstColumn line)) _ _
-        (false-if-never (reads (bytes "#EOT") (firstColumn line))
-        (λ e. (let h = hash-first line (bytes "EOT") ((reads-are (bytes "#EOT") (firstColumn line)).0 e) in plain h.0 h.1))) t)
+    unfolding answer_at answer_rows
+    row_taken plain t =
+        by (starts_row (first_column line))
+        (passes (reads (bytes "#EOT") (first_column line)) _ _
+        (false_if_never (reads (bytes "#EOT") (first_column line))
+        (λ e. (let h = hash_first line (bytes "EOT") ((reads_are (bytes "#EOT") (first_column line)).0 e) in plain h.0 h.1))) t)
       where
-        by : (b : Bool) → Through K out (pick b (next (goRow p n rs) (row_of n rs line)) (refuseSix line))
+        by : (b : Bool) → Through K out (pick b (next (go_row p n rs) (row_of n rs line)) (refuse_six line))
             → (r : Row) × TableRowSaid n r line.bytes × K (in_table p n (rs ++ (r ∷ []))) out
         by true t =
-            row-said line (λ (a : Answer). Through K out a → (r : Row) × TableRowSaid n r line.bytes × K
-            (in_table p n (rs ++ (r ∷ []))) out) (λ q t. absurd t) (goRow p n rs) n rs
+            row_said line (λ (a : Answer). Through K out a → (r : Row) × TableRowSaid n r line.bytes × K
+            (in_table p n (rs ++ (r ∷ []))) out) (λ q t. absurd t) (go_row p n rs) n rs
             (λ r w t. (r, w, t)) t
         by false t = absurd t
 
     -- #EOT and its name
-    pub eot-closes : Names (bytes "#EOT") n line.bytes → Through K out (answerAt (in_table p n rs) used line (firstColumn line))
-        → K (top (withTable p n rs)) out
-    unfolding answerAt answerRows
-    eot-closes names t = by (reads (bytes "#EOT") (firstColumn line)) t
+    pub eot_closes : Names (bytes "#EOT") n line.bytes → Through K out (answer_at (in_table p n rs) used line (first_column line))
+        → K (top (with_table p n rs)) out
+    unfolding answer_at answer_rows
+    eot_closes names t = by (reads (bytes "#EOT") (first_column line)) t
       where
         by : (b : Bool)
-            → Through K out (pick b (next (λ m. goClosed p n rs) (tableEnded n line))
-            (pick (startsRow (firstColumn line)) (next (goRow p n rs) (row_of n rs line)) (refuseSix line)))
-            → K (top (withTable p n rs)) out
-        by true t = (ended-granted K out line (λ m. goClosed p n rs) n (its-keyword (bytes "#EOT") n names) t).1
+            → Through K out (pick b (next (λ m. go_closed p n rs) (table_ended n line))
+            (pick (starts_row (first_column line)) (next (go_row p n rs) (row_of n rs line)) (refuse_six line)))
+            → K (top (with_table p n rs)) out
+        by true t = (ended_granted K out line (λ m. go_closed p n rs) n (its_keyword (bytes "#EOT") n names) t).1
         by false t =
-            absurd (passes (startsRow (firstColumn line)) _ (refuseSix line)
+            absurd (passes (starts_row (first_column line)) _ (refuse_six line)
             (not_so (bytes "#EOT") n names (λ (c : List ℕ). not (empty c) && not (hashed c)) refl refl) t)
 
 -- ---- a table's lines
@@ -158,8 +158,8 @@ module _ (E : Phase → List Sentence → Type 0) where
       → (us : List Row) × EachWith (TableRowSaid n) us rows × Walks E tail (in_table p n (rs ++ us)) out
   rows_walked [] tail p n rs out plain w = ([], tt, subst (λ (us : List Row). Walks E tail (in_table p n us) out) (sym (append-nil rs)) w)
   rows_walked (l ∷ rows) tail p n rs out plain w =
-      let o = one-taken E l (rows ++ tail) (in_table p n rs) out w in
-      let r = row-taken (Walks E (rows ++ tail)) out o.0 (numbersIn out) p n rs (λ rest e. plain.0 rest (sym o.1 ∙ e)) o.2 in
+      let o = one_taken E l (rows ++ tail) (in_table p n rs) out w in
+      let r = row_taken (Walks E (rows ++ tail)) out o.0 (numbers_in out) p n rs (λ rest e. plain.0 rest (sym o.1 ∙ e)) o.2 in
       let more = rows_walked rows tail p n (rs ++ (r.0 ∷ [])) out plain.1 r.2 in (
         r.0 ∷ more.0,
         (subst (TableRowSaid n r.0) o.1 r.1, more.1),
@@ -175,45 +175,45 @@ module _ (E : Phase → List Sentence → Type 0) where
     pub out : List Sentence
     pub goes_on : Walks E tail (top preamble) out
 
-  table-walked : (n : ℕ) → n < 7 → (bot eot : List ℕ) (rows tail : List (List ℕ)) → Names (bytes "#BOT") n bot → Names (bytes "#EOT") n eot
+  table_walked : (n : ℕ) → n < 7 → (bot eot : List ℕ) (rows tail : List (List ℕ)) → Names (bytes "#BOT") n bot → Names (bytes "#EOT") n eot
       → Each (λ (l : List ℕ). (rest : List ℕ) → l ≡ bytes "#" ++ rest → ⊥) rows → (ph : Phase) (out : List Sentence)
-      → length (tablesAt ph) ≡ 7
+      → length (tables_at ph) ≡ 7
       → Walks E (((bot ∷ rows) ++ (eot ∷ [])) ++ tail) ph out → Closed n rows tail
-  table-walked n l bot eot rows tail begins ends plain ph out seven w =
-      let o = one-taken E bot ((rows ++ (eot ∷ [])) ++ tail) ph out w in
-      let b = bot-opens (Walks E ((rows ++ (eot ∷ [])) ++ tail)) out o.0 (numbersIn out) n l
+  table_walked n l bot eot rows tail begins ends plain ph out seven w =
+      let o = one_taken E bot ((rows ++ (eot ∷ [])) ++ tail) ph out w in
+      let b = bot_opens (Walks E ((rows ++ (eot ∷ [])) ++ tail)) out o.0 (numbers_in out) n l
       (subst (Names (bytes "#BOT") n) (sym o.1) begins) ph o.2 in
       let p = b.preamble in
       let inside = subst (λ (ls : List (List ℕ)). Walks E ls (in_table p n []) out) (append_assoc rows (eot ∷ []) tail) b.goes_on in
       let r = rows_walked rows (eot ∷ tail) p n [] out plain inside in
-      let c = one-taken E eot tail (in_table p n r.0) out r.2 in
-      let room : length p.tables ≡ 7 = sym (ap (λ (x : Phase). length (tablesAt x)) b.at_top) ∙ seven in
+      let c = one_taken E eot tail (in_table p n r.0) out r.2 in
+      let room : length p.tables ≡ 7 = sym (ap (λ (x : Phase). length (tables_at x)) b.at_top) ∙ seven in
       record {
-        preamble = withTable p n r.0;
+        preamble = with_table p n r.0;
         told = r.0;
         each_row = r.1;
         there = get_or-set_same p.tables n (some r.0) none (omega (arith, room));
         out = out;
-        goes_on = eot-closes (Walks E tail) out c.0 (numbersIn out) p n r.0 (subst (Names (bytes "#EOT") n) (sym c.1) ends) c.2;
+        goes_on = eot_closes (Walks E tail) out c.0 (numbers_in out) p n r.0 (subst (Names (bytes "#EOT") n) (sym c.1) ends) c.2;
       }
 
   -- ---- among other lines
 
-  phase-seven : (ph : Phase) → Holds (Unit {0}) (λ (ts : Tables). length ts ≡ 7) (λ (n : ℕ) (ts : Tables). Unit {0}) ph
-      → length (tablesAt ph) ≡ 7
-  phase-seven start h = refl
-  phase-seven (top p) h = h
-  phase-seven (in_table p n rs) h = h.0
-  phase-seven (inSentence p s) h = h
-  phase-seven (behindSentence p) h = h
+  phase_seven : (ph : Phase) → Holds (Unit {0}) (λ (ts : Tables). length ts ≡ 7) (λ (n : ℕ) (ts : Tables). Unit {0}) ph
+      → length (tables_at ph) ≡ 7
+  phase_seven start h = refl
+  phase_seven (top p) h = h
+  phase_seven (in_table p n rs) h = h.0
+  phase_seven (in_sentence p s) h = h
+  phase_seven (behind_sentence p) h = h
 
-  phase-has : (n : ℕ) (us : List Row) (ph : Phase) → Holds ⊥ (λ (ts : Tables). table n ts ≡ some us) (λ (m : ℕ) (ts : Tables). m ≡ n → ⊥) ph
-      → table n (tablesAt ph) ≡ some us
-  phase-has n us start h = absurd h
-  phase-has n us (top p) h = h
-  phase-has n us (in_table p m rs) h = h.0
-  phase-has n us (inSentence p s) h = h
-  phase-has n us (behindSentence p) h = h
+  phase_has : (n : ℕ) (us : List Row) (ph : Phase) → Holds ⊥ (λ (ts : Tables). table n ts ≡ some us) (λ (m : ℕ) (ts : Tables). m ≡ n → ⊥) ph
+      → table n (tables_at ph) ≡ some us
+  phase_has n us start h = absurd h
+  phase_has n us (top p) h = h
+  phase_has n us (in_table p m rs) h = h.0
+  phase_has n us (in_sentence p s) h = h
+  phase_has n us (behind_sentence p) h = h
 
   -- the table is there behind all lines, wherever that is
   pub record Standing (n : ℕ) (rows : List (List ℕ)) : Type 0 where
@@ -221,8 +221,8 @@ module _ (E : Phase → List Sentence → Type 0) where
     pub each_row : EachWith (TableRowSaid n) told rows
     pub phase : Phase
     pub out : List Sentence
-    pub at-end : E phase out
-    pub there : table n (tablesAt phase) ≡ some told
+    pub at_end_lem : E phase out
+    pub there : table n (tables_at phase) ≡ some told
 
   last_taken : (ph : Phase) (out : List Sentence) → Walks E [] ph out → E ph out
   last_taken ph out w = by w.0 w.1 w.2
@@ -231,17 +231,17 @@ module _ (E : Phase → List Sentence → Type 0) where
       by [] e t = t
       by (line ∷ ts) e t = absurd (let z : ◌≡◌ {A = ℕ} 0 1 = cc in omega arith)
 
-  pub stands-told : (n : ℕ) → n < 7 → (bot eot : List ℕ) (before rows behind : List (List ℕ)) → Names (bytes "#BOT") n bot
+  pub stands_told : (n : ℕ) → n < 7 → (bot eot : List ℕ) (before rows behind : List (List ℕ)) → Names (bytes "#BOT") n bot
       → Names (bytes "#EOT") n eot
       → Each (λ (l : List ℕ). (rest : List ℕ) → l ≡ bytes "#" ++ rest → ⊥) rows
       → Walks E (before ++ (((bot ∷ rows) ++ (eot ∷ [])) ++ behind)) start [] → Standing n rows
-  stands-told n l bot eot before rows behind begins ends plain w =
+  stands_told n l bot eot before rows behind begins ends plain w =
       let to = walked (Unit {0}) (λ (ts : Tables). length ts ≡ 7) (λ (m : ℕ) (ts : Tables). Unit {0}) (λ s. refl) (λ m ts q new. tt)
       (λ m rs ts q r. length-set ts m (some rs) ∙ q) E before (((bot ∷ rows) ++ (eot ∷ [])) ++ behind) start [] tt w in
-      let c = table-walked n l bot eot rows behind begins ends plain to.0 to.1 (phase-seven to.0 to.2) to.3 in
+      let c = table_walked n l bot eot rows behind begins ends plain to.0 to.1 (phase_seven to.0 to.2) to.3 in
       let us = c.told in
       let on = walked ⊥ (λ (ts : Tables). table n ts ≡ some us) (λ (m : ℕ) (ts : Tables). m ≡ n → ⊥) (λ s. absurd s)
-      (λ m ts q new e. new (ap (λ (m : ℕ). present m ts) e ∙ ap there-is q))
+      (λ m ts q new e. new (ap (λ (m : ℕ). present m ts) e ∙ ap there_is q))
       (λ m rs ts q other. get_or-set_other ts m n (some rs) none (λ e. other (sym e)) ∙ q) E behind [] (top c.preamble) c.out c.there
       (subst (λ (ls : List (List ℕ)). Walks E ls (top c.preamble) c.out) (sym (append-nil behind)) c.goes_on) in
       record {
@@ -249,6 +249,6 @@ module _ (E : Phase → List Sentence → Type 0) where
         each_row = c.each_row;
         phase = on.0;
         out = on.1;
-        at-end = last_taken on.0 on.1 on.3;
-        there = phase-has n us on.0 on.2;
+        at_end_lem = last_taken on.0 on.1 on.3;
+        there = phase_has n us on.0 on.2;
       }

@@ -10,10 +10,10 @@ use lib.ListN.{length, length-map, get_or-map}
 use lib.Seq.{ext_get_or}
 use Rattle.rules.specs.Lists.{sorted}
 use Rattle.rules.specs.Tables.{Tables, Row, table, origins, editors}
-use Rattle.rules.specs.Meaning.{bareRow, rowId, meantRows, by_id, meantTables}
+use Rattle.rules.specs.Meaning.{bare_row, row_id, meant_rows, by_id, meant_tables}
 use Rattle.rules.specs.Same.{InOrder, InAnyOrder, SameRow, Present, TablesAgree}
-use Rattle.rules.proofs.AlikeLists.{alike-in-order, alike-in-any-order}
-use Rattle.rules.proofs.SameFields.{Any, each-any, same_row}
+use Rattle.rules.proofs.AlikeLists.{alike_in_order, alike_in_any_order}
+use Rattle.rules.proofs.SameFields.{Any, each_any, same_row}
 use Rattle.rules.proofs.NumbersDiffer.{IdsDiffer, TablesDiffer}
 
 -- ---- one table
@@ -21,78 +21,78 @@ use Rattle.rules.proofs.NumbersDiffer.{IdsDiffer, TablesDiffer}
 unlike : (rs : List Row) → ◌≡◌ {A = Option (List Row)} none (some rs) → ⊥
 unlike rs e = let z : ◌≡◌ {A = ℕ} 0 1 = cc in omega arith
 
-both-present : (Alike : List Row → List Row → Type 0) (rs qs xs ys : List Row) → (xs ≡ ys) ↔ Alike rs qs → (some xs ≡ some ys) ↔ Alike rs qs
-both-present Alike rs qs xs ys exactly = ((λ e. let same : xs ≡ ys = cc in exactly.0 same), (λ a. ap some (exactly.1 a)))
+both_present : (Alike : List Row → List Row → Type 0) (rs qs xs ys : List Row) → (xs ≡ ys) ↔ Alike rs qs → (some xs ≡ some ys) ↔ Alike rs qs
+both_present Alike rs qs xs ys exactly = ((λ e. let same : xs ≡ ys = cc in exactly.0 same), (λ a. ap some (exactly.1 a)))
 
 -- rows as they stand
-tag-table : (o p : Option (List Row)) → (meantRows o ≡ meantRows p) ↔ Present (InOrder SameRow) o p
-tag-table none none = ((λ e. tt), (λ a. refl))
-tag-table none (some qs) = (unlike (map bareRow qs), (λ a. absurd a))
-tag-table (some rs) none = ((λ e. unlike (map bareRow rs) (sym e)), (λ a. absurd a))
-tag-table (some rs) (some qs) =
-    both-present (InOrder SameRow) rs qs (map bareRow rs) (map bareRow qs) (alike-in-order bareRow Any SameRow same_row rs qs (each-any rs) (each-any qs))
+tag_table : (o p : Option (List Row)) → (meant_rows o ≡ meant_rows p) ↔ Present (InOrder SameRow) o p
+tag_table none none = ((λ e. tt), (λ a. refl))
+tag_table none (some qs) = (unlike (map bare_row qs), (λ a. absurd a))
+tag_table (some rs) none = ((λ e. unlike (map bare_row rs) (sym e)), (λ a. absurd a))
+tag_table (some rs) (some qs) =
+    both_present (InOrder SameRow) rs qs (map bare_row rs) (map bare_row qs) (alike_in_order bare_row Any SameRow same_row rs qs (each_any rs) (each_any qs))
 
 -- rows in any order
-id-table : (o p : Option (List Row)) → IdsDiffer o → IdsDiffer p → (meantRows (by_id o) ≡ meantRows (by_id p)) ↔ Present (InAnyOrder SameRow) o p
-id-table none none d c = ((λ e. tt), (λ a. refl))
-id-table none (some qs) d c = (unlike (map bareRow (sorted rowId qs)), (λ a. absurd a))
-id-table (some rs) none d c = ((λ e. unlike (map bareRow (sorted rowId rs)) (sym e)), (λ a. absurd a))
-id-table (some rs) (some qs) d c =
-    both-present (InAnyOrder SameRow) rs qs (map bareRow (sorted rowId rs)) (map bareRow (sorted rowId qs))
-    (alike-in-any-order bareRow Any SameRow same_row rowId rowId (λ r. refl) rs qs (each-any rs) (each-any qs) d c)
+id_table : (o p : Option (List Row)) → IdsDiffer o → IdsDiffer p → (meant_rows (by_id o) ≡ meant_rows (by_id p)) ↔ Present (InAnyOrder SameRow) o p
+id_table none none d c = ((λ e. tt), (λ a. refl))
+id_table none (some qs) d c = (unlike (map bare_row (sorted row_id qs)), (λ a. absurd a))
+id_table (some rs) none d c = ((λ e. unlike (map bare_row (sorted row_id rs)) (sym e)), (λ a. absurd a))
+id_table (some rs) (some qs) d c =
+    both_present (InAnyOrder SameRow) rs qs (map bare_row (sorted row_id rs)) (map bare_row (sorted row_id qs))
+    (alike_in_any_order bare_row Any SameRow same_row row_id row_id (λ r. refl) rs qs (each_any rs) (each_any qs) d c)
 
 -- ---- each of the seven
 
-origin-meant : (ts : Tables) → table origins (meantTables ts) ≡ meantRows (by_id (table origins ts))
-origin-meant [] = refl
-origin-meant (o ∷ []) = refl
-origin-meant (o ∷ e ∷ ts) = refl
+origin_meant : (ts : Tables) → table origins (meant_tables ts) ≡ meant_rows (by_id (table origins ts))
+origin_meant [] = refl
+origin_meant (o ∷ []) = refl
+origin_meant (o ∷ e ∷ ts) = refl
 
-editor-meant : (ts : Tables) → table editors (meantTables ts) ≡ meantRows (by_id (table editors ts))
-editor-meant [] = refl
-editor-meant (o ∷ []) = refl
-editor-meant (o ∷ e ∷ ts) = refl
+editor_meant : (ts : Tables) → table editors (meant_tables ts) ≡ meant_rows (by_id (table editors ts))
+editor_meant [] = refl
+editor_meant (o ∷ []) = refl
+editor_meant (o ∷ e ∷ ts) = refl
 
-tag-meant : (n : ℕ) (ts : Tables) → table (suc (suc n)) (meantTables ts) ≡ meantRows (table (suc (suc n)) ts)
-tag-meant n [] = refl
-tag-meant n (o ∷ []) = refl
-tag-meant n (o ∷ e ∷ ts) = get_or-map meantRows ts n none
+tag_meant : (n : ℕ) (ts : Tables) → table (suc (suc n)) (meant_tables ts) ≡ meant_rows (table (suc (suc n)) ts)
+tag_meant n [] = refl
+tag_meant n (o ∷ []) = refl
+tag_meant n (o ∷ e ∷ ts) = get_or-map meant_rows ts n none
 
-pub length-meant : (ts : Tables) → length (meantTables ts) ≡ length ts
-length-meant [] = refl
-length-meant (o ∷ []) = refl
-length-meant (o ∷ e ∷ ts) = ap (λ (n : ℕ). suc (suc n)) (length-map ts meantRows)
+pub length_meant : (ts : Tables) → length (meant_tables ts) ≡ length ts
+length_meant [] = refl
+length_meant (o ∷ []) = refl
+length_meant (o ∷ e ∷ ts) = ap (λ (n : ℕ). suc (suc n)) (length-map ts meant_rows)
 
 module _ (ts us : Tables) (d : TablesDiffer ts) (c : TablesDiffer us) where
-  origin-table : (meantRows (by_id (table origins ts)) ≡ meantRows (by_id (table origins us))) ↔ Present (InAnyOrder SameRow) (table origins ts) (table origins us)
-  origin-table = id-table (table origins ts) (table origins us) d.origin-ids c.origin-ids
+  origin_table : (meant_rows (by_id (table origins ts)) ≡ meant_rows (by_id (table origins us))) ↔ Present (InAnyOrder SameRow) (table origins ts) (table origins us)
+  origin_table = id_table (table origins ts) (table origins us) d.origin_ids c.origin_ids
 
-  editor-table : (meantRows (by_id (table editors ts)) ≡ meantRows (by_id (table editors us))) ↔ Present (InAnyOrder SameRow) (table editors ts) (table editors us)
-  editor-table = id-table (table editors ts) (table editors us) d.editor-ids c.editor-ids
+  editor_table : (meant_rows (by_id (table editors ts)) ≡ meant_rows (by_id (table editors us))) ↔ Present (InAnyOrder SameRow) (table editors ts) (table editors us)
+  editor_table = id_table (table editors ts) (table editors us) d.editor_ids c.editor_ids
 
-  meant-agree : meantTables ts ≡ meantTables us → TablesAgree ts us
-  meant-agree e =
+  meant_agree : meant_tables ts ≡ meant_tables us → TablesAgree ts us
+  meant_agree e =
       record {
-        origin-rows = origin-table.0 (sym (origin-meant ts) ∙ ap (table origins) e ∙ origin-meant us);
-        editor-rows = editor-table.0 (sym (editor-meant ts) ∙ ap (table editors) e ∙ editor-meant us);
-        tag-rows = tags;
+        origin_rows = origin_table.0 (sym (origin_meant ts) ∙ ap (table origins) e ∙ origin_meant us);
+        editor_rows = editor_table.0 (sym (editor_meant ts) ∙ ap (table editors) e ∙ editor_meant us);
+        tag_rows = tags;
       }
     where
       tags : (n : ℕ) → 2 ≤ n → n ≤ 6 → Present (InOrder SameRow) (table n ts) (table n us)
       tags zero h l = absurd (omega arith)
       tags (suc zero) h l = absurd (omega arith)
-      tags (suc (suc n)) h l = (tag-table (table (suc (suc n)) ts) (table (suc (suc n)) us)).0 (sym (tag-meant n ts) ∙ ap (table (suc (suc n))) e ∙ tag-meant n us)
+      tags (suc (suc n)) h l = (tag_table (table (suc (suc n)) ts) (table (suc (suc n)) us)).0 (sym (tag_meant n ts) ∙ ap (table (suc (suc n))) e ∙ tag_meant n us)
 
-  agree-meant : TablesAgree ts us → meantTables ts ≡ meantTables us
-  agree-meant a =
-      let seven = length-meant ts ∙ d.seven in
-      ext_get_or none (meantTables ts) (meantTables us) (seven ∙ sym (length-meant us ∙ c.seven)) (λ n l. each n (omega (arith, seven)))
+  agree_meant : TablesAgree ts us → meant_tables ts ≡ meant_tables us
+  agree_meant a =
+      let seven = length_meant ts ∙ d.seven in
+      ext_get_or none (meant_tables ts) (meant_tables us) (seven ∙ sym (length_meant us ∙ c.seven)) (λ n l. each n (omega (arith, seven)))
     where
-      each : (n : ℕ) → n < 7 → table n (meantTables ts) ≡ table n (meantTables us)
-      each zero l = origin-meant ts ∙ origin-table.1 a.origin-rows ∙ sym (origin-meant us)
-      each (suc zero) l = editor-meant ts ∙ editor-table.1 a.editor-rows ∙ sym (editor-meant us)
+      each : (n : ℕ) → n < 7 → table n (meant_tables ts) ≡ table n (meant_tables us)
+      each zero l = origin_meant ts ∙ origin_table.1 a.origin_rows ∙ sym (origin_meant us)
+      each (suc zero) l = editor_meant ts ∙ editor_table.1 a.editor_rows ∙ sym (editor_meant us)
       each (suc (suc n)) l =
-          tag-meant n ts ∙ (tag-table (table (suc (suc n)) ts) (table (suc (suc n)) us)).1 (a.tag-rows (suc (suc n)) (omega arith) (omega arith)) ∙ sym (tag-meant n us)
+          tag_meant n ts ∙ (tag_table (table (suc (suc n)) ts) (table (suc (suc n)) us)).1 (a.tag_rows (suc (suc n)) (omega arith) (omega arith)) ∙ sym (tag_meant n us)
 
-  pub tables_agree : (meantTables ts ≡ meantTables us) ↔ TablesAgree ts us
-  tables_agree = (meant-agree, agree-meant)
+  pub tables_agree : (meant_tables ts ≡ meant_tables us) ↔ TablesAgree ts us
+  tables_agree = (meant_agree, agree_meant)

@@ -12,16 +12,16 @@ use Rattle.rules.specs.Tables.{Tables, Row}
 use Rattle.rules.specs.Sentences.{Edge, Node, Sentence}
 use Rattle.rules.specs.Reading.{Handed}
 use Rattle.rules.specs.Survey.{Survey}
-use Rattle.rules.specs.Meaning.{bareRow, bareEdge, bareNode, rowId, nodeNumber, sentenceNumberOf, meantRows, by_id, meantTables, meantSentence, meantSentences}
-use Rattle.rules.specs.Same.{Some, handedNumber}
+use Rattle.rules.specs.Meaning.{bare_row, bare_edge, bare_node, row_id, node_number, sentence_number_of, meant_rows, by_id, meant_tables, meant_sentence, meant_sentences}
+use Rattle.rules.specs.Same.{Some, handed_number}
 use Rattle.rules.specs.GrammarContent.{RowContent, EdgeContent, NodeContent, SentenceContent, Content}
 use Rattle.rules.specs.GrammarLines.{In}
-use Rattle.rules.specs.GrammarSurvey.{rowRead, tableRead, edgeRead, nodeRead, sentenceRead, contentOf}
+use Rattle.rules.specs.GrammarSurvey.{row_read, table_read, edge_read, node_read, sentence_read, content_of}
 use Rattle.rules.specs.AsWritten.{EachWith}
 use Rattle.rules.specs.TidyOrder.{Rises, ByRising, TableOrdered, TablesOrdered, SentenceOrdered, TidyOrder}
-use Rattle.rules.proofs.Sorting.{Distinct, Rising, rising-from-zero, map-sorted}
-use Rattle.rules.proofs.SameLists.{some-sorted, sorted-some}
-use Rattle.rules.proofs.AlikeLists.{distinct-map}
+use Rattle.rules.proofs.Sorting.{Distinct, Rising, rising_from_zero, map_sorted}
+use Rattle.rules.proofs.SameLists.{some_sorted, sorted_some}
+use Rattle.rules.proofs.AlikeLists.{distinct_map}
 use Rattle.rules.proofs.NumbersDiffer.{IdsDiffer, TablesDiffer, NumbersDiffer}
 use Rattle.rules.proofs.SameFields.{PhrasesDiffer}
 
@@ -39,122 +39,122 @@ module _ {A : Type 0} where
   some_in x (y ∷ xs) (inr i) = inr (some_in x xs i)
 
   module _ (key : A → ℕ) where
-    rising-rises : (k : ℕ) (xs : List A) → Rising key k xs → Rises key xs
-    rising-rises k [] r = tt
-    rising-rises k (x ∷ []) r = tt
-    rising-rises k (x ∷ y ∷ xs) r = (r.1.0, rising-rises (suc (key x)) (y ∷ xs) r.1)
+    rising_rises : (k : ℕ) (xs : List A) → Rising key k xs → Rises key xs
+    rising_rises k [] r = tt
+    rising_rises k (x ∷ []) r = tt
+    rising_rises k (x ∷ y ∷ xs) r = (r.1.0, rising_rises (suc (key x)) (y ∷ xs) r.1)
 
-    by-rising : (xs : List A) → Distinct key xs → ByRising key xs (sorted key xs)
-    by-rising xs d =
+    by_rising : (xs : List A) → Distinct key xs → ByRising key xs (sorted key xs)
+    by_rising xs d =
         record {
-          rises = rising-rises 0 (sorted key xs) (rising-from-zero key xs d);
+          rises = rising_rises 0 (sorted key xs) (rising_from_zero key xs d);
           the_same = λ x. (
-            (λ i. some_in x (sorted key xs) (some-sorted key (λ (y : A). x ≡ y) xs (in_some x xs i))),
-            (λ i. some_in x xs (sorted-some key (λ (y : A). x ≡ y) xs (in_some x (sorted key xs) i))),
+            (λ i. some_in x (sorted key xs) (some_sorted key (λ (y : A). x ≡ y) xs (in_some x xs i))),
+            (λ i. some_in x xs (sorted_some key (λ (y : A). x ≡ y) xs (in_some x (sorted key xs) i))),
           );
         }
 
 -- mapped by what keeps the numbers
 module _ {A B : Type 0} (key : A → ℕ) (to : B → ℕ) (f : A → B) (keeps : (x : A) → to (f x) ≡ key x) where
-  mapped-by-rising : (xs : List A) → Distinct key xs → ByRising to (map f xs) (map f (sorted key xs))
-  mapped-by-rising xs d =
-      subst (ByRising to (map f xs)) (sym (map-sorted key to f keeps xs)) (by-rising to (map f xs) (distinct-map key to f keeps xs d))
+  mapped_by_rising : (xs : List A) → Distinct key xs → ByRising to (map f xs) (map f (sorted key xs))
+  mapped_by_rising xs d =
+      subst (ByRising to (map f xs)) (sym (map_sorted key to f keeps xs)) (by_rising to (map f xs) (distinct_map key to f keeps xs d))
 
 -- ---- the fields that are read, of what has no places
 
-rows-read : (rs : List Row) → map rowRead (map bareRow rs) ≡ map rowRead rs
-rows-read [] = refl
-rows-read (r ∷ rs) = ap (λ (qs : List RowContent). rowRead r ∷ qs) (rows-read rs)
+rows_read : (rs : List Row) → map row_read (map bare_row rs) ≡ map row_read rs
+rows_read [] = refl
+rows_read (r ∷ rs) = ap (λ (qs : List RowContent). row_read r ∷ qs) (rows_read rs)
 
-table-read : (o : Option (List Row)) → tableRead (meantRows o) ≡ tableRead o
-table-read none = refl
-table-read (some rs) = ap some (rows-read rs)
+table_read_lem : (o : Option (List Row)) → table_read (meant_rows o) ≡ table_read o
+table_read_lem none = refl
+table_read_lem (some rs) = ap some (rows_read rs)
 
-edges-read : (es : List Edge) → map edgeRead (map bareEdge es) ≡ map edgeRead es
-edges-read [] = refl
-edges-read (e ∷ es) = ap (λ (ds : List EdgeContent). edgeRead e ∷ ds) (edges-read es)
+edges_read : (es : List Edge) → map edge_read (map bare_edge es) ≡ map edge_read es
+edges_read [] = refl
+edges_read (e ∷ es) = ap (λ (ds : List EdgeContent). edge_read e ∷ ds) (edges_read es)
 
-node-read : (n : Node) → nodeRead (bareNode n) ≡ nodeRead n
-node-read n = rw (edges-read n.secondary)
+node_read_lem : (n : Node) → node_read (bare_node n) ≡ node_read n
+node_read_lem n = rw (edges_read n.secondary)
 
-nodes-read : (ns : List Node) → map nodeRead (map bareNode ns) ≡ map nodeRead ns
-nodes-read [] = refl
-nodes-read (n ∷ ns) = ap₂ (λ (m : NodeContent) (ms : List NodeContent). m ∷ ms) (node-read n) (nodes-read ns)
+nodes_read : (ns : List Node) → map node_read (map bare_node ns) ≡ map node_read ns
+nodes_read [] = refl
+nodes_read (n ∷ ns) = ap₂ (λ (m : NodeContent) (ms : List NodeContent). m ∷ ms) (node_read_lem n) (nodes_read ns)
 
 -- ---- tables
 
-abbrev id1Of : RowContent → ℕ
-id1Of r = r.id1
+abbrev id1_of : RowContent → ℕ
+id1_of r = r.id1
 
-rows-by-id : (rs : List Row) → Distinct rowId rs → ByRising id1Of (map rowRead rs) (map rowRead (map bareRow (sorted rowId rs)))
-rows-by-id rs d =
-    subst (ByRising id1Of (map rowRead rs)) (sym (rows-read (sorted rowId rs))) (mapped-by-rising rowId id1Of rowRead (λ r. refl) rs d)
+rows_by_id : (rs : List Row) → Distinct row_id rs → ByRising id1_of (map row_read rs) (map row_read (map bare_row (sorted row_id rs)))
+rows_by_id rs d =
+    subst (ByRising id1_of (map row_read rs)) (sym (rows_read (sorted row_id rs))) (mapped_by_rising row_id id1_of row_read (λ r. refl) rs d)
 
-origins-by-id : (o : Option (List Row)) → IdsDiffer o → TableOrdered 0 (tableRead o) (tableRead (meantRows (by_id o)))
-origins-by-id none d = tt
-origins-by-id (some rs) d = rows-by-id rs d
+origins_by_id : (o : Option (List Row)) → IdsDiffer o → TableOrdered 0 (table_read o) (table_read (meant_rows (by_id o)))
+origins_by_id none d = tt
+origins_by_id (some rs) d = rows_by_id rs d
 
-editors-by-id : (o : Option (List Row)) → IdsDiffer o → TableOrdered 1 (tableRead o) (tableRead (meantRows (by_id o)))
-editors-by-id none d = tt
-editors-by-id (some rs) d = rows-by-id rs d
+editors_by_id : (o : Option (List Row)) → IdsDiffer o → TableOrdered 1 (table_read o) (table_read (meant_rows (by_id o)))
+editors_by_id none d = tt
+editors_by_id (some rs) d = rows_by_id rs d
 
-tags-ordered : (n : ℕ) (ts : Tables) → TablesOrdered (suc (suc n)) (map tableRead ts) (map tableRead (map meantRows ts))
-tags-ordered n [] = tt
-tags-ordered n (none ∷ ts) = (tt, tags-ordered (suc n) ts)
-tags-ordered n (some rs ∷ ts) = (rw (lt-leb (suc (suc n)) 1 (omega arith)) (rows-read rs), tags-ordered (suc n) ts)
+tags_ordered : (n : ℕ) (ts : Tables) → TablesOrdered (suc (suc n)) (map table_read ts) (map table_read (map meant_rows ts))
+tags_ordered n [] = tt
+tags_ordered n (none ∷ ts) = (tt, tags_ordered (suc n) ts)
+tags_ordered n (some rs ∷ ts) = (rw (lt-leb (suc (suc n)) 1 (omega arith)) (rows_read rs), tags_ordered (suc n) ts)
 
-tables-ordered : (ts : Tables) → TablesDiffer ts → TablesOrdered 0 (map tableRead ts) (map tableRead (meantTables ts))
-tables-ordered [] d = tt
-tables-ordered (o ∷ []) d = (origins-by-id o d.origin-ids, tt)
-tables-ordered (o ∷ e ∷ ts) d = (origins-by-id o d.origin-ids, (editors-by-id e d.editor-ids, tags-ordered 0 ts))
+tables_ordered : (ts : Tables) → TablesDiffer ts → TablesOrdered 0 (map table_read ts) (map table_read (meant_tables ts))
+tables_ordered [] d = tt
+tables_ordered (o ∷ []) d = (origins_by_id o d.origin_ids, tt)
+tables_ordered (o ∷ e ∷ ts) d = (origins_by_id o d.origin_ids, (editors_by_id e d.editor_ids, tags_ordered 0 ts))
 
 -- ---- sentences
 
-abbrev nodeNo : NodeContent → ℕ
-nodeNo n = n.number
+abbrev node_no : NodeContent → ℕ
+node_no n = n.number
 
-abbrev sentenceNo : SentenceContent → ℕ
-sentenceNo s = s.heading.number
+abbrev sentence_no : SentenceContent → ℕ
+sentence_no s = s.heading.number
 
-sentence-ordered : (s : Sentence) → PhrasesDiffer s → SentenceOrdered (sentenceRead s) (sentenceRead (meantSentence s))
-sentence-ordered s d =
+sentence_ordered : (s : Sentence) → PhrasesDiffer s → SentenceOrdered (sentence_read s) (sentence_read (meant_sentence s))
+sentence_ordered s d =
     record {
       heading = refl;
-      words = nodes-read s.words;
+      words = nodes_read s.words;
       phrases =
-          subst (ByRising nodeNo (map nodeRead s.phrases)) (sym (nodes-read (sorted nodeNumber s.phrases)))
-          (mapped-by-rising nodeNumber nodeNo nodeRead (λ n. refl) s.phrases d);
+          subst (ByRising node_no (map node_read s.phrases)) (sym (nodes_read (sorted node_number s.phrases)))
+          (mapped_by_rising node_number node_no node_read (λ n. refl) s.phrases d);
     }
 
 abbrev said_of : Handed → SentenceContent
-said_of h = sentenceRead h.sentence
+said_of h = sentence_read h.sentence
 
-abbrev meantOf : Handed → Sentence
-meantOf h = meantSentence h.sentence
+abbrev meant_of : Handed → Sentence
+meant_of h = meant_sentence h.sentence
 
-each-ordered : (hs : List Handed) → Each (λ (h : Handed). PhrasesDiffer h.sentence) hs
-    → EachWith SentenceOrdered (map said_of hs) (map sentenceRead (map meantOf hs))
-each-ordered [] d = tt
-each-ordered (h ∷ hs) d = (sentence-ordered h.sentence d.0, each-ordered hs d.1)
+each_ordered : (hs : List Handed) → Each (λ (h : Handed). PhrasesDiffer h.sentence) hs
+    → EachWith SentenceOrdered (map said_of hs) (map sentence_read (map meant_of hs))
+each_ordered [] d = tt
+each_ordered (h ∷ hs) d = (sentence_ordered h.sentence d.0, each_ordered hs d.1)
 
 -- ---- what a survey has read, as it means it
 
-abbrev pub tidyContent : Survey → Content
-tidyContent v =
+abbrev pub tidy_content : Survey → Content
+tidy_content v =
     record {
       format = v.format;
-      tables = map tableRead (meantTables v.tables);
-      sentences = map sentenceRead (meantSentences v.handed);
+      tables = map table_read (meant_tables v.tables);
+      sentences = map sentence_read (meant_sentences v.handed);
     }
 
-pub tidy-order : (v : Survey) → NumbersDiffer v → TidyOrder (contentOf v) (tidyContent v)
-tidy-order v d =
+pub tidy_order : (v : Survey) → NumbersDiffer v → TidyOrder (content_of v) (tidy_content v)
+tidy_order v d =
     record {
       format = refl;
-      tables = tables-ordered v.tables d.tables;
-      each = map sentenceRead (map meantOf v.handed);
-      by-phrases = each-ordered v.handed d.phrases;
+      tables = tables_ordered v.tables d.tables;
+      each = map sentence_read (map meant_of v.handed);
+      by_phrases = each_ordered v.handed d.phrases;
       by_number =
-          mapped-by-rising sentenceNumberOf sentenceNo sentenceRead (λ s. refl) (map meantOf v.handed)
-          (distinct-map handedNumber sentenceNumberOf meantOf (λ h. refl) v.handed d.sentences);
+          mapped_by_rising sentence_number_of sentence_no sentence_read (λ s. refl) (map meant_of v.handed)
+          (distinct_map handed_number sentence_number_of meant_of (λ h. refl) v.handed d.sentences);
     }

@@ -8,108 +8,108 @@ use mathlib.Core.List.{List, [], ◌∷◌, ◌++◌}
 use lib.ListN.{length}
 use Rattle.rules.specs.Lists.{pick, every}
 use Rattle.rules.specs.Bytes.{white}
-use Rattle.rules.specs.Texts.{unlessWhite, rightTrim, trimFrom}
-use Rattle.rules.specs.Keywords.{leadingWhite}
+use Rattle.rules.specs.Texts.{unless_white, right_trim, trim_from}
+use Rattle.rules.specs.Keywords.{leading_white}
 use Rattle.rules.proofs.Conjunctions.{and_left, and_right}
 
 -- white bytes at neither end
 pub record Trimmed (n : List ℕ) : Type 0 where
-  pub begins : leadingWhite n ≡ false
-  pub ends : rightTrim n ≡ n
+  pub begins : leading_white n ≡ false
+  pub ends : right_trim n ≡ n
 
-pub trimmed-nothing : Trimmed []
-unfolding rightTrim
-trimmed-nothing = record { begins = refl; ends = refl }
+pub trimmed_nothing : Trimmed []
+unfolding right_trim
+trimmed_nothing = record { begins = refl; ends = refl }
 
 -- ---- one byte
 
-pub trim-white : (at w : ℕ) (n : List ℕ) → white w ≡ true → trimFrom at (w ∷ n) ≡ trimFrom (suc at) n
-unfolding trimFrom
-trim-white at w n e = rw e
+pub trim_white : (at w : ℕ) (n : List ℕ) → white w ≡ true → trim_from at (w ∷ n) ≡ trim_from (suc at) n
+unfolding trim_from
+trim_white at w n e = rw e
 
-pub trim-begun : (at : ℕ) (n : List ℕ) → leadingWhite n ≡ false → (trimFrom at n).bytes ≡ rightTrim n
-unfolding trimFrom rightTrim
-trim-begun at [] e = refl
-trim-begun at (b ∷ bs) e = rw e
+pub trim_begun : (at : ℕ) (n : List ℕ) → leading_white n ≡ false → (trim_from at n).bytes ≡ right_trim n
+unfolding trim_from right_trim
+trim_begun at [] e = refl
+trim_begun at (b ∷ bs) e = rw e
 
-pub trim-trimmed : (at : ℕ) (n : List ℕ) → Trimmed n → (trimFrom at n).bytes ≡ n
-trim-trimmed at n t = trim-begun at n t.begins ∙ t.ends
+pub trim_trimmed : (at : ℕ) (n : List ℕ) → Trimmed n → (trim_from at n).bytes ≡ n
+trim_trimmed at n t = trim_begun at n t.begins ∙ t.ends
 
 -- a white byte at the end goes, whatever stands in front of it
-pub right-trim-white : (n : List ℕ) (w : ℕ) → white w ≡ true → rightTrim (n ++ (w ∷ [])) ≡ rightTrim n
-unfolding rightTrim
-right-trim-white [] w e = rw e
-right-trim-white (b ∷ bs) w e = ap (unlessWhite b) (right-trim-white bs w e)
+pub right_trim_white : (n : List ℕ) (w : ℕ) → white w ≡ true → right_trim (n ++ (w ∷ [])) ≡ right_trim n
+unfolding right_trim
+right_trim_white [] w e = rw e
+right_trim_white (b ∷ bs) w e = ap (unless_white b) (right_trim_white bs w e)
 
 -- ---- what is left
 
-unless-begins : (b : ℕ) (r : List ℕ) → white b ≡ false → leadingWhite (unlessWhite b r) ≡ false
-unless-begins b [] e = rw e (rw e)
-unless-begins b (c ∷ cs) e = e
+unless_begins : (b : ℕ) (r : List ℕ) → white b ≡ false → leading_white (unless_white b r) ≡ false
+unless_begins b [] e = rw e (rw e)
+unless_begins b (c ∷ cs) e = e
 
-right-right : (n : List ℕ) → rightTrim (rightTrim n) ≡ rightTrim n
-unfolding rightTrim
-right-right [] = refl
-right-right (b ∷ bs) = by (rightTrim bs) (white b) refl (right-right bs)
+right_right : (n : List ℕ) → right_trim (right_trim n) ≡ right_trim n
+unfolding right_trim
+right_right [] = refl
+right_right (b ∷ bs) = by (right_trim bs) (white b) refl (right_right bs)
   where
-    by : (r : List ℕ) (t : Bool) → white b ≡ t → rightTrim r ≡ r → rightTrim (unlessWhite b r) ≡ unlessWhite b r
+    by : (r : List ℕ) (t : Bool) → white b ≡ t → right_trim r ≡ r → right_trim (unless_white b r) ≡ unless_white b r
     by [] true e i = rw e
     by [] false e i = rw e (rw e)
-    by (c ∷ cs) t e i = ap (unlessWhite b) i
+    by (c ∷ cs) t e i = ap (unless_white b) i
 
-pub trim-trim : (at : ℕ) (n : List ℕ) → Trimmed (trimFrom at n).bytes
-unfolding trimFrom rightTrim
-trim-trim at [] = trimmed-nothing
-trim-trim at (b ∷ bs) = by (white b) refl (trim-trim (suc at) bs)
+pub trim_trim : (at : ℕ) (n : List ℕ) → Trimmed (trim_from at n).bytes
+unfolding trim_from right_trim
+trim_trim at [] = trimmed_nothing
+trim_trim at (b ∷ bs) = by (white b) refl (trim_trim (suc at) bs)
   where
-    by : (t : Bool) → white b ≡ t → Trimmed (trimFrom (suc at) bs).bytes
-        → Trimmed (pick t (trimFrom (suc at) bs) (record { start = at; bytes = rightTrim (b ∷ bs) })).bytes
+    by : (t : Bool) → white b ≡ t → Trimmed (trim_from (suc at) bs).bytes
+        → Trimmed (pick t (trim_from (suc at) bs) (record { start = at; bytes = right_trim (b ∷ bs) })).bytes
     by true e i = i
-    by false e i = record { begins = unless-begins b (rightTrim bs) e; ends = right-right (b ∷ bs) }
+    by false e i = record { begins = unless_begins b (right_trim bs) e; ends = right_right (b ∷ bs) }
 
 module _ (f : ℕ → Bool) where
-  unless-every : (b : ℕ) (r : List ℕ) → f b ≡ true → every f r ≡ true → every f (unlessWhite b r) ≡ true
-  unless-every b [] e a = by (white b)
+  unless_every : (b : ℕ) (r : List ℕ) → f b ≡ true → every f r ≡ true → every f (unless_white b r) ≡ true
+  unless_every b [] e a = by (white b)
     where
       by : (t : Bool) → every f (pick t [] (b ∷ [])) ≡ true
       by true = refl
       by false = rw e
-  unless-every b (c ∷ cs) e a = rw e a
+  unless_every b (c ∷ cs) e a = rw e a
 
-  right-every : (n : List ℕ) → every f n ≡ true → every f (rightTrim n) ≡ true
-  unfolding rightTrim
-  right-every [] a = refl
-  right-every (b ∷ bs) a = unless-every b (rightTrim bs) (and_left (f b) (every f bs) a) (right-every bs (and_right (f b) (every f bs) a))
+  right_every : (n : List ℕ) → every f n ≡ true → every f (right_trim n) ≡ true
+  unfolding right_trim
+  right_every [] a = refl
+  right_every (b ∷ bs) a = unless_every b (right_trim bs) (and_left (f b) (every f bs) a) (right_every bs (and_right (f b) (every f bs) a))
 
-  pub trim-every : (at : ℕ) (n : List ℕ) → every f n ≡ true → every f (trimFrom at n).bytes ≡ true
-  unfolding trimFrom
-  trim-every at [] a = refl
-  trim-every at (b ∷ bs) a = by (white b) (trim-every (suc at) bs (and_right (f b) (every f bs) a))
+  pub trim_every : (at : ℕ) (n : List ℕ) → every f n ≡ true → every f (trim_from at n).bytes ≡ true
+  unfolding trim_from
+  trim_every at [] a = refl
+  trim_every at (b ∷ bs) a = by (white b) (trim_every (suc at) bs (and_right (f b) (every f bs) a))
     where
-      by : (t : Bool) → every f (trimFrom (suc at) bs).bytes ≡ true
-          → every f (pick t (trimFrom (suc at) bs) (record { start = at; bytes = rightTrim (b ∷ bs) })).bytes ≡ true
+      by : (t : Bool) → every f (trim_from (suc at) bs).bytes ≡ true
+          → every f (pick t (trim_from (suc at) bs) (record { start = at; bytes = right_trim (b ∷ bs) })).bytes ≡ true
       by true i = i
-      by false i = right-every (b ∷ bs) a
+      by false i = right_every (b ∷ bs) a
 
-unless-length : (b : ℕ) (r : List ℕ) → length (unlessWhite b r) ≤ suc (length r)
-unless-length b [] = by (white b)
+unless_length : (b : ℕ) (r : List ℕ) → length (unless_white b r) ≤ suc (length r)
+unless_length b [] = by (white b)
   where
     by : (t : Bool) → length (pick t [] (b ∷ [])) ≤ 1
     by true = omega arith
     by false = omega arith
-unless-length b (c ∷ cs) = omega arith
+unless_length b (c ∷ cs) = omega arith
 
-pub right-length : (n : List ℕ) → length (rightTrim n) ≤ length n
-unfolding rightTrim
-right-length [] = omega arith
-right-length (b ∷ bs) = omega (arith, unless-length b (rightTrim bs), right-length bs)
+pub right_length : (n : List ℕ) → length (right_trim n) ≤ length n
+unfolding right_trim
+right_length [] = omega arith
+right_length (b ∷ bs) = omega (arith, unless_length b (right_trim bs), right_length bs)
 
-pub trim-length : (at : ℕ) (n : List ℕ) → length (trimFrom at n).bytes ≤ length n
-unfolding trimFrom
-trim-length at [] = omega arith
-trim-length at (b ∷ bs) = by (white b) (trim-length (suc at) bs)
+pub trim_length : (at : ℕ) (n : List ℕ) → length (trim_from at n).bytes ≤ length n
+unfolding trim_from
+trim_length at [] = omega arith
+trim_length at (b ∷ bs) = by (white b) (trim_length (suc at) bs)
   where
-    by : (t : Bool) → length (trimFrom (suc at) bs).bytes ≤ length bs
-        → length (pick t (trimFrom (suc at) bs) (record { start = at; bytes = rightTrim (b ∷ bs) })).bytes ≤ suc (length bs)
+    by : (t : Bool) → length (trim_from (suc at) bs).bytes ≤ length bs
+        → length (pick t (trim_from (suc at) bs) (record { start = at; bytes = right_trim (b ∷ bs) })).bytes ≤ suc (length bs)
     by true i = omega arith
-    by false i = right-length (b ∷ bs)
+    by false i = right_length (b ∷ bs)

@@ -12,82 +12,82 @@ use lib.Dec.{leb, eqb}
 use borrow.Author.Tests.{eq-eqb, ne_eqb, eqb-true, le-leb, leb-true}
 use Rattle.rules.specs.Lists.{pick}
 use Rattle.rules.specs.Sheets.{EdgeRecord}
-use Rattle.rules.specs.Survey.{surveyOf, afterSurvey, fileFits}
+use Rattle.rules.specs.Survey.{survey_of, after_survey, file_fits}
 use Rattle.rules.specs.Opening.{all_fit}
 use Rattle.rules.specs.Same.{SameTables, SameSentences}
-use Rattle.rules.specs.Writing.{tidyOf, Written, WritingOutcome, writingAnswer, outputAfter, afterWriting}
+use Rattle.rules.specs.Writing.{tidy_of, Written, WritingOutcome, writing_answer, output_after, after_writing}
 use Rattle.rules.specs.LentBuffers.{AllSized, WithinLimit}
 use Rattle.rules.specs.WritingRule.{HasRoom, BuffersAfter, GrantedWriting, WritingRule}
-use Rattle.rules.proofs.Conjunctions.{and_left, and_right, and_both, false-if-never}
+use Rattle.rules.proofs.Conjunctions.{and_left, and_right, and_both, false_if_never}
 use Rattle.rules.proofs.SaidOfLists.{never_both}
 use Rattle.rules.proofs.RoundTrip.{round_trip}
-use Rattle.rules.proofs.Sizes.{sheets-fit, all-fit, all-misfit, within-fits, long-misfits}
+use Rattle.rules.proofs.Sizes.{sheets_fit_lem, all_fit_lem, all_misfit, within_fits, long_misfits}
 
 -- ---- the tests
 
 module _ (file output : List ℕ) where
   abbrev size : ℕ
-  size = length (tidyOf file)
+  size = length (tidy_of file)
 
   abbrev roomy : Bool
   roomy = leb size (length output) && leb size 268435456
 
-  room-test : HasRoom file output → roomy ≡ true
-  room-test h = and_both (leb size (length output)) (leb size 268435456) (le-leb size (length output) h.in-output) (le-leb size 268435456 h.in-limit)
+  room_test : HasRoom file output → roomy ≡ true
+  room_test h = and_both (leb size (length output)) (leb size 268435456) (le-leb size (length output) h.in_output) (le-leb size 268435456 h.in_limit)
 
-  test-room : roomy ≡ true → HasRoom file output
-  test-room e =
+  test_room : roomy ≡ true → HasRoom file output
+  test_room e =
       record {
-        in-output = leb-true size (length output) (and_left (leb size (length output)) (leb size 268435456) e);
-        in-limit = leb-true size 268435456 (and_right (leb size (length output)) (leb size 268435456) e);
+        in_output = leb-true size (length output) (and_left (leb size (length output)) (leb size 268435456) e);
+        in_limit = leb-true size 268435456 (and_right (leb size (length output)) (leb size 268435456) e);
       }
 
   -- ---- the answer to a file within the limit
 
-  answer-granted : (surveyOf file).refusal ≡ 0 → HasRoom file output → writingAnswer file output ≡ record { refusal = 0; place = length file; written = size }
-  answer-granted e h = rw (eq-eqb (surveyOf file).refusal 0 e, room-test h)
+  answer_granted : (survey_of file).refusal ≡ 0 → HasRoom file output → writing_answer file output ≡ record { refusal = 0; place = length file; written = size }
+  answer_granted e h = rw (eq-eqb (survey_of file).refusal 0 e, room_test h)
 
-  answer-no-room : (surveyOf file).refusal ≡ 0 → (HasRoom file output → ⊥) → writingAnswer file output ≡ record { refusal = 25; place = length file; written = 0 }
-  answer-no-room e h = rw (eq-eqb (surveyOf file).refusal 0 e, false-if-never roomy (λ t. h (test-room t)))
+  answer_no_room : (survey_of file).refusal ≡ 0 → (HasRoom file output → ⊥) → writing_answer file output ≡ record { refusal = 25; place = length file; written = 0 }
+  answer_no_room e h = rw (eq-eqb (survey_of file).refusal 0 e, false_if_never roomy (λ t. h (test_room t)))
 
-  answer-refused : ((surveyOf file).refusal ≡ 0 → ⊥) → writingAnswer file output ≡ record { refusal = (surveyOf file).refusal; place = (surveyOf file).place; written = 0 }
-  answer-refused e = rw (ne_eqb (surveyOf file).refusal 0 e)
+  answer_refused : ((survey_of file).refusal ≡ 0 → ⊥) → writing_answer file output ≡ record { refusal = (survey_of file).refusal; place = (survey_of file).place; written = 0 }
+  answer_refused e = rw (ne_eqb (survey_of file).refusal 0 e)
 
-  granted-why : (writingAnswer file output).refusal ≡ 0 → ((surveyOf file).refusal ≡ 0) × HasRoom file output
-  granted-why z = by (eqb (surveyOf file).refusal 0) refl roomy refl z
+  granted_why : (writing_answer file output).refusal ≡ 0 → ((survey_of file).refusal ≡ 0) × HasRoom file output
+  granted_why z = by (eqb (survey_of file).refusal 0) refl roomy refl z
     where
-      by : (t : Bool) → eqb (surveyOf file).refusal 0 ≡ t → (u : Bool) → roomy ≡ u
+      by : (t : Bool) → eqb (survey_of file).refusal 0 ≡ t → (u : Bool) → roomy ≡ u
           → (pick {X = Written} t (pick u (record { refusal = 0; place = length file; written = size }) (record { refusal = 25; place = length file; written = 0 }))
-          (record { refusal = (surveyOf file).refusal; place = (surveyOf file).place; written = 0 })).refusal ≡ 0
-          → ((surveyOf file).refusal ≡ 0) × HasRoom file output
-      by true e true f z = (eqb-true (surveyOf file).refusal 0 e, test-room f)
+          (record { refusal = (survey_of file).refusal; place = (survey_of file).place; written = 0 })).refusal ≡ 0
+          → ((survey_of file).refusal ≡ 0) × HasRoom file output
+      by true e true f z = (eqb-true (survey_of file).refusal 0 e, test_room f)
       by true e false f z = absurd (omega (arith, z))
-      by false e u f z = absurd (never_both (eqb (surveyOf file).refusal 0) (eq-eqb (surveyOf file).refusal 0 z) e)
+      by false e u f z = absurd (never_both (eqb (survey_of file).refusal 0) (eq-eqb (survey_of file).refusal 0 z) e)
 
-  output-granted : (writingAnswer file output).refusal ≡ 0 → outputAfter file output ≡ tidyOf file ++ drop size output
-  output-granted z = rw (eq-eqb (writingAnswer file output).refusal 0 z)
+  output_granted : (writing_answer file output).refusal ≡ 0 → output_after file output ≡ tidy_of file ++ drop size output
+  output_granted z = rw (eq-eqb (writing_answer file output).refusal 0 z)
 
-  output-refused : ((writingAnswer file output).refusal ≡ 0 → ⊥) → outputAfter file output ≡ output
-  output-refused z = rw (ne_eqb (writingAnswer file output).refusal 0 z)
+  output_refused : ((writing_answer file output).refusal ≡ 0 → ⊥) → output_after file output ≡ output
+  output_refused z = rw (ne_eqb (writing_answer file output).refusal 0 z)
 
   -- the first bytes are the text, and the round trip reads them back
-  granted-writing : (o : WritingOutcome) → o.answer ≡ writingAnswer file output → o.output ≡ outputAfter file output → o.answer.refusal ≡ 0 → GrantedWriting file output o
-  granted-writing o a b z =
-      let zero : (writingAnswer file output).refusal ≡ 0 = sym (ap (λ (w : Written). w.refusal) a) ∙ z in
-      let why = granted-why zero in
-      let answer = a ∙ answer-granted why.0 why.1 in
-      let length-is : o.answer.written ≡ size = ap (λ (w : Written). w.written) answer in
-      let filled : o.output ≡ tidyOf file ++ drop size output = b ∙ output-granted zero in
-      let text : take o.answer.written o.output ≡ tidyOf file =
-      ap (λ (n : ℕ). take n o.output) length-is ∙ ap (take size) filled ∙ take-append_seam (tidyOf file) (drop size output) in
-      let back = round_trip file why.0 why.1.in-limit in
+  granted_writing : (o : WritingOutcome) → o.answer ≡ writing_answer file output → o.output ≡ output_after file output → o.answer.refusal ≡ 0 → GrantedWriting file output o
+  granted_writing o a b z =
+      let zero : (writing_answer file output).refusal ≡ 0 = sym (ap (λ (w : Written). w.refusal) a) ∙ z in
+      let why = granted_why zero in
+      let answer = a ∙ answer_granted why.0 why.1 in
+      let length_is : o.answer.written ≡ size = ap (λ (w : Written). w.written) answer in
+      let filled : o.output ≡ tidy_of file ++ drop size output = b ∙ output_granted zero in
+      let text : take o.answer.written o.output ≡ tidy_of file =
+      ap (λ (n : ℕ). take n o.output) length_is ∙ ap (take size) filled ∙ take-append_seam (tidy_of file) (drop size output) in
+      let back = round_trip file why.0 why.1.in_limit in
       record {
         place = ap (λ (w : Written). w.place) answer;
-        written = length-is;
+        written = length_is;
         text = text;
-        rest = ap (λ (n : ℕ). drop n o.output) length-is ∙ ap (drop size) filled ∙ drop-append_seam (tidyOf file) (drop size output) ∙ ap (λ (n : ℕ). drop n output) (sym length-is);
-        size = ap length filled ∙ length-append (tidyOf file) (drop size output) ∙ (let d = length-drop size output in let g : size + length (drop size output) ≡ length output = omega (arith, why.1.in-output) in g);
-        accepted = ap (λ (l : List ℕ). (surveyOf l).refusal) text ∙ back.0;
+        rest = ap (λ (n : ℕ). drop n o.output) length_is ∙ ap (drop size) filled ∙ drop-append_seam (tidy_of file) (drop size output) ∙ ap (λ (n : ℕ). drop n output) (sym length_is);
+        size = ap length filled ∙ length-append (tidy_of file) (drop size output) ∙ (let d = length-drop size output in let g : size + length (drop size output) ≡ length output = omega (arith, why.1.in_output) in g);
+        accepted = ap (λ (l : List ℕ). (survey_of l).refusal) text ∙ back.0;
         tables = subst (λ (l : List ℕ). SameTables l file) (sym text) back.1.tables;
         sentences = subst (λ (l : List ℕ). SameSentences l file) (sym text) back.1.sentences;
       }
@@ -96,72 +96,72 @@ module _ (file output : List ℕ) where
 
 module _ (file tables seen sheet : List ℕ) (edges : List EdgeRecord) (output : List ℕ) where
   abbrev after : WritingOutcome
-  after = afterWriting file tables seen sheet edges output
+  after = after_writing file tables seen sheet edges output
 
   module _ (s : AllSized tables seen sheet edges) (h : WithinLimit file) where
-    answers : after.answer ≡ writingAnswer file output
-    unfolding afterWriting
-    answers = rw (all-fit tables seen sheet edges s, within-fits file h)
+    answers : after.answer ≡ writing_answer file output
+    unfolding after_writing
+    answers = rw (all_fit_lem tables seen sheet edges s, within_fits file h)
 
-    buffers-after : BuffersAfter file tables seen after
-    unfolding afterWriting afterSurvey
-    buffers-after =
+    buffers_after : BuffersAfter file tables seen after
+    unfolding after_writing after_survey
+    buffers_after =
         record {
-          table-sheet = rw (all-fit tables seen sheet edges s, within-fits file h, sheets-fit tables seen s.sheets);
-          seen-set = rw (all-fit tables seen sheet edges s, within-fits file h, sheets-fit tables seen s.sheets);
-          sentence-sheet = rw (all-fit tables seen sheet edges s, within-fits file h);
-          edge-list = rw (all-fit tables seen sheet edges s, within-fits file h);
+          table_sheet_lem = rw (all_fit_lem tables seen sheet edges s, within_fits file h, sheets_fit_lem tables seen s.sheets);
+          seen_set_lem = rw (all_fit_lem tables seen sheet edges s, within_fits file h, sheets_fit_lem tables seen s.sheets);
+          sentence_sheet_lem = rw (all_fit_lem tables seen sheet edges s, within_fits file h);
+          edge_list_lem = rw (all_fit_lem tables seen sheet edges s, within_fits file h);
         }
 
-    exactly-then : (after.answer.refusal ≡ 0) ↔ (((surveyOf file).refusal ≡ 0) × HasRoom file output)
-    exactly-then =
-        (λ z. granted-why file output (sym (ap (λ (w : Written). w.refusal) answers) ∙ z), λ k. ap (λ (w : Written). w.refusal) (answers ∙ answer-granted file output k.0 k.1))
+    exactly_then : (after.answer.refusal ≡ 0) ↔ (((survey_of file).refusal ≡ 0) × HasRoom file output)
+    exactly_then =
+        (λ z. granted_why file output (sym (ap (λ (w : Written). w.refusal) answers) ∙ z), λ k. ap (λ (w : Written). w.refusal) (answers ∙ answer_granted file output k.0 k.1))
 
   -- refused by 1 or by 2, with the output as lent, or answered
   record Answered (o : WritingOutcome) : Type 0 where
-    pub answer : o.answer ≡ writingAnswer file output
-    pub left : o.output ≡ outputAfter file output
+    pub answer : o.answer ≡ writing_answer file output
+    pub left : o.output ≡ output_after file output
 
   record Shut (o : WritingOutcome) : Type 0 where
     pub refusal : o.answer.refusal ≡ 0 → ⊥
     pub left : o.output ≡ output
 
   either_way : Answered after ⊎ Shut after
-  unfolding afterWriting
-  either_way = by (all_fit tables seen sheet edges) refl (fileFits file) refl
+  unfolding after_writing
+  either_way = by (all_fit tables seen sheet edges) refl (file_fits file) refl
     where
       one : (n : ℕ) → 1 ≤ n → n ≡ 0 → ⊥
       one n h e = omega arith
 
-      by : (t : Bool) → all_fit tables seen sheet edges ≡ t → (u : Bool) → fileFits file ≡ u → Answered after ⊎ Shut after
+      by : (t : Bool) → all_fit tables seen sheet edges ≡ t → (u : Bool) → file_fits file ≡ u → Answered after ⊎ Shut after
       by true e true f = inl (record { answer = rw (e, f); left = rw (e, f) })
       by true e false f = inr (record { refusal = λ z. one 2 (omega arith) (rw (e, f) at z); left = rw (e, f) })
       by false e u f = inr (record { refusal = λ z. one 1 (omega arith) (rw e at z); left = rw e })
 
-  granted-then : after.answer.refusal ≡ 0 → GrantedWriting file output after
-  granted-then z = by either_way
+  granted_then : after.answer.refusal ≡ 0 → GrantedWriting file output after
+  granted_then z = by either_way
     where
       by : Answered after ⊎ Shut after → GrantedWriting file output after
-      by (inl a) = granted-writing file output after a.answer a.left z
+      by (inl a) = granted_writing file output after a.answer a.left z
       by (inr b) = absurd (b.refusal z)
 
-  untouched-else : (after.answer.refusal ≡ 0 → ⊥) → after.output ≡ output
-  untouched-else z = by either_way
+  untouched_else : (after.answer.refusal ≡ 0 → ⊥) → after.output ≡ output
+  untouched_else z = by either_way
     where
       by : Answered after ⊎ Shut after → after.output ≡ output
-      by (inl a) = a.left ∙ output-refused file output (λ y. z (ap (λ (w : Written). w.refusal) a.answer ∙ y))
+      by (inl a) = a.left ∙ output_refused file output (λ y. z (ap (λ (w : Written). w.refusal) a.answer ∙ y))
       by (inr b) = b.left
 
-  pub written-exactly : WritingRule file tables seen sheet edges output (afterWriting file tables seen sheet edges output)
-  unfolding afterWriting
-  written-exactly =
+  pub written_exactly : WritingRule file tables seen sheet edges output (after_writing file tables seen sheet edges output)
+  unfolding after_writing
+  written_exactly =
       record {
-        wrong_size = λ other. rw (all-misfit tables seen sheet edges other);
-        too_long = λ s h. rw (all-fit tables seen sheet edges s, long-misfits file h);
-        buffers = buffers-after;
-        exactly = exactly-then;
-        granted = granted-then;
-        no_room = λ s h e r. answers s h ∙ answer-no-room file output e r;
-        refused = λ s h e. answers s h ∙ answer-refused file output e;
-        untouched = untouched-else;
+        wrong_size = λ other. rw (all_misfit tables seen sheet edges other);
+        too_long = λ s h. rw (all_fit_lem tables seen sheet edges s, long_misfits file h);
+        buffers = buffers_after;
+        exactly = exactly_then;
+        granted = granted_then;
+        no_room = λ s h e r. answers s h ∙ answer_no_room file output e r;
+        refused = λ s h e. answers s h ∙ answer_refused file output e;
+        untouched = untouched_else;
       }

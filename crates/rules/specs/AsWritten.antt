@@ -4,14 +4,14 @@ use Rattle.std.specs.Prelude.{ℕ, zero, suc, ◌+◌, ◌≡◌, ◌⊎◌, Lis
 use Rattle.std.proofs.Math.Option.{none, some}
 use Rattle.rules.specs.Lists.{bytes, joined, counting, Each}
 use Rattle.rules.specs.Bytes.{percents}
-use Rattle.rules.specs.Texts.{noText}
+use Rattle.rules.specs.Texts.{no_text}
 use Rattle.rules.specs.Tables.{Tables, Row}
 use Rattle.rules.specs.Sentences.{Edge, Node, Heading}
 use Rattle.rules.specs.Reading.{Handed}
-use Rattle.rules.specs.Survey.{surveyOf}
-use Rattle.rules.specs.Tidy.{digitsOf, idDigits}
+use Rattle.rules.specs.Survey.{survey_of}
+use Rattle.rules.specs.Tidy.{digits_of, id_digits}
 use Rattle.rules.specs.Refusals.{OneLine}
-use Rattle.rules.specs.GrammarLines.{White, linesWritten, Heeded}
+use Rattle.rules.specs.GrammarLines.{White, lines_written, Heeded}
 use Rattle.rules.specs.GrammarColumns.{Begins, Columns, Stripped, NameAndNote}
 use Rattle.rules.specs.GrammarTables.{Names}
 
@@ -27,22 +27,22 @@ pub record LineSaid (l : List ℕ) (cs : List (List ℕ)) (text : List ℕ) : Ty
 -- #BOS number editor date origin, and a comment
 pub record HeadSaid (h : Heading) (l : List ℕ) : Type 0 where
   pub rest : List ℕ
-  pub columns : Begins l (bytes "#BOS" ∷ digitsOf h.number ∷ idDigits h.editor1 ∷ digitsOf h.date ∷ digitsOf h.origin ∷ []) rest
+  pub columns : Begins l (bytes "#BOS" ∷ digits_of h.number ∷ id_digits h.editor1 ∷ digits_of h.date ∷ digits_of h.origin ∷ []) rest
   pub comment : LineSaid rest [] h.comment.bytes
 
 -- tag, morphology, edge, parent, then pairs of secondary label and secondary parent
-abbrev pub columnsBehind : Node → List (List ℕ)
-columnsBehind n =
-    n.tag.bytes ∷ n.morphology.bytes ∷ n.edge.bytes ∷ digitsOf n.parent
-    ∷ joined (map (λ (e : Edge). e.label.bytes ∷ digitsOf e.parent ∷ []) n.secondary)
+abbrev pub columns_behind : Node → List (List ℕ)
+columns_behind n =
+    n.tag.bytes ∷ n.morphology.bytes ∷ n.edge.bytes ∷ digits_of n.parent
+    ∷ joined (map (λ (e : Edge). e.label.bytes ∷ digits_of e.parent ∷ []) n.secondary)
 
 abbrev pub WordSaid : Node → List ℕ → Type 0
-WordSaid n l = LineSaid l (n.word.bytes ∷ columnsBehind n) n.comment.bytes
+WordSaid n l = LineSaid l (n.word.bytes ∷ columns_behind n) n.comment.bytes
 
 -- # with its number at once after it
 pub record PhraseSaid (n : Node) (l : List ℕ) : Type 0 where
-  pub no_word : n.word ≡ noText
-  pub columns : LineSaid l ((35 ∷ digitsOf n.number) ∷ columnsBehind n) n.comment.bytes
+  pub no_word : n.word ≡ no_text
+  pub columns : LineSaid l ((35 ∷ digits_of n.number) ∷ columns_behind n) n.comment.bytes
 
 -- ---- a sentence
 
@@ -59,32 +59,32 @@ pub record SentenceSaid (file : List ℕ) (h : Handed) : Type 0 where
   pub front : List ℕ
   pub lines : List (List ℕ)
   pub back : List ℕ
-  pub parts : file ≡ front ++ (linesWritten lines ++ back)
+  pub parts : file ≡ front ++ (lines_written lines ++ back)
   pub each_line : Each OneLine lines
   pub start : h.sentence.start ≡ length front
-  pub end : h.end ≡ length front + length (linesWritten lines)
+  pub end : h.end ≡ length front + length (lines_written lines)
   pub head : List ℕ
   pub words : List (List ℕ)
   pub phrases : List (List ℕ)
   pub last : List ℕ
   pub heeded : Heeded lines ((head ∷ (words ++ phrases)) ++ (last ∷ []))
-  pub its-head : HeadSaid h.sentence.heading head
-  pub its-words : EachWith WordSaid h.sentence.words words
+  pub its_head : HeadSaid h.sentence.heading head
+  pub its_words : EachWith WordSaid h.sentence.words words
   pub counted : map (λ (n : Node). n.number) h.sentence.words ≡ counting 0 (length h.sentence.words)
-  pub its-phrases : EachWith PhraseSaid h.sentence.phrases phrases
-  pub its-end : Columns last (bytes "#EOS" ∷ digitsOf h.sentence.heading.number ∷ [])
+  pub its_phrases : EachWith PhraseSaid h.sentence.phrases phrases
+  pub its_end : Columns last (bytes "#EOS" ∷ digits_of h.sentence.heading.number ∷ [])
 
 -- ---- the lines of a table
 
 -- id, name, which ends at the first two adjacent percent signs, and a comment behind them
 pub record OriginSaid (r : Row) (l : List ℕ) : Type 0 where
   pub rest : List ℕ
-  pub columns : Begins l (idDigits r.id1 ∷ []) rest
+  pub columns : Begins l (id_digits r.id1 ∷ []) rest
   pub name : List ℕ
   pub note : List ℕ
   pub parted : NameAndNote rest name note
-  pub its-name : Stripped name r.first.bytes
-  pub its-note : Stripped note r.second.bytes
+  pub its_name : Stripped name r.first.bytes
+  pub its_note : Stripped note r.second.bytes
   pub flag : r.flag ≡ 0
 
 -- id, tag or login, for WORDTAG a flag, which is 1 for Y, and the rest of the line
@@ -95,7 +95,7 @@ FlagSaid n flag cs =
 pub record TagSaid (n : ℕ) (r : Row) (l : List ℕ) : Type 0 where
   pub flags : List (List ℕ)
   pub rest : List ℕ
-  pub columns : Begins l (idDigits r.id1 ∷ r.first.bytes ∷ flags) rest
+  pub columns : Begins l (id_digits r.id1 ∷ r.first.bytes ∷ flags) rest
   pub flag : FlagSaid n r.flag flags
   pub description : Stripped rest r.second.bytes
 
@@ -109,15 +109,15 @@ pub record TableSaid (file : List ℕ) (n : ℕ) (rs : List Row) : Type 0 where
   pub front : List ℕ
   pub lines : List (List ℕ)
   pub back : List ℕ
-  pub parts : file ≡ front ++ (linesWritten lines ++ back)
+  pub parts : file ≡ front ++ (lines_written lines ++ back)
   pub each_line : Each OneLine lines
   pub bot : List ℕ
   pub rows : List (List ℕ)
   pub eot : List ℕ
   pub heeded : Heeded lines ((bot ∷ rows) ++ (eot ∷ []))
-  pub its-bot : Names (bytes "#BOT") n bot
-  pub its-rows : EachWith (TableRowSaid n) rs rows
-  pub its-eot : Names (bytes "#EOT") n eot
+  pub its_bot : Names (bytes "#BOT") n bot
+  pub its_rows : EachWith (TableRowSaid n) rs rows
+  pub its_eot : Names (bytes "#EOT") n eot
 
 -- the tables from the n-th on
 abbrev pub TablesSaid : List ℕ → ℕ → Tables → Type 0
@@ -128,5 +128,5 @@ TablesSaid file n (some rs ∷ ts) = TableSaid file n rs × TablesSaid file (suc
 -- ---- all that is handed out
 
 pub record AsWritten (file : List ℕ) : Type 0 where
-  pub tables : TablesSaid file 0 (surveyOf file).tables
-  pub sentences : Each (SentenceSaid file) (surveyOf file).handed
+  pub tables : TablesSaid file 0 (survey_of file).tables
+  pub sentences : Each (SentenceSaid file) (survey_of file).handed

@@ -5,10 +5,10 @@ use Rattle.std.specs.Prelude.{ℕ, ◌≤◌, ◌<◌, ◌≡◌, ◌⊎◌, tru
 use Rattle.std.proofs.Math.Option.{none, some}
 use Rattle.rules.specs.Lists.{Each}
 use Rattle.rules.specs.Sentences.{Edge, Node, Sentence, listed}
-use Rattle.rules.specs.Sheets.{nodes, sentenceSheet}
-use Rattle.rules.specs.Climbing.{parent_in, parentOn, EveryChainClimbs}
+use Rattle.rules.specs.Sheets.{nodes, sentence_sheet}
+use Rattle.rules.specs.Climbing.{parent_in, parent_on, EveryChainClimbs}
 use Rattle.rules.specs.Places.{SentenceLies}
-use Rattle.rules.specs.SentenceFrom.{sentenceFrom}
+use Rattle.rules.specs.SentenceFrom.{sentence_from}
 use Rattle.rules.specs.AsWritten.{SentenceSaid}
 
 -- a phrase of the sentence, with a larger number than the node's
@@ -31,7 +31,7 @@ pub record BeginsThere (file : List ℕ) (at : ℕ) (s : Sentence) : Type 0 wher
   pub lies : SentenceLies file s
   pub parents : Each (ParentsStand s) (nodes s)
   pub climbs : EveryChainClimbs s (parent_in s)
-  pub climbs-on-sheet : EveryChainClimbs s (parentOn (sentenceSheet s))
+  pub climbs_on_sheet : EveryChainClimbs s (parent_on (sentence_sheet s))
   -- of the file's first n bytes, with any bytes behind them; with none behind
-  pub kept : (n : ℕ) (x : List ℕ) → end ≤ n → sentenceFrom (take n file ++ x) at ≡ some s
-  pub lost : (n : ℕ) → n < end → sentenceFrom (take n file) at ≡ none
+  pub kept : (n : ℕ) (x : List ℕ) → end ≤ n → sentence_from (take n file ++ x) at ≡ some s
+  pub lost : (n : ℕ) → n < end → sentence_from (take n file) at ≡ none

@@ -17,25 +17,25 @@ abbrev pub legal : ℕ → Bool
 legal b = eqb b 9 || between 32 127 b || between 160 255 b
 
 -- the byte classes: illegal (byte 10 included), white, digit, other
-abbrev pub illegalClass : ℕ
-illegalClass = 0
+abbrev pub illegal_class : ℕ
+illegal_class = 0
 
-abbrev pub whiteClass : ℕ
-whiteClass = 1
+abbrev pub white_class : ℕ
+white_class = 1
 
-abbrev pub digitClass : ℕ
-digitClass = 2
+abbrev pub digit_class : ℕ
+digit_class = 2
 
-abbrev pub otherClass : ℕ
-otherClass = 3
+abbrev pub other_class : ℕ
+other_class = 3
 
 unfoldable pub class_of : ℕ → ℕ
-class_of b = pick (white b) whiteClass (pick (digit b) digitClass (pick (legal b) otherClass illegalClass))
+class_of b = pick (white b) white_class (pick (digit b) digit_class (pick (legal b) other_class illegal_class))
 
 -- the class of every byte from 0 to 255
-unfoldable pub classTable : List ℕ
+unfoldable pub class_table : List ℕ
 unfolding class_of
-classTable = map class_of (counting 0 256)
+class_table = map class_of (counting 0 256)
 
 -- two percent signs
 abbrev pub percents : List ℕ

@@ -2,9 +2,9 @@
 -- its sheet (document 01, "The file from top to bottom" and "The sheets").
 use Rattle.std.specs.Prelude.{ℕ, zero, suc, ◌≤◌, ◌<◌, ◌≡◌, ◌⊎◌, true, List, [], ◌∷◌, length, get_or, eqb}
 use Rattle.rules.specs.Lists.{pick, every, Each}
-use Rattle.rules.specs.Tables.{Tables, wordTags, morphTags, nodeTags, edgeTags, secEdgeTags, known}
-use Rattle.rules.specs.Sentences.{Edge, Node, Sentence, knownEditor, knownOrigin, listed}
-use Rattle.rules.specs.SheetFields.{fieldPlace, parentPlace}
+use Rattle.rules.specs.Tables.{Tables, word_tags, morph_tags, node_tags, edge_tags, sec_edge_tags, known}
+use Rattle.rules.specs.Sentences.{Edge, Node, Sentence, known_editor, known_origin, listed}
+use Rattle.rules.specs.SheetFields.{field_place, parent_place}
 use Rattle.rules.specs.Sheets.{nodes}
 
 -- ---- references
@@ -14,29 +14,29 @@ pub record NodeResolves (ts : Tables) (tags : ℕ) (phrases : List Node) (n : No
   pub parent : (n.parent ≡ 0) ⊎ (listed phrases n.parent ≡ true)
   pub secondary : every (λ (e : Edge). listed phrases e.parent) n.secondary ≡ true
   pub tag : known ts tags n.tag ≡ true
-  pub morphology : known ts morphTags n.morphology ≡ true
-  pub edge : known ts edgeTags n.edge ≡ true
-  pub labels : every (λ (e : Edge). known ts secEdgeTags e.label) n.secondary ≡ true
+  pub morphology : known ts morph_tags n.morphology ≡ true
+  pub edge : known ts edge_tags n.edge ≡ true
+  pub labels : every (λ (e : Edge). known ts sec_edge_tags e.label) n.secondary ≡ true
 
 pub record Resolves (ts : Tables) (s : Sentence) : Type 0 where
-  pub editor : knownEditor ts s.heading.editor1 ≡ true
-  pub origin : knownOrigin ts s.heading.origin ≡ true
-  pub words : Each (NodeResolves ts wordTags s.phrases) s.words
-  pub phrases : Each (NodeResolves ts nodeTags s.phrases) s.phrases
+  pub editor : known_editor ts s.heading.editor1 ≡ true
+  pub origin : known_origin ts s.heading.origin ≡ true
+  pub words : Each (NodeResolves ts word_tags s.phrases) s.words
+  pub phrases : Each (NodeResolves ts node_tags s.phrases) s.phrases
 
 -- ---- chains of parents
 
 -- the parent that the node of a number has, 0 for a number that no node has
-abbrev pub parentAmong : List Node → ℕ → ℕ
-parentAmong [] k = 0
-parentAmong (n ∷ ns) k = let later = parentAmong ns k in pick (eqb n.number k) n.parent later
+abbrev pub parent_among : List Node → ℕ → ℕ
+parent_among [] k = 0
+parent_among (n ∷ ns) k = let later = parent_among ns k in pick (eqb n.number k) n.parent later
 
 abbrev pub parent_in : Sentence → ℕ → ℕ
-parent_in s n = parentAmong (nodes s) n
+parent_in s n = parent_among (nodes s) n
 
 -- the parent that the sentence sheet has for a number
-abbrev pub parentOn : List ℕ → ℕ → ℕ
-parentOn sheet n = get_or sheet (fieldPlace parentPlace n) 0
+abbrev pub parent_on : List ℕ → ℕ → ℕ
+parent_on sheet n = get_or sheet (field_place parent_place n) 0
 
 -- so many steps up from a number
 abbrev pub climbed : (ℕ → ℕ) → ℕ → ℕ → ℕ

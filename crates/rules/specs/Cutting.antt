@@ -3,33 +3,33 @@
 use Rattle.std.specs.Prelude.{ℕ, ◌≡◌, ◌⊎◌, Bool, List, [], ◌∷◌, ◌++◌, take, leb}
 use Rattle.rules.specs.Lists.{pick}
 use Rattle.rules.specs.Reading.{Handed}
-use Rattle.rules.specs.Survey.{surveyOf}
+use Rattle.rules.specs.Survey.{survey_of}
 
 -- the end line, newline included, lies in the first n bytes
-abbrev pub endsWithin : ℕ → Handed → Bool
-endsWithin n h = leb h.end n
+abbrev pub ends_within : ℕ → Handed → Bool
+ends_within n h = leb h.end n
 
 -- the sentences that end within the first n bytes
-abbrev pub endedWithin : ℕ → List Handed → List Handed
-endedWithin n [] = []
-endedWithin n (h ∷ hs) =
-    let later = endedWithin n hs in
-    pick (endsWithin n h) (h ∷ later) later
+abbrev pub ended_within : ℕ → List Handed → List Handed
+ended_within n [] = []
+ended_within n (h ∷ hs) =
+    let later = ended_within n hs in
+    pick (ends_within n h) (h ∷ later) later
 
 -- from the first byte to the end of the last sentence handed out
-abbrev pub soundPart : List ℕ → List ℕ
-soundPart f = take (surveyOf f).soundEnd f
+abbrev pub sound_part : List ℕ → List ℕ
+sound_part f = take (survey_of f).sound_end f
 
 -- the sound part is a file accepted by itself, with the same sentences and the same tables
 pub record SoundPart (f : List ℕ) : Type 0 where
-  pub accepted : (surveyOf (soundPart f)).refusal ≡ 0
-  pub place : (surveyOf (soundPart f)).place ≡ (surveyOf f).soundEnd
-  pub same : (surveyOf (soundPart f)).handed ≡ (surveyOf f).handed
-  pub tables : (surveyOf (soundPart f)).tables ≡ (surveyOf f).tables
+  pub accepted : (survey_of (sound_part f)).refusal ≡ 0
+  pub place : (survey_of (sound_part f)).place ≡ (survey_of f).sound_end
+  pub same : (survey_of (sound_part f)).handed ≡ (survey_of f).handed
+  pub tables : (survey_of (sound_part f)).tables ≡ (survey_of f).tables
 
 -- of a file f whose first n bytes are kept, with x behind them
 pub record CutRule (f : List ℕ) (n : ℕ) (x : List ℕ) : Type 0 where
   pub others : List Handed
-  pub first : (surveyOf (take n f ++ x)).handed ≡ endedWithin n (surveyOf f).handed ++ others
+  pub first : (survey_of (take n f ++ x)).handed ≡ ended_within n (survey_of f).handed ++ others
   pub alone : x ≡ [] → others ≡ []
-  pub sound : ((surveyOf (take n f ++ x)).soundEnd ≡ 0) ⊎ SoundPart (take n f ++ x)
+  pub sound : ((survey_of (take n f ++ x)).sound_end ≡ 0) ⊎ SoundPart (take n f ++ x)

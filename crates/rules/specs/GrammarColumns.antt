@@ -3,7 +3,7 @@
 -- name ends at the first two adjacent percent signs.
 use Rattle.std.specs.Prelude.{ℕ, ◌≤◌, ◌≡◌, ◌⊎◌, List, [], ◌∷◌, ◌++◌, length}
 use Rattle.rules.specs.Lists.{bytes, Each}
-use Rattle.rules.specs.GrammarNames.{commentSign}
+use Rattle.rules.specs.GrammarNames.{comment_sign}
 use Rattle.rules.specs.GrammarLines.{White, Starts}
 
 -- ---- columns
@@ -19,8 +19,8 @@ Parted rest = (rest ≡ []) ⊎ ((b : ℕ) × (more : List ℕ) × (rest ≡ b �
 
 -- a line begins with these columns, each behind white bytes or none; behind the last of them stands the rest
 pub data Begins : List ℕ → List (List ℕ) → List ℕ → Type 0 where
-  no-column : {l : List ℕ} → Begins l [] l
-  one-column : {l c more rest : List ℕ} {cs : List (List ℕ)} (gap : List ℕ) → l ≡ gap ++ (c ++ more) → Each White gap
+  no_column : {l : List ℕ} → Begins l [] l
+  one_column : {l c more rest : List ℕ} {cs : List (List ℕ)} (gap : List ℕ) → l ≡ gap ++ (c ++ more) → Each White gap
       → Run c → Parted more → Begins more cs rest → Begins l (c ∷ cs) rest
 
 -- these are all its columns
@@ -38,8 +38,8 @@ pub record Stripped (whole text : List ℕ) : Type 0 where
   pub left : List ℕ
   pub right : List ℕ
   pub are : whole ≡ left ++ (text ++ right)
-  pub left-white : Each White left
-  pub right-white : Each White right
+  pub left_white : Each White left
+  pub right_white : Each White right
   pub starts : (text ≡ []) ⊎ Starts text
   pub ends : (front : List ℕ) (b : ℕ) → text ≡ front ++ (b ∷ []) → White b → ⊥
 
@@ -48,14 +48,14 @@ pub record Stripped (whole text : List ℕ) : Type 0 where
 pub record Front (l : List ℕ) (cs : List (List ℕ)) (comment : List ℕ) : Type 0 where
   pub rest : List ℕ
   pub begins : Begins l cs rest
-  pub no_sign : Each (λ (c : List ℕ). c ≡ commentSign → ⊥) cs
-  pub then-comment : (Each White rest × (comment ≡ [])) ⊎ ((behind : List ℕ) × Begins rest (commentSign ∷ []) behind × Stripped behind comment)
+  pub no_sign : Each (λ (c : List ℕ). c ≡ comment_sign → ⊥) cs
+  pub then_comment : (Each White rest × (comment ≡ [])) ⊎ ((behind : List ℕ) × Begins rest (comment_sign ∷ []) behind × Stripped behind comment)
 
 -- two adjacent percent signs stand nowhere in it
 abbrev pub NoPair : List ℕ → Type 0
-NoPair xs = (front behind : List ℕ) → xs ≡ front ++ (commentSign ++ behind) → ⊥
+NoPair xs = (front behind : List ℕ) → xs ≡ front ++ (comment_sign ++ behind) → ⊥
 
 -- the name is all, and there is no note; or the name ends at the first two adjacent percent signs, and the note follows
 abbrev pub NameAndNote : List ℕ → List ℕ → List ℕ → Type 0
 NameAndNote whole name note =
-    (NoPair whole × (name ≡ whole) × (note ≡ [])) ⊎ ((whole ≡ name ++ (commentSign ++ note)) × NoPair (name ++ bytes "%"))
+    (NoPair whole × (name ≡ whole) × (note ≡ [])) ⊎ ((whole ≡ name ++ (comment_sign ++ note)) × NoPair (name ++ bytes "%"))

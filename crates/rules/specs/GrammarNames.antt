@@ -4,18 +4,18 @@ use Rattle.std.specs.Prelude.{ℕ, List, [], ◌∷◌}
 use Rattle.rules.specs.Lists.{bytes}
 
 -- a line ends with byte 10
-abbrev pub endOfLine : ℕ
-endOfLine = 10
+abbrev pub end_of_line : ℕ
+end_of_line = 10
 
-abbrev pub commentSign : List ℕ
-commentSign = bytes "%%"
+abbrev pub comment_sign : List ℕ
+comment_sign = bytes "%%"
 
 -- the tags that row 0 and row -1 carry
-abbrev pub noTag : List ℕ
-noTag = bytes "--"
+abbrev pub no_tag : List ℕ
+no_tag = bytes "--"
 
-abbrev pub unknownTag : List ℕ
-unknownTag = bytes "UNKNOWN"
+abbrev pub unknown_tag : List ℕ
+unknown_tag = bytes "UNKNOWN"
 
 -- ---- the seven tables, each at its place
 
@@ -24,23 +24,23 @@ titles =
     bytes "ORIGIN" ∷ bytes "EDITOR" ∷ bytes "WORDTAG" ∷ bytes "MORPHTAG" ∷ bytes "NODETAG" ∷ bytes "EDGETAG"
     ∷ bytes "SECEDGETAG" ∷ []
 
-abbrev pub ofOrigin : ℕ
-ofOrigin = 0
+abbrev pub of_origin : ℕ
+of_origin = 0
 
-abbrev pub ofEditor : ℕ
-ofEditor = 1
+abbrev pub of_editor : ℕ
+of_editor = 1
 
-abbrev pub ofWordtag : ℕ
-ofWordtag = 2
+abbrev pub of_wordtag : ℕ
+of_wordtag = 2
 
-abbrev pub ofMorphtag : ℕ
-ofMorphtag = 3
+abbrev pub of_morphtag : ℕ
+of_morphtag = 3
 
-abbrev pub ofNodetag : ℕ
-ofNodetag = 4
+abbrev pub of_nodetag : ℕ
+of_nodetag = 4
 
-abbrev pub ofEdgetag : ℕ
-ofEdgetag = 5
+abbrev pub of_edgetag : ℕ
+of_edgetag = 5
 
-abbrev pub ofSecedgetag : ℕ
-ofSecedgetag = 6
+abbrev pub of_secedgetag : ℕ
+of_secedgetag = 6

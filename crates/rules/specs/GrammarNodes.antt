@@ -2,8 +2,8 @@
 -- parent, then any number of pairs of secondary label and secondary parent; # with its number at once after it.
 use Rattle.std.specs.Prelude.{ℕ, suc, ◌≤◌, ◌<◌, ◌≡◌, ◌⊎◌, List, [], ◌∷◌, ◌++◌, map, length}
 use Rattle.rules.specs.Lists.{bytes, joined, Each}
-use Rattle.rules.specs.GrammarNumbers.{NumberIn, phraseRange, ParentWritten, tagBytes}
-use Rattle.rules.specs.GrammarNames.{noTag, ofWordtag, ofMorphtag, ofNodetag, ofEdgetag, ofSecedgetag}
+use Rattle.rules.specs.GrammarNumbers.{NumberIn, phrase_range, ParentWritten, tag_bytes}
+use Rattle.rules.specs.GrammarNames.{no_tag, of_wordtag, of_morphtag, of_nodetag, of_edgetag, of_secedgetag}
 use Rattle.rules.specs.GrammarContent.{EdgeContent, NodeContent}
 use Rattle.rules.specs.GrammarColumns.{Front}
 use Rattle.rules.specs.GrammarTables.{TableLines, Known}
@@ -11,7 +11,7 @@ use Rattle.rules.specs.GrammarTables.{TableLines, Known}
 -- a secondary edge: its label, and its parent as written and as a number
 pub record EdgeSaid : Type 0 where
   pub label : List ℕ
-  pub parentText : List ℕ
+  pub parent_text : List ℕ
   pub parent : ℕ
 
 -- a word's or phrase's line and what it says; a word's number is not written
@@ -21,40 +21,40 @@ pub record NodeLine : Type 0 where
   pub tag : List ℕ
   pub morphology : List ℕ
   pub edge : List ℕ
-  pub parentText : List ℕ
+  pub parent_text : List ℕ
   pub parent : ℕ
   pub secondary : List EdgeSaid
   pub comment : List ℕ
 
-abbrev pub pairColumns : EdgeSaid → List (List ℕ)
-pairColumns e = e.label ∷ e.parentText ∷ []
+abbrev pub pair_columns : EdgeSaid → List (List ℕ)
+pair_columns e = e.label ∷ e.parent_text ∷ []
 
-abbrev pub nodeColumns : ℕ → NodeLine → List (List ℕ)
-nodeColumns format n =
-    n.first ∷ n.tag ∷ n.morphology ∷ n.edge ∷ n.parentText ∷ joined (map pairColumns n.secondary)
+abbrev pub node_columns : ℕ → NodeLine → List (List ℕ)
+node_columns format n =
+    n.first ∷ n.tag ∷ n.morphology ∷ n.edge ∷ n.parent_text ∷ joined (map pair_columns n.secondary)
 
 -- a secondary edge, whose label has at most 10 bytes and is known
 pub record EdgeFits (ts : List TableLines) (e : EdgeSaid) : Type 0 where
-  pub parent-written : NumberIn phraseRange e.parentText e.parent
-  pub label-short : length e.label ≤ tagBytes ofSecedgetag
-  pub label-known : Known ts ofSecedgetag e.label
+  pub parent_written : NumberIn phrase_range e.parent_text e.parent
+  pub label_short : length e.label ≤ tag_bytes of_secedgetag
+  pub label_known : Known ts of_secedgetag e.label
 
 -- what words and phrases have in common; tags is the table of the node's own tag
 pub record NodeFits (format : ℕ) (ts : List TableLines) (tags : ℕ) (n : NodeLine) : Type 0 where
-  pub columns : Front n.line (nodeColumns format n) n.comment
-  pub parent-written : ParentWritten n.parentText n.parent
-  pub parent-zero : n.parent ≡ 0 → n.edge ≡ noTag
-  pub tag-short : length n.tag ≤ tagBytes tags
-  pub tag-known : Known ts tags n.tag
-  pub morphology-short : length n.morphology ≤ tagBytes ofMorphtag
-  pub morphology-known : Known ts ofMorphtag n.morphology
-  pub edge-short : length n.edge ≤ tagBytes ofEdgetag
-  pub edge-known : Known ts ofEdgetag n.edge
-  pub each-secondary : Each (EdgeFits ts) n.secondary
+  pub columns : Front n.line (node_columns format n) n.comment
+  pub parent_written : ParentWritten n.parent_text n.parent
+  pub parent_zero : n.parent ≡ 0 → n.edge ≡ no_tag
+  pub tag_short : length n.tag ≤ tag_bytes tags
+  pub tag_known : Known ts tags n.tag
+  pub morphology_short : length n.morphology ≤ tag_bytes of_morphtag
+  pub morphology_known : Known ts of_morphtag n.morphology
+  pub edge_short : length n.edge ≤ tag_bytes of_edgetag
+  pub edge_known : Known ts of_edgetag n.edge
+  pub each_secondary : Each (EdgeFits ts) n.secondary
 
 -- a word may be a lone #, but doesn't start with # otherwise
 pub record WordFits (format : ℕ) (ts : List TableLines) (n : NodeLine) : Type 0 where
-  pub node : NodeFits format ts ofWordtag n
+  pub node : NodeFits format ts of_wordtag n
   pub word : (n.first ≡ bytes "#") ⊎ ((rest : List ℕ) → n.first ≡ bytes "#" ++ rest → ⊥)
 
 -- a phrase's line, and its number
@@ -65,39 +65,39 @@ pub record PhraseLine : Type 0 where
 -- # with its number, 500 to 999, at once after it; its parent, unless 0, is larger than its own number, and each of its
 -- secondary parents is another phrase (document 02, request 1)
 pub record PhraseFits (format : ℕ) (ts : List TableLines) (p : PhraseLine) : Type 0 where
-  pub node : NodeFits format ts ofNodetag p.node
+  pub node : NodeFits format ts of_nodetag p.node
   pub digits : List ℕ
   pub sign : p.node.first ≡ bytes "#" ++ digits
-  pub number-written : NumberIn phraseRange digits p.number
-  pub parent-larger : (p.node.parent ≡ 0) ⊎ (p.number < p.node.parent)
-  pub secondary-others : Each (λ (e : EdgeSaid). e.parent ≡ p.number → ⊥) p.node.secondary
+  pub number_written : NumberIn phrase_range digits p.number
+  pub parent_larger : (p.node.parent ≡ 0) ⊎ (p.number < p.node.parent)
+  pub secondary_others : Each (λ (e : EdgeSaid). e.parent ≡ p.number → ⊥) p.node.secondary
 
 -- ---- what they say
 
-abbrev pub edgeSays : EdgeSaid → EdgeContent
-edgeSays e = record { label = e.label; parent = e.parent }
+abbrev pub edge_says : EdgeSaid → EdgeContent
+edge_says e = record { label = e.label; parent = e.parent }
 
 -- of the node of a number
-abbrev pub nodeSays : ℕ → List ℕ → NodeLine → NodeContent
-nodeSays its-number word n =
+abbrev pub node_says : ℕ → List ℕ → NodeLine → NodeContent
+node_says its_number word n =
     record {
-      number = its-number;
+      number = its_number;
       word = word;
       tag = n.tag;
       morphology = n.morphology;
       edge = n.edge;
       parent = n.parent;
-      secondary = map edgeSays n.secondary;
+      secondary = map edge_says n.secondary;
       comment = n.comment;
     }
 
 -- words count from 0
-abbrev pub wordsFrom : ℕ → List NodeLine → List NodeContent
-wordsFrom k [] = []
-wordsFrom k (n ∷ ns) = nodeSays k n.first n ∷ wordsFrom (suc k) ns
+abbrev pub words_from : ℕ → List NodeLine → List NodeContent
+words_from k [] = []
+words_from k (n ∷ ns) = node_says k n.first n ∷ words_from (suc k) ns
 
-abbrev pub wordsSay : List NodeLine → List NodeContent
-wordsSay ns = wordsFrom 0 ns
+abbrev pub words_say : List NodeLine → List NodeContent
+words_say ns = words_from 0 ns
 
-abbrev pub phraseSays : PhraseLine → NodeContent
-phraseSays p = nodeSays p.number [] p.node
+abbrev pub phrase_says : PhraseLine → NodeContent
+phrase_says p = node_says p.number [] p.node

@@ -7,18 +7,18 @@ use Rattle.rules.specs.Reading.{Handed}
 use Rattle.rules.specs.Survey.{Survey}
 use Rattle.rules.specs.GrammarContent.{RowContent, EdgeContent, NodeContent, HeadContent, SentenceContent, Content}
 
-abbrev pub rowRead : Row → RowContent
-rowRead r = record { id1 = r.id1; first = r.first.bytes; second = r.second.bytes; flag = r.flag }
+abbrev pub row_read : Row → RowContent
+row_read r = record { id1 = r.id1; first = r.first.bytes; second = r.second.bytes; flag = r.flag }
 
-abbrev pub tableRead : Option (List Row) → Option (List RowContent)
-tableRead none = none
-tableRead (some rs) = some (map rowRead rs)
+abbrev pub table_read : Option (List Row) → Option (List RowContent)
+table_read none = none
+table_read (some rs) = some (map row_read rs)
 
-abbrev pub edgeRead : Edge → EdgeContent
-edgeRead e = record { label = e.label.bytes; parent = e.parent }
+abbrev pub edge_read : Edge → EdgeContent
+edge_read e = record { label = e.label.bytes; parent = e.parent }
 
-abbrev pub nodeRead : Node → NodeContent
-nodeRead n =
+abbrev pub node_read : Node → NodeContent
+node_read n =
     record {
       number = n.number;
       word = n.word.bytes;
@@ -26,20 +26,20 @@ nodeRead n =
       morphology = n.morphology.bytes;
       edge = n.edge.bytes;
       parent = n.parent;
-      secondary = map edgeRead n.secondary;
+      secondary = map edge_read n.secondary;
       comment = n.comment.bytes;
     }
 
-abbrev pub headRead : Heading → HeadContent
-headRead h = record { number = h.number; editor1 = h.editor1; date = h.date; origin = h.origin; comment = h.comment.bytes }
+abbrev pub head_read : Heading → HeadContent
+head_read h = record { number = h.number; editor1 = h.editor1; date = h.date; origin = h.origin; comment = h.comment.bytes }
 
-abbrev pub sentenceRead : Sentence → SentenceContent
-sentenceRead s = record { heading = headRead s.heading; words = map nodeRead s.words; phrases = map nodeRead s.phrases }
+abbrev pub sentence_read : Sentence → SentenceContent
+sentence_read s = record { heading = head_read s.heading; words = map node_read s.words; phrases = map node_read s.phrases }
 
-abbrev pub contentOf : Survey → Content
-contentOf s =
+abbrev pub content_of : Survey → Content
+content_of s =
     record {
       format = s.format;
-      tables = map tableRead s.tables;
-      sentences = map (λ (h : Handed). sentenceRead h.sentence) s.handed;
+      tables = map table_read s.tables;
+      sentences = map (λ (h : Handed). sentence_read h.sentence) s.handed;
     }

@@ -17,12 +17,12 @@ abbrev pub topmost : List ℕ → ℕ
 topmost [] = 499
 topmost (n ∷ ns) = larger n (topmost ns)
 
-abbrev pub highestPhrase : List Node → ℕ
-highestPhrase ps = topmost (map (λ (p : Node). p.number) ps)
+abbrev pub highest_phrase : List Node → ℕ
+highest_phrase ps = topmost (map (λ (p : Node). p.number) ps)
 
-abbrev pub edgeParent : Edge → ℕ
-edgeParent e = e.parent
+abbrev pub edge_parent : Edge → ℕ
+edge_parent e = e.parent
 
 -- the largest of a node's parent and its secondary parents
-abbrev pub highestParent : Node → ℕ
-highestParent n = larger n.parent (largest edgeParent n.secondary)
+abbrev pub highest_parent : Node → ℕ
+highest_parent n = larger n.parent (largest edge_parent n.secondary)

@@ -11,14 +11,14 @@ use Rattle.rules.specs.Survey.{Survey}
 
 -- ---- places don't count
 
-abbrev pub bareRow : Row → Row
-bareRow r = record { id1 = r.id1; first = bare r.first; second = bare r.second; flag = r.flag }
+abbrev pub bare_row : Row → Row
+bare_row r = record { id1 = r.id1; first = bare r.first; second = bare r.second; flag = r.flag }
 
-abbrev pub bareEdge : Edge → Edge
-bareEdge e = record { label = bare e.label; parent = e.parent }
+abbrev pub bare_edge : Edge → Edge
+bare_edge e = record { label = bare e.label; parent = e.parent }
 
-abbrev pub bareNode : Node → Node
-bareNode n =
+abbrev pub bare_node : Node → Node
+bare_node n =
     record {
       number = n.number;
       word = bare n.word;
@@ -26,54 +26,54 @@ bareNode n =
       morphology = bare n.morphology;
       edge = bare n.edge;
       parent = n.parent;
-      secondary = map bareEdge n.secondary;
+      secondary = map bare_edge n.secondary;
       comment = bare n.comment;
     }
 
-abbrev pub bareHeading : Heading → Heading
-bareHeading h = record { number = h.number; editor1 = h.editor1; date = h.date; origin = h.origin; comment = bare h.comment }
+abbrev pub bare_heading : Heading → Heading
+bare_heading h = record { number = h.number; editor1 = h.editor1; date = h.date; origin = h.origin; comment = bare h.comment }
 
 -- ---- nor does the order of origin and editor rows, of phrases and of sentences
 
-abbrev pub rowId : Row → ℕ
-rowId r = r.id1
+abbrev pub row_id : Row → ℕ
+row_id r = r.id1
 
-abbrev pub nodeNumber : Node → ℕ
-nodeNumber n = n.number
+abbrev pub node_number : Node → ℕ
+node_number n = n.number
 
-abbrev pub sentenceNumberOf : Sentence → ℕ
-sentenceNumberOf s = s.heading.number
+abbrev pub sentence_number_of : Sentence → ℕ
+sentence_number_of s = s.heading.number
 
-abbrev pub meantRows : Option (List Row) → Option (List Row)
-meantRows none = none
-meantRows (some rs) = some (map bareRow rs)
+abbrev pub meant_rows : Option (List Row) → Option (List Row)
+meant_rows none = none
+meant_rows (some rs) = some (map bare_row rs)
 
 abbrev pub by_id : Option (List Row) → Option (List Row)
 by_id none = none
-by_id (some rs) = some (sorted rowId rs)
+by_id (some rs) = some (sorted row_id rs)
 
 -- the seven tables in their order: origin and editor rows by id, tag rows as they stand
-abbrev pub meantTables : Tables → Tables
-meantTables [] = []
-meantTables (o ∷ []) = meantRows (by_id o) ∷ []
-meantTables (o ∷ e ∷ ts) = meantRows (by_id o) ∷ meantRows (by_id e) ∷ map meantRows ts
+abbrev pub meant_tables : Tables → Tables
+meant_tables [] = []
+meant_tables (o ∷ []) = meant_rows (by_id o) ∷ []
+meant_tables (o ∷ e ∷ ts) = meant_rows (by_id o) ∷ meant_rows (by_id e) ∷ map meant_rows ts
 
-abbrev pub meantSentence : Sentence → Sentence
-meantSentence s =
+abbrev pub meant_sentence : Sentence → Sentence
+meant_sentence s =
     record {
       start = 0;
-      heading = bareHeading s.heading;
-      words = map bareNode s.words;
-      phrases = map bareNode (sorted nodeNumber s.phrases);
+      heading = bare_heading s.heading;
+      words = map bare_node s.words;
+      phrases = map bare_node (sorted node_number s.phrases);
     }
 
-abbrev pub meantSentences : List Handed → List Sentence
-meantSentences hs = sorted sentenceNumberOf (map (λ (h : Handed). meantSentence h.sentence) hs)
+abbrev pub meant_sentences : List Handed → List Sentence
+meant_sentences hs = sorted sentence_number_of (map (λ (h : Handed). meant_sentence h.sentence) hs)
 
 pub record Meaning : Type 0 where
   pub format : ℕ
   pub tables : Tables
   pub sentences : List Sentence
 
-unfoldable pub meaningOf : Survey → Meaning
-meaningOf s = record { format = s.format; tables = meantTables s.tables; sentences = meantSentences s.handed }
+unfoldable pub meaning_of : Survey → Meaning
+meaning_of s = record { format = s.format; tables = meant_tables s.tables; sentences = meant_sentences s.handed }

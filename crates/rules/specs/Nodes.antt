@@ -4,98 +4,98 @@ use Rattle.std.specs.Prelude.{ℕ, suc, ◌+◌, Bool, not, ◌&&◌, length, dr
 use Rattle.std.proofs.Math.Option.{Option}
 use mathlib.Core.List.{List, ◌∷◌, ◌++◌, map}
 use Rattle.rules.specs.Lists.{pick}
-use Rattle.rules.specs.Texts.{Text, noText, reads, at_most, behindHash}
+use Rattle.rules.specs.Texts.{Text, no_text, reads, at_most, behind_hash}
 use Rattle.rules.specs.Columns.{columns, text, fields, comment}
-use Rattle.rules.specs.Numbers.{wordLimit, edgeLimit, phraseNumber, number, parentNumber, good, value}
+use Rattle.rules.specs.Numbers.{word_limit, edge_limit, phrase_number, number, parent_number, good, value}
 use Rattle.rules.specs.Rules.{Rule, rule, Verdict, checked}
-use Rattle.rules.specs.Tables.{Tables, wordTags, morphTags, nodeTags, edgeTags, secEdgeTags, dashes, known, tagLimit}
+use Rattle.rules.specs.Tables.{Tables, word_tags, morph_tags, node_tags, edge_tags, sec_edge_tags, dashes, known, tag_limit}
 use Rattle.rules.specs.Sentences.{Node, SoFar}
-use Rattle.rules.specs.Pairs.{Pair, pairs, paired, secondaryParent, asEdge, isAnother}
+use Rattle.rules.specs.Pairs.{Pair, pairs, paired, secondary_parent, as_edge, is_another}
 
 -- the places of the fields in the lines of a format, behind the word, or behind # and its number
-abbrev pub tagField : ℕ → ℕ
-tagField format = 1
+abbrev pub tag_field : ℕ → ℕ
+tag_field format = 1
 
-abbrev pub morphologyField : ℕ → ℕ
-morphologyField format = suc (tagField format)
+abbrev pub morphology_field : ℕ → ℕ
+morphology_field format = suc (tag_field format)
 
-abbrev pub edgeField : ℕ → ℕ
-edgeField format = suc (morphologyField format)
+abbrev pub edge_field : ℕ → ℕ
+edge_field format = suc (morphology_field format)
 
-abbrev pub parentField : ℕ → ℕ
-parentField format = suc (edgeField format)
+abbrev pub parent_field : ℕ → ℕ
+parent_field format = suc (edge_field format)
 
-abbrev pub pairsField : ℕ → ℕ
-pairsField format = suc (parentField format)
+abbrev pub pairs_field : ℕ → ℕ
+pairs_field format = suc (parent_field format)
 
 module _ (format : ℕ) (fs : List Text) where
-  abbrev pub itsTag : Text
-  itsTag = text fs (tagField format)
+  abbrev pub its_tag : Text
+  its_tag = text fs (tag_field format)
 
-  abbrev pub itsMorphology : Text
-  itsMorphology = text fs (morphologyField format)
+  abbrev pub its_morphology : Text
+  its_morphology = text fs (morphology_field format)
 
-  abbrev pub itsEdge : Text
-  itsEdge = text fs (edgeField format)
+  abbrev pub its_edge : Text
+  its_edge = text fs (edge_field format)
 
-  abbrev pub itsParent : Option ℕ
-  itsParent = parentNumber (text fs (parentField format)).bytes
+  abbrev pub its_parent : Option ℕ
+  its_parent = parent_number (text fs (parent_field format)).bytes
 
-  abbrev pub itsPairs : List Pair
-  itsPairs = pairs (drop (pairsField format) fs)
+  abbrev pub its_pairs : List Pair
+  its_pairs = pairs (drop (pairs_field format) fs)
 
   abbrev pub node_of : ℕ → Text → Text → Node
-  node_of its-number word its-comment =
+  node_of its_number word its_comment =
       record {
-        number = its-number;
+        number = its_number;
         word = word;
-        tag = itsTag;
-        morphology = itsMorphology;
-        edge = itsEdge;
-        parent = value itsParent;
-        secondary = map asEdge itsPairs;
-        comment = its-comment;
+        tag = its_tag;
+        morphology = its_morphology;
+        edge = its_edge;
+        parent = value its_parent;
+        secondary = map as_edge its_pairs;
+        comment = its_comment;
       }
 
   -- 7: no column is missing, no label is without its parent
   abbrev pub shaped : Bool
-  shaped = leb (pairsField format) (length fs) && paired (drop (pairsField format) fs)
+  shaped = leb (pairs_field format) (length fs) && paired (drop (pairs_field format) fs)
 
   -- 8: a parent is 0 or 500 to 999; a secondary parent is 500 to 999
-  unfoldable pub parentsWritten : List Rule
+  unfoldable pub parents_written : List Rule
   unfolding pairs
-  parentsWritten =
-      rule 8 (text fs (parentField format)) (good itsParent) ∷ map (λ (p : Pair). rule 8 p.parent (good (secondaryParent p))) itsPairs
+  parents_written =
+      rule 8 (text fs (parent_field format)) (good its_parent) ∷ map (λ (p : Pair). rule 8 p.parent (good (secondary_parent p))) its_pairs
 
   -- 10: length limits hold without a table too
-  unfoldable pub tagsShort : ℕ → List Rule
+  unfoldable pub tags_short : ℕ → List Rule
   unfolding pairs
-  tagsShort tags =
-      rule 10 itsTag (at_most (tagLimit tags) itsTag)
-      ∷ rule 10 itsMorphology (at_most (tagLimit morphTags) itsMorphology)
-      ∷ rule 10 itsEdge (at_most (tagLimit edgeTags) itsEdge)
-      ∷ map (λ (p : Pair). rule 10 p.label (at_most (tagLimit secEdgeTags) p.label)) itsPairs
+  tags_short tags =
+      rule 10 its_tag (at_most (tag_limit tags) its_tag)
+      ∷ rule 10 its_morphology (at_most (tag_limit morph_tags) its_morphology)
+      ∷ rule 10 its_edge (at_most (tag_limit edge_tags) its_edge)
+      ∷ map (λ (p : Pair). rule 10 p.label (at_most (tag_limit sec_edge_tags) p.label)) its_pairs
 
   -- 18: each tag stands in its table
-  unfoldable pub tagsKnown : Tables → ℕ → List Rule
+  unfoldable pub tags_known : Tables → ℕ → List Rule
   unfolding pairs
-  tagsKnown ts tags =
-      rule 18 itsTag (known ts tags itsTag)
-      ∷ rule 18 itsMorphology (known ts morphTags itsMorphology)
-      ∷ rule 18 itsEdge (known ts edgeTags itsEdge)
-      ∷ map (λ (p : Pair). rule 18 p.label (known ts secEdgeTags p.label)) itsPairs
+  tags_known ts tags =
+      rule 18 its_tag (known ts tags its_tag)
+      ∷ rule 18 its_morphology (known ts morph_tags its_morphology)
+      ∷ rule 18 its_edge (known ts edge_tags its_edge)
+      ∷ map (λ (p : Pair). rule 18 p.label (known ts sec_edge_tags p.label)) its_pairs
 
   -- 19: parent 0 needs the edge --, another parent is larger than the node's number, and no secondary parent is the node
   -- (a word's number is below 500, so of a word only the first is asked)
-  unfoldable pub parentsAllowed : ℕ → List Rule
+  unfoldable pub parents_allowed : ℕ → List Rule
   unfolding pairs
-  parentsAllowed its-number =
-      rule 19 (text fs (parentField format)) (pick (eqb (value itsParent) 0) (reads dashes itsEdge) (ltb its-number (value itsParent)))
-      ∷ map (λ (p : Pair). rule 19 p.parent (isAnother its-number p)) itsPairs
+  parents_allowed its_number =
+      rule 19 (text fs (parent_field format)) (pick (eqb (value its_parent) 0) (reads dashes its_edge) (ltb its_number (value its_parent)))
+      ∷ map (λ (p : Pair). rule 19 p.parent (is_another its_number p)) its_pairs
 
 -- 16: at most 512 secondary edges, of which so many stand in front of this line
 abbrev pub roomy : ℕ → ℕ → List Text → Bool
-roomy format edges fs = leb (edges + length (itsPairs format fs)) edgeLimit
+roomy format edges fs = leb (edges + length (its_pairs format fs)) edge_limit
 
 -- words count from 0; a word after a phrase can't stand
 unfoldable pub word_of : ℕ → Tables → SoFar → Text → Verdict Node
@@ -103,25 +103,25 @@ unfolding pairs
 word_of format ts s line =
     let fs = fields (columns line) in
     checked
-    (rule 6 line s.no-phrase
+    (rule 6 line s.no_phrase
     ∷ rule 7 line (shaped format fs)
-    ∷ parentsWritten format fs
-    ++ tagsShort format fs wordTags
-    ++ (rule 16 line (ltb s.words wordLimit && roomy format s.edges fs) ∷ tagsKnown format fs ts wordTags)
-    ++ parentsAllowed format fs s.words)
+    ∷ parents_written format fs
+    ++ tags_short format fs word_tags
+    ++ (rule 16 line (ltb s.words word_limit && roomy format s.edges fs) ∷ tags_known format fs ts word_tags)
+    ++ parents_allowed format fs s.words)
     (node_of format fs s.words (text fs 0) (comment (columns line)))
 
 -- phrases are numbered from 500 and come in any order
-unfoldable pub phraseOf : ℕ → Tables → SoFar → Text → Verdict Node
+unfoldable pub phrase_of : ℕ → Tables → SoFar → Text → Verdict Node
 unfolding pairs
-phraseOf format ts s line =
+phrase_of format ts s line =
     let fs = fields (columns line) in
-    let its-number = number phraseNumber (behindHash (text fs 0)).bytes in
+    let its_number = number phrase_number (behind_hash (text fs 0)).bytes in
     checked
     (rule 7 line (shaped format fs)
-    ∷ rule 8 (text fs 0) (good its-number)
-    ∷ parentsWritten format fs
-    ++ tagsShort format fs nodeTags
-    ++ (rule 16 line (roomy format s.edges fs) ∷ rule 17 line (not (s.given-before (value its-number))) ∷ tagsKnown format fs ts nodeTags)
-    ++ parentsAllowed format fs (value its-number))
-    (node_of format fs (value its-number) noText (comment (columns line)))
+    ∷ rule 8 (text fs 0) (good its_number)
+    ∷ parents_written format fs
+    ++ tags_short format fs node_tags
+    ++ (rule 16 line (roomy format s.edges fs) ∷ rule 17 line (not (s.given_before (value its_number))) ∷ tags_known format fs ts node_tags)
+    ++ parents_allowed format fs (value its_number))
+    (node_of format fs (value its_number) no_text (comment (columns line)))

@@ -7,52 +7,52 @@ use Rattle.rules.specs.Bytes.{digit}
 
 -- ---- the limits
 
-abbrev pub fileLimit : ℕ
-fileLimit = 268435456
+abbrev pub file_limit : ℕ
+file_limit = 268435456
 
-abbrev pub lineLimit : ℕ
-lineLimit = 4096
+abbrev pub line_limit : ℕ
+line_limit = 4096
 
-abbrev pub rowLimit : ℕ
-rowLimit = 256
+abbrev pub row_limit : ℕ
+row_limit = 256
 
-abbrev pub wordLimit : ℕ
-wordLimit = 500
+abbrev pub word_limit : ℕ
+word_limit = 500
 
-abbrev pub edgeLimit : ℕ
-edgeLimit = 512
+abbrev pub edge_limit : ℕ
+edge_limit = 512
 
 -- a kind of number: its lowest and its highest
 pub record Kind : Type 0 where
   pub lowest : ℕ
   pub highest : ℕ
 
-abbrev pub sentenceNumber : Kind
-sentenceNumber = record { lowest = 1; highest = 65535 }
+abbrev pub sentence_number : Kind
+sentence_number = record { lowest = 1; highest = 65535 }
 
-abbrev pub originId : Kind
-originId = record { lowest = 1; highest = 65535 }
+abbrev pub origin_id : Kind
+origin_id = record { lowest = 1; highest = 65535 }
 
 -- an editor's or a tag row's id, from -1 on: the sheets hold one more, and so do we
-abbrev pub idPlusOne : Kind
-idPlusOne = record { lowest = 0; highest = 65536 }
+abbrev pub id_plus_one : Kind
+id_plus_one = record { lowest = 0; highest = 65536 }
 
 abbrev pub date : Kind
 date = record { lowest = 0; highest = 4294967295 }
 
-abbrev pub formatNumber : Kind
-formatNumber = record { lowest = 0; highest = 65535 }
+abbrev pub format_number : Kind
+format_number = record { lowest = 0; highest = 65535 }
 
 -- the number of a phrase, and a secondary parent
-abbrev pub phraseNumber : Kind
-phraseNumber = record { lowest = 500; highest = 999 }
+abbrev pub phrase_number : Kind
+phrase_number = record { lowest = 500; highest = 999 }
 
 -- ---- how a number is written
 
 -- the value of digits, read from the left
-unfoldable pub valueFrom : ℕ → List ℕ → ℕ
-valueFrom v [] = v
-valueFrom v (d ∷ ds) = valueFrom (v * 10 + (d - 48)) ds
+unfoldable pub value_from : ℕ → List ℕ → ℕ
+value_from v [] = v
+value_from v (d ∷ ds) = value_from (v * 10 + (d - 48)) ds
 
 -- no leading zero
 abbrev pub plain : List ℕ → Bool
@@ -61,8 +61,8 @@ plain (d ∷ []) = true
 plain (d ∷ e ∷ ds) = not (eqb d 48)
 
 unfoldable pub decimal : List ℕ → Option ℕ
-unfolding valueFrom
-decimal xs = pick (plain xs && every digit xs) (some (valueFrom 0 xs)) none
+unfolding value_from
+decimal xs = pick (plain xs && every digit xs) (some (value_from 0 xs)) none
 
 abbrev pub within : Kind → Option ℕ → Option ℕ
 within k none = none
@@ -72,21 +72,21 @@ within k (some n) = pick (between k.lowest k.highest n) (some n) none
 abbrev pub number : Kind → List ℕ → Option ℕ
 number k xs = within k (decimal xs)
 
-abbrev pub plusOne : Option ℕ → Option ℕ
-plusOne none = none
-plusOne (some n) = some (suc n)
+abbrev pub plus_one : Option ℕ → Option ℕ
+plus_one none = none
+plus_one (some n) = some (suc n)
 
 -- one more than an id that may be -1
-abbrev pub signedId : List ℕ → Option ℕ
-signedId xs = within idPlusOne (pick (same xs (bytes "-1")) (some 0) (plusOne (decimal xs)))
+abbrev pub signed_id : List ℕ → Option ℕ
+signed_id xs = within id_plus_one (pick (same xs (bytes "-1")) (some 0) (plus_one (decimal xs)))
 
 -- a parent is 0 or a phrase's number
-abbrev pub zeroOr : Kind → Option ℕ → Option ℕ
-zeroOr k none = none
-zeroOr k (some n) = pick (eqb n 0) (some 0) (within k (some n))
+abbrev pub zero_or : Kind → Option ℕ → Option ℕ
+zero_or k none = none
+zero_or k (some n) = pick (eqb n 0) (some 0) (within k (some n))
 
-abbrev pub parentNumber : List ℕ → Option ℕ
-parentNumber xs = zeroOr phraseNumber (decimal xs)
+abbrev pub parent_number : List ℕ → Option ℕ
+parent_number xs = zero_or phrase_number (decimal xs)
 
 abbrev pub good : Option ℕ → Bool
 good none = false

@@ -3,18 +3,18 @@
 use Rattle.std.specs.Prelude.{ℕ, Bool, ◌&&◌, List, [], ◌∷◌, length, replicate, eqb}
 use Rattle.std.proofs.Math.Option.{Option, none, some}
 use Rattle.rules.specs.Lists.{pick}
-use Rattle.rules.specs.Numbers.{edgeLimit}
+use Rattle.rules.specs.Numbers.{edge_limit}
 use Rattle.rules.specs.Sentences.{Sentence}
 use Rattle.rules.specs.Reading.{Handed, numbers}
-use Rattle.rules.specs.Sheets.{tableSheet, seenSet, sentenceSheetSize, sentenceSheet, EdgeRecord, no_edge, edgeList}
-use Rattle.rules.specs.Survey.{Survey, surveyOf, sheetsFit, fileFits}
-use Rattle.rules.specs.SentenceFrom.{sentenceFrom}
+use Rattle.rules.specs.Sheets.{table_sheet, seen_set, sentence_sheet_size, sentence_sheet, EdgeRecord, no_edge, edge_list}
+use Rattle.rules.specs.Survey.{Survey, survey_of, sheets_fit, file_fits}
+use Rattle.rules.specs.SentenceFrom.{sentence_from}
 
 -- the sentence of a number among those handed out
-abbrev pub sentenceOf : ℕ → List Handed → Option Sentence
-sentenceOf n [] = none
-sentenceOf n (h ∷ hs) =
-    let later = sentenceOf n hs in
+abbrev pub sentence_of : ℕ → List Handed → Option Sentence
+sentence_of n [] = none
+sentence_of n (h ∷ hs) =
+    let later = sentence_of n hs in
     pick (eqb n h.sentence.heading.number) (some h.sentence) later
 
 pub record Opened : Type 0 where
@@ -24,37 +24,37 @@ pub record Opened : Type 0 where
   pub sheet : List ℕ
   pub edges : List EdgeRecord
 
-abbrev pub noSheet : List ℕ
-noSheet = replicate sentenceSheetSize 0
+abbrev pub no_sheet : List ℕ
+no_sheet = replicate sentence_sheet_size 0
 
-abbrev pub noEdges : List EdgeRecord
-noEdges = replicate edgeLimit no_edge
+abbrev pub no_edges : List EdgeRecord
+no_edges = replicate edge_limit no_edge
 
 -- the sentence sheet and the edge list have their fixed sizes
-abbrev pub sentenceFits : List ℕ → List EdgeRecord → Bool
-sentenceFits sheet edges = eqb (length sheet) sentenceSheetSize && eqb (length edges) edgeLimit
+abbrev pub sentence_fits : List ℕ → List EdgeRecord → Bool
+sentence_fits sheet edges = eqb (length sheet) sentence_sheet_size && eqb (length edges) edge_limit
 
 -- all four lent buffers have them
 abbrev pub all_fit : List ℕ → List ℕ → List ℕ → List EdgeRecord → Bool
-all_fit tables seen sheet edges = sheetsFit tables seen && eqb (length sheet) sentenceSheetSize && eqb (length edges) edgeLimit
+all_fit tables seen sheet edges = sheets_fit tables seen && eqb (length sheet) sentence_sheet_size && eqb (length edges) edge_limit
 
 abbrev pub opened : Survey → Option Sentence → Opened
 opened read_as none =
-    record { answer = 24; tables = tableSheet read_as.tables; seen = seenSet (numbers read_as.handed); sheet = noSheet; edges = noEdges }
+    record { answer = 24; tables = table_sheet read_as.tables; seen = seen_set (numbers read_as.handed); sheet = no_sheet; edges = no_edges }
 opened read_as (some s) =
     record {
       answer = 0;
-      tables = tableSheet read_as.tables;
-      seen = seenSet (numbers read_as.handed);
-      sheet = sentenceSheet s;
-      edges = edgeList s;
+      tables = table_sheet read_as.tables;
+      seen = seen_set (numbers read_as.handed);
+      sheet = sentence_sheet s;
+      edges = edge_list s;
     }
 
-unfoldable pub afterOpening : List ℕ → ℕ → List ℕ → List ℕ → List ℕ → List EdgeRecord → Opened
-afterOpening file n tables seen sheet edges =
+unfoldable pub after_opening : List ℕ → ℕ → List ℕ → List ℕ → List ℕ → List EdgeRecord → Opened
+after_opening file n tables seen sheet edges =
     pick (all_fit tables seen sheet edges)
-    (pick (fileFits file)
-    (opened (surveyOf file) (sentenceOf n (surveyOf file).handed))
+    (pick (file_fits file)
+    (opened (survey_of file) (sentence_of n (survey_of file).handed))
     (record { answer = 2; tables = tables; seen = seen; sheet = sheet; edges = edges }))
     (record { answer = 1; tables = tables; seen = seen; sheet = sheet; edges = edges })
 
@@ -65,12 +65,12 @@ pub record OpenedAt : Type 0 where
   pub sheet : List ℕ
   pub edges : List EdgeRecord
 
-abbrev pub openedAs : Option Sentence → OpenedAt
-openedAs none = record { answer = 24; sheet = noSheet; edges = noEdges }
-openedAs (some s) = record { answer = 0; sheet = sentenceSheet s; edges = edgeList s }
+abbrev pub opened_as : Option Sentence → OpenedAt
+opened_as none = record { answer = 24; sheet = no_sheet; edges = no_edges }
+opened_as (some s) = record { answer = 0; sheet = sentence_sheet s; edges = edge_list s }
 
-unfoldable pub afterOpeningAt : List ℕ → ℕ → List ℕ → List EdgeRecord → OpenedAt
-afterOpeningAt file at sheet edges =
-    pick (sentenceFits sheet edges)
-    (pick (fileFits file) (openedAs (sentenceFrom file at)) (record { answer = 2; sheet = sheet; edges = edges }))
+unfoldable pub after_opening_at : List ℕ → ℕ → List ℕ → List EdgeRecord → OpenedAt
+after_opening_at file at sheet edges =
+    pick (sentence_fits sheet edges)
+    (pick (file_fits file) (opened_as (sentence_from file at)) (record { answer = 2; sheet = sheet; edges = edges }))
     (record { answer = 1; sheet = sheet; edges = edges })

@@ -3,7 +3,7 @@
 use Rattle.std.specs.Prelude.{ℕ, Bool, true, false, not, List, [], ◌∷◌, eqb}
 use Rattle.std.proofs.Math.Option.{Option}
 use Rattle.rules.specs.Texts.{Text}
-use Rattle.rules.specs.Numbers.{phraseNumber, number, value}
+use Rattle.rules.specs.Numbers.{phrase_number, number, value}
 use Rattle.rules.specs.Sentences.{Edge}
 
 pub record Pair : Type 0 where
@@ -21,12 +21,12 @@ paired [] = true
 paired (l ∷ []) = false
 paired (l ∷ p ∷ ts) = paired ts
 
-abbrev pub secondaryParent : Pair → Option ℕ
-secondaryParent p = number phraseNumber p.parent.bytes
+abbrev pub secondary_parent : Pair → Option ℕ
+secondary_parent p = number phrase_number p.parent.bytes
 
-abbrev pub asEdge : Pair → Edge
-asEdge p = record { label = p.label; parent = value (secondaryParent p) }
+abbrev pub as_edge : Pair → Edge
+as_edge p = record { label = p.label; parent = value (secondary_parent p) }
 
 -- a secondary parent is any phrase of the sentence other than the node itself
-abbrev pub isAnother : ℕ → Pair → Bool
-isAnother its-number p = not (eqb its-number (value (secondaryParent p)))
+abbrev pub is_another : ℕ → Pair → Bool
+is_another its_number p = not (eqb its_number (value (secondary_parent p)))

@@ -6,7 +6,7 @@ use Rattle.rules.specs.Texts.{Text}
 use Rattle.rules.specs.Tables.{Row, rows_of}
 use Rattle.rules.specs.Sentences.{Edge, Node, Sentence}
 use Rattle.rules.specs.Reading.{Handed}
-use Rattle.rules.specs.Survey.{surveyOf}
+use Rattle.rules.specs.Survey.{survey_of}
 
 -- the file has the text's bytes at the text's place; an absent text is at 0
 pub record LiesIn (file : List ℕ) (t : Text) : Type 0 where
@@ -48,5 +48,5 @@ pub record HandedLies (file : List ℕ) (h : Handed) : Type 0 where
 
 -- every row of a closed table and every sentence handed out, of any file
 pub record LiesThere (file : List ℕ) : Type 0 where
-  pub tables : Each (λ (t : Option (List Row)). Each (RowLies file) (rows_of t)) (surveyOf file).tables
-  pub sentences : Each (HandedLies file) (surveyOf file).handed
+  pub tables : Each (λ (t : Option (List Row)). Each (RowLies file) (rows_of t)) (survey_of file).tables
+  pub sentences : Each (HandedLies file) (survey_of file).handed

@@ -5,9 +5,9 @@ use Rattle.std.specs.Prelude.{ℕ, ◌+◌, ◌-◌, ◌≤◌, ◌<◌, ◌≡�
 use Rattle.rules.specs.Lists.{member}
 use Rattle.rules.specs.Texts.{Text}
 use Rattle.rules.specs.Reading.{begin, read}
-use Rattle.rules.specs.Survey.{surveyOf}
+use Rattle.rules.specs.Survey.{survey_of}
 use Rattle.rules.specs.LentBuffers.{TooLong}
-use Rattle.rules.specs.Refusals.{Clean, OneLine, lineIn, Unended}
+use Rattle.rules.specs.Refusals.{Clean, OneLine, line_in, Unended}
 use Rattle.rules.specs.ColumnsAtFault.{pointing, Breaks}
 
 -- a column of the line starts at the place and breaks the rule of the number, and no column to its left does
@@ -27,25 +27,25 @@ pub record FaultyLine (file : List ℕ) : Type 0 where
   pub front : List ℕ
   pub bytes : List ℕ
   pub behind : List ℕ
-  pub are : file ≡ lineIn front bytes behind
+  pub are : file ≡ line_in front bytes behind
   pub clean : Clean front
   pub one_line : OneLine bytes
-  pub faulty : Clean (lineIn front bytes []) → ⊥
+  pub faulty : Clean (line_in front bytes []) → ⊥
 
-abbrev pub lineText : {file : List ℕ} → FaultyLine file → Text
-lineText l = record { start = length l.front; bytes = l.bytes }
+abbrev pub line_text : {file : List ℕ} → FaultyLine file → Text
+line_text l = record { start = length l.front; bytes = l.bytes }
 
 pub record PointedAt (file : List ℕ) : Type 0 where
   pub its : FaultyLine file
-  pub at : AtColumn (Breaks (read begin its.front).phase (lineText its)) (lineText its) (surveyOf file).refusal (surveyOf file).place
+  pub at : AtColumn (Breaks (read begin its.front).phase (line_text its)) (line_text its) (survey_of file).refusal (survey_of file).place
 
 -- the first byte of the first faulty line, or of an unended rest; the file's end, if no line is faulty; 0 of a file too long
 pub data OtherPlace (file : List ℕ) : Type 0 where
-  at-line : (l : FaultyLine file) → (surveyOf file).place ≡ length l.front → OtherPlace file
-  at_rest : (surveyOf file).refusal ≡ 3 → Unended file → OtherPlace file
-  at-end : Clean file → OtherPlace file
-  too_long : TooLong file → (surveyOf file).place ≡ 0 → OtherPlace file
+  at_line : (l : FaultyLine file) → (survey_of file).place ≡ length l.front → OtherPlace file
+  at_rest : (survey_of file).refusal ≡ 3 → Unended file → OtherPlace file
+  at_end_lem : Clean file → OtherPlace file
+  too_long : TooLong file → (survey_of file).place ≡ 0 → OtherPlace file
 
 pub record PlaceRule (file : List ℕ) : Type 0 where
-  pub pointed : member (surveyOf file).refusal pointing ≡ true → PointedAt file
-  pub not-pointed : member (surveyOf file).refusal pointing ≡ false → OtherPlace file
+  pub pointed : member (survey_of file).refusal pointing ≡ true → PointedAt file
+  pub not_pointed : member (survey_of file).refusal pointing ≡ false → OtherPlace file

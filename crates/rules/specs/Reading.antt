@@ -5,9 +5,9 @@ use Rattle.std.proofs.Math.Option.{Option, none, some}
 use Rattle.rules.specs.Lists.{pick}
 use Rattle.rules.specs.Bytes.{newline}
 use Rattle.rules.specs.Texts.{Text}
-use Rattle.rules.specs.Rules.{Fault, faultOf}
+use Rattle.rules.specs.Rules.{Fault, fault_of}
 use Rattle.rules.specs.Sentences.{Sentence}
-use Rattle.rules.specs.Phases.{Phase, start, behindSentence, Answer, refuse, go, hand, step, atEnd}
+use Rattle.rules.specs.Phases.{Phase, start, behind_sentence, Answer, refuse, go, hand, step, at_end}
 
 -- a sentence handed out, and the place behind its end line
 pub record Handed : Type 0 where
@@ -18,17 +18,17 @@ pub record Handed : Type 0 where
 -- is handed out; the fault, after which only the place moves
 pub record Reading : Type 0 where
   pub at : ℕ
-  pub lineStart : ℕ
+  pub line_start : ℕ
   pub part : List ℕ
   pub phase : Phase
   pub handed : List Handed
   pub fault : Option Fault
 
 abbrev pub begin : Reading
-begin = record { at = 0; lineStart = 0; part = []; phase = start; handed = []; fault = none }
+begin = record { at = 0; line_start = 0; part = []; phase = start; handed = []; fault = none }
 
 abbrev pub line : Reading → Text
-line r = record { start = r.lineStart; bytes = reverse r.part }
+line r = record { start = r.line_start; bytes = reverse r.part }
 
 abbrev pub numbers : List Handed → List ℕ
 numbers hs = map (λ (h : Handed). h.sentence.heading.number) hs
@@ -38,41 +38,41 @@ abbrev pub ended : Reading → Answer → Reading
 ended r (refuse q) =
     record {
       at = suc r.at;
-      lineStart = r.lineStart;
+      line_start = r.line_start;
       part = r.part;
       phase = r.phase;
       handed = r.handed;
-      fault = some (faultOf q);
+      fault = some (fault_of q);
     }
 ended r (go p) =
-    record { at = suc r.at; lineStart = suc r.at; part = []; phase = p; handed = r.handed; fault = none }
+    record { at = suc r.at; line_start = suc r.at; part = []; phase = p; handed = r.handed; fault = none }
 ended r (hand p s) =
     record {
       at = suc r.at;
-      lineStart = suc r.at;
+      line_start = suc r.at;
       part = [];
-      phase = behindSentence p;
+      phase = behind_sentence p;
       handed = r.handed ++ (record { end = suc r.at; sentence = s } ∷ []);
       fault = none;
     }
 
-abbrev pub withByte : Reading → ℕ → Reading
-withByte r b =
-    record { at = suc r.at; lineStart = r.lineStart; part = b ∷ r.part; phase = r.phase; handed = r.handed; fault = none }
+abbrev pub with_byte : Reading → ℕ → Reading
+with_byte r b =
+    record { at = suc r.at; line_start = r.line_start; part = b ∷ r.part; phase = r.phase; handed = r.handed; fault = none }
 
 abbrev pub later : Reading → Fault → Reading
 later r f =
-    record { at = suc r.at; lineStart = r.lineStart; part = r.part; phase = r.phase; handed = r.handed; fault = some f }
+    record { at = suc r.at; line_start = r.line_start; part = r.part; phase = r.phase; handed = r.handed; fault = some f }
 
 abbrev pub sound : Reading → ℕ → Reading
-sound r b = pick (eqb b newline) (ended r (step r.phase (numbers r.handed) (line r))) (withByte r b)
+sound r b = pick (eqb b newline) (ended r (step r.phase (numbers r.handed) (line r))) (with_byte r b)
 
-abbrev pub byteUnless : Option Fault → Reading → ℕ → Reading
-byteUnless none r b = sound r b
-byteUnless (some f) r b = later r f
+abbrev pub byte_unless : Option Fault → Reading → ℕ → Reading
+byte_unless none r b = sound r b
+byte_unless (some f) r b = later r f
 
 abbrev pub byte : Reading → ℕ → Reading
-byte r b = byteUnless r.fault r b
+byte r b = byte_unless r.fault r b
 
 abbrev pub read : Reading → List ℕ → Reading
 read r [] = r
@@ -82,13 +82,13 @@ read r (b ∷ bs) = read (byte r b) bs
 
 -- bytes follow the last newline: 3, at the first of them; else what the phase says, at the file's length
 abbrev pub closing : Reading → List ℕ → Fault
-closing r [] = record { number = atEnd r.phase; place = r.at }
-closing r (b ∷ bs) = record { number = 3; place = r.lineStart }
+closing r [] = record { number = at_end r.phase; place = r.at }
+closing r (b ∷ bs) = record { number = 3; place = r.line_start }
 
-abbrev pub closingUnless : Option Fault → Reading → Fault
-closingUnless none r = closing r r.part
-closingUnless (some f) r = f
+abbrev pub closing_unless : Option Fault → Reading → Fault
+closing_unless none r = closing r r.part
+closing_unless (some f) r = f
 
 -- refusal (0 if accepted) and place (the file length if accepted)
 abbrev pub verdict : Reading → Fault
-verdict r = closingUnless r.fault r
+verdict r = closing_unless r.fault r

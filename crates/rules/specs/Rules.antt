@@ -19,8 +19,8 @@ pub record Fault : Type 0 where
   pub place : ℕ
 
 -- the place is the first byte of what the rule is about: for 8, 10, 15, 18 and 19 a column or a text, else the line
-abbrev pub faultOf : Rule → Fault
-faultOf r = record { number = r.number; place = r.about.start }
+abbrev pub fault_of : Rule → Fault
+fault_of r = record { number = r.number; place = r.about.start }
 
 -- what a line is read as, or the rule that refuses it
 pub data Verdict (A : Type 0) : Type 0 where

@@ -4,10 +4,10 @@ use Rattle.std.specs.Prelude.{ℕ, ◌≤◌, ◌≡◌, ◌⊎◌, ◌↔◌, L
 use Rattle.std.proofs.Math.Option.{Option, none, some}
 use Rattle.rules.specs.Lists.{Each}
 use Rattle.rules.specs.Texts.{Text}
-use Rattle.rules.specs.Tables.{Tables, Row, table, origins, editors, wordTags, secEdgeTags}
+use Rattle.rules.specs.Tables.{Tables, Row, table, origins, editors, word_tags, sec_edge_tags}
 use Rattle.rules.specs.Sentences.{Edge, Node, Sentence}
 use Rattle.rules.specs.Reading.{Handed}
-use Rattle.rules.specs.Survey.{surveyOf}
+use Rattle.rules.specs.Survey.{survey_of}
 
 -- ---- said of two lists
 
@@ -48,9 +48,9 @@ Present Alike (some rs) (some qs) = Alike rs qs
 
 -- the order of origin and editor rows doesn't count
 pub record TablesAgree (ts us : Tables) : Type 0 where
-  pub origin-rows : Present (InAnyOrder SameRow) (table origins ts) (table origins us)
-  pub editor-rows : Present (InAnyOrder SameRow) (table editors ts) (table editors us)
-  pub tag-rows : (n : ℕ) → wordTags ≤ n → n ≤ secEdgeTags → Present (InOrder SameRow) (table n ts) (table n us)
+  pub origin_rows : Present (InAnyOrder SameRow) (table origins ts) (table origins us)
+  pub editor_rows : Present (InAnyOrder SameRow) (table editors ts) (table editors us)
+  pub tag_rows : (n : ℕ) → word_tags ≤ n → n ≤ sec_edge_tags → Present (InOrder SameRow) (table n ts) (table n us)
 
 -- ---- sentences
 
@@ -79,27 +79,27 @@ pub record SameSentence (s t : Sentence) : Type 0 where
   pub words : InOrder SameNode s.words t.words
   pub phrases : InAnyOrder SameNode s.phrases t.phrases
 
-abbrev pub handedNumber : Handed → ℕ
-handedNumber h = h.sentence.heading.number
+abbrev pub handed_number : Handed → ℕ
+handed_number h = h.sentence.heading.number
 
 abbrev pub Occurs : ℕ → List Handed → Type 0
-Occurs n hs = Some (λ (h : Handed). handedNumber h ≡ n) hs
+Occurs n hs = Some (λ (h : Handed). handed_number h ≡ n) hs
 
 -- the same numbers occur and, for each, the sentences agree
 pub record SentencesAgree (hs gs : List Handed) : Type 0 where
   pub numbers : (n : ℕ) → Occurs n hs ↔ Occurs n gs
-  pub each : Each (λ (h : Handed). Each (λ (g : Handed). handedNumber h ≡ handedNumber g → SameSentence h.sentence g.sentence) gs) hs
+  pub each : Each (λ (h : Handed). Each (λ (g : Handed). handed_number h ≡ handed_number g → SameSentence h.sentence g.sentence) gs) hs
 
 -- ---- two files
 
 abbrev pub SameTables : List ℕ → List ℕ → Type 0
-SameTables f g = TablesAgree (surveyOf f).tables (surveyOf g).tables
+SameTables f g = TablesAgree (survey_of f).tables (survey_of g).tables
 
 abbrev pub SameSentences : List ℕ → List ℕ → Type 0
-SameSentences f g = SentencesAgree (surveyOf f).handed (surveyOf g).handed
+SameSentences f g = SentencesAgree (survey_of f).handed (survey_of g).handed
 
 -- the same format, tables and sentences
 pub record SameMeaning (f g : List ℕ) : Type 0 where
-  pub format : (surveyOf f).format ≡ (surveyOf g).format
+  pub format : (survey_of f).format ≡ (survey_of g).format
   pub tables : SameTables f g
   pub sentences : SameSentences f g

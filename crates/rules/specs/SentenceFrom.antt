@@ -5,61 +5,61 @@ use Rattle.std.proofs.Math.Option.{Option, none, some}
 use Rattle.rules.specs.Lists.{pick, bytes, every}
 use Rattle.rules.specs.Bytes.{newline, legal}
 use Rattle.rules.specs.Texts.{Text, reads}
-use Rattle.rules.specs.Numbers.{lineLimit}
+use Rattle.rules.specs.Numbers.{line_limit}
 use Rattle.rules.specs.Rules.{rule, Verdict, refused, granted, checked}
-use Rattle.rules.specs.Tables.{noTables}
-use Rattle.rules.specs.Sentences.{Heading, Sentence, headingWritten, headingIn}
-use Rattle.rules.specs.Keywords.{firstColumn}
-use Rattle.rules.specs.Phases.{inSentence, begun}
+use Rattle.rules.specs.Tables.{no_tables}
+use Rattle.rules.specs.Sentences.{Heading, Sentence, heading_written, heading_in}
+use Rattle.rules.specs.Keywords.{first_column}
+use Rattle.rules.specs.Phases.{in_sentence, begun}
 use Rattle.rules.specs.Reading.{Handed, Reading, read}
 
 -- the file's first byte, or one behind a newline
-abbrev pub startsLine : List ℕ → ℕ → Bool
-startsLine file at = eqb at 0 || eqb (get_or file (at - 1) 0) newline
+abbrev pub starts_line : List ℕ → ℕ → Bool
+starts_line file at = eqb at 0 || eqb (get_or file (at - 1) 0) newline
 
-abbrev pub putInFront : ℕ → Option (List ℕ) → Option (List ℕ)
-putInFront b none = none
-putInFront b (some bs) = some (b ∷ bs)
+abbrev pub put_in_front : ℕ → Option (List ℕ) → Option (List ℕ)
+put_in_front b none = none
+put_in_front b (some bs) = some (b ∷ bs)
 
 -- the bytes in front of the first newline, if there is one
-unfoldable pub endedLine : List ℕ → Option (List ℕ)
-endedLine [] = none
-endedLine (b ∷ bs) = let later = putInFront b (endedLine bs) in pick (eqb b newline) (some []) later
+unfoldable pub ended_line : List ℕ → Option (List ℕ)
+ended_line [] = none
+ended_line (b ∷ bs) = let later = put_in_front b (ended_line bs) in pick (eqb b newline) (some []) later
 
 -- a #BOS line, as it is written
-unfoldable pub headingAlone : Text → Verdict Heading
-headingAlone line =
+unfoldable pub heading_alone : Text → Verdict Heading
+heading_alone line =
     checked
     (rule 4 line (every legal line.bytes)
-    ∷ rule 5 line (leb (length line.bytes) lineLimit)
-    ∷ rule 6 line (reads (bytes "#BOS") (firstColumn line))
-    ∷ headingWritten line)
-    (headingIn line)
+    ∷ rule 5 line (leb (length line.bytes) line_limit)
+    ∷ rule 6 line (reads (bytes "#BOS") (first_column line))
+    ∷ heading_written line)
+    (heading_in line)
 
 -- the lines from next on are those of a sentence that begins at a place, in a file that has no tables
-abbrev pub behindHeading : ℕ → Heading → ℕ → Reading
-behindHeading at h next =
+abbrev pub behind_heading : ℕ → Heading → ℕ → Reading
+behind_heading at h next =
     record {
       at = next;
-      lineStart = next;
+      line_start = next;
       part = [];
-      phase = inSentence (record { format = 3; tables = noTables }) (begun at h);
+      phase = in_sentence (record { format = 3; tables = no_tables }) (begun at h);
       handed = [];
       fault = none;
     }
 
-abbrev pub firstHanded : List Handed → Option Sentence
-firstHanded [] = none
-firstHanded (h ∷ hs) = some h.sentence
+abbrev pub first_handed : List Handed → Option Sentence
+first_handed [] = none
+first_handed (h ∷ hs) = some h.sentence
 
-abbrev pub headedBy : List ℕ → ℕ → ℕ → Verdict Heading → Option Sentence
-headedBy file at next (refused r) = none
-headedBy file at next (granted h) = firstHanded (read (behindHeading at h next) (drop next file)).handed
+abbrev pub headed_by : List ℕ → ℕ → ℕ → Verdict Heading → Option Sentence
+headed_by file at next (refused r) = none
+headed_by file at next (granted h) = first_handed (read (behind_heading at h next) (drop next file)).handed
 
-abbrev pub begunBy : List ℕ → ℕ → Option (List ℕ) → Option Sentence
-begunBy file at none = none
-begunBy file at (some l) = headedBy file at (suc (at + length l)) (headingAlone (record { start = at; bytes = l }))
+abbrev pub begun_by : List ℕ → ℕ → Option (List ℕ) → Option Sentence
+begun_by file at none = none
+begun_by file at (some l) = headed_by file at (suc (at + length l)) (heading_alone (record { start = at; bytes = l }))
 
-unfoldable pub sentenceFrom : List ℕ → ℕ → Option Sentence
-unfolding headingAlone
-sentenceFrom file at = pick (startsLine file at) (begunBy file at (endedLine (drop at file))) none
+unfoldable pub sentence_from : List ℕ → ℕ → Option Sentence
+unfolding heading_alone
+sentence_from file at = pick (starts_line file at) (begun_by file at (ended_line (drop at file))) none

@@ -4,79 +4,79 @@ use Rattle.std.specs.Prelude.{ℕ, suc, ◌+◌, ◌*◌}
 
 -- ---- the leading numbers: number, editor + 1, date, origin, comment start and length, words, phrases, secondary edges
 
-abbrev pub numberPlace : ℕ
-numberPlace = 0
+abbrev pub number_place : ℕ
+number_place = 0
 
-abbrev pub editorPlace : ℕ
-editorPlace = suc numberPlace
+abbrev pub editor_place : ℕ
+editor_place = suc number_place
 
-abbrev pub datePlace : ℕ
-datePlace = suc editorPlace
+abbrev pub date_place : ℕ
+date_place = suc editor_place
 
-abbrev pub originPlace : ℕ
-originPlace = suc datePlace
+abbrev pub origin_place : ℕ
+origin_place = suc date_place
 
-abbrev pub remarkStart : ℕ
-remarkStart = suc originPlace
+abbrev pub remark_start : ℕ
+remark_start = suc origin_place
 
-abbrev pub remarkLength : ℕ
-remarkLength = suc remarkStart
+abbrev pub remark_length : ℕ
+remark_length = suc remark_start
 
-abbrev pub wordsPlace : ℕ
-wordsPlace = suc remarkLength
+abbrev pub words_place : ℕ
+words_place = suc remark_length
 
-abbrev pub phrasesPlace : ℕ
-phrasesPlace = suc wordsPlace
+abbrev pub phrases_place : ℕ
+phrases_place = suc words_place
 
-abbrev pub edgesPlace : ℕ
-edgesPlace = suc phrasesPlace
+abbrev pub edges_place : ℕ
+edges_place = suc phrases_place
 
-abbrev pub leadingCount : ℕ
-leadingCount = suc edgesPlace
+abbrev pub leading_count : ℕ
+leading_count = suc edges_place
 
 -- ---- the fields of a node's record: start and length of word, tag, morphology, edge; parent; comment start and length
 
-abbrev pub wordStart : ℕ
-wordStart = 0
+abbrev pub word_start : ℕ
+word_start = 0
 
-abbrev pub wordLength : ℕ
-wordLength = suc wordStart
+abbrev pub word_length : ℕ
+word_length = suc word_start
 
-abbrev pub tagStart : ℕ
-tagStart = suc wordLength
+abbrev pub tag_start : ℕ
+tag_start = suc word_length
 
-abbrev pub tagLength : ℕ
-tagLength = suc tagStart
+abbrev pub tag_length : ℕ
+tag_length = suc tag_start
 
-abbrev pub morphologyStart : ℕ
-morphologyStart = suc tagLength
+abbrev pub morphology_start : ℕ
+morphology_start = suc tag_length
 
-abbrev pub morphologyLength : ℕ
-morphologyLength = suc morphologyStart
+abbrev pub morphology_length : ℕ
+morphology_length = suc morphology_start
 
-abbrev pub edgeStart : ℕ
-edgeStart = suc morphologyLength
+abbrev pub edge_start : ℕ
+edge_start = suc morphology_length
 
-abbrev pub edgeLength : ℕ
-edgeLength = suc edgeStart
+abbrev pub edge_length : ℕ
+edge_length = suc edge_start
 
-abbrev pub parentPlace : ℕ
-parentPlace = suc edgeLength
+abbrev pub parent_place : ℕ
+parent_place = suc edge_length
 
-abbrev pub commentStart : ℕ
-commentStart = suc parentPlace
+abbrev pub comment_start : ℕ
+comment_start = suc parent_place
 
-abbrev pub commentLength : ℕ
-commentLength = suc commentStart
+abbrev pub comment_length : ℕ
+comment_length = suc comment_start
 
-abbrev pub nodeWidth : ℕ
-nodeWidth = suc commentLength
+abbrev pub node_width : ℕ
+node_width = suc comment_length
 
 -- ---- where they stand: nine numbers, then 1,000 node records at the node's number
 
-abbrev pub nodeRoom : ℕ
-nodeRoom = 1000
+abbrev pub node_room : ℕ
+node_room = 1000
 
 -- the place of a field of a node
-abbrev pub fieldPlace : ℕ → ℕ → ℕ
-fieldPlace field node = leadingCount + (nodeWidth * node + field)
+abbrev pub field_place : ℕ → ℕ → ℕ
+field_place field node = leading_count + (node_width * node + field)

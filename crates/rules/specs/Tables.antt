@@ -2,7 +2,7 @@
 use Rattle.std.specs.Prelude.{ℕ, suc, Bool, true, false, not, ◌||◌, List, [], ◌∷◌, get_or, set, replicate, eqb}
 use Rattle.std.proofs.Math.Option.{Option, none, some}
 use Rattle.rules.specs.Lists.{pick, bytes, any}
-use Rattle.rules.specs.Texts.{Text, reads, sameBytes}
+use Rattle.rules.specs.Texts.{Text, reads, same_bytes}
 
 -- ---- names, in the order of the sheet
 
@@ -12,33 +12,33 @@ origins = 0
 abbrev pub editors : ℕ
 editors = 1
 
-abbrev pub wordTags : ℕ
-wordTags = 2
+abbrev pub word_tags : ℕ
+word_tags = 2
 
-abbrev pub morphTags : ℕ
-morphTags = 3
+abbrev pub morph_tags : ℕ
+morph_tags = 3
 
-abbrev pub nodeTags : ℕ
-nodeTags = 4
+abbrev pub node_tags : ℕ
+node_tags = 4
 
-abbrev pub edgeTags : ℕ
-edgeTags = 5
+abbrev pub edge_tags : ℕ
+edge_tags = 5
 
-abbrev pub secEdgeTags : ℕ
-secEdgeTags = 6
+abbrev pub sec_edge_tags : ℕ
+sec_edge_tags = 6
 
-abbrev pub tableNames : List (List ℕ)
-tableNames =
+abbrev pub table_names : List (List ℕ)
+table_names =
     bytes "ORIGIN" ∷ bytes "EDITOR" ∷ bytes "WORDTAG" ∷ bytes "MORPHTAG" ∷ bytes "NODETAG" ∷ bytes "EDGETAG"
     ∷ bytes "SECEDGETAG" ∷ []
 
 -- the place of a name in a list of names, counted from n
-abbrev pub placeFrom : ℕ → Text → List (List ℕ) → Option ℕ
-placeFrom n t [] = none
-placeFrom n t (x ∷ xs) = let later = placeFrom (suc n) t xs in pick (reads x t) (some n) later
+abbrev pub place_from : ℕ → Text → List (List ℕ) → Option ℕ
+place_from n t [] = none
+place_from n t (x ∷ xs) = let later = place_from (suc n) t xs in pick (reads x t) (some n) later
 
-abbrev pub tableNamed : Text → Option ℕ
-tableNamed t = placeFrom 0 t tableNames
+abbrev pub table_named : Text → Option ℕ
+table_named t = place_from 0 t table_names
 
 -- ---- rows, and tables of rows
 
@@ -53,8 +53,8 @@ pub record Row : Type 0 where
 abbrev pub Tables : Type 0
 Tables = List (Option (List Row))
 
-abbrev pub noTables : Tables
-noTables = replicate 7 none
+abbrev pub no_tables : Tables
+no_tables = replicate 7 none
 
 abbrev pub table : ℕ → Tables → Option (List Row)
 table n ts = get_or ts n none
@@ -73,11 +73,11 @@ abbrev pub rows_of : Option (List Row) → List Row
 rows_of none = []
 rows_of (some rs) = rs
 
-unfoldable pub hasId : ℕ → List Row → Bool
-hasId i rs = any (λ (r : Row). eqb i r.id1) rs
+unfoldable pub has_id : ℕ → List Row → Bool
+has_id i rs = any (λ (r : Row). eqb i r.id1) rs
 
-unfoldable pub hasTag : Text → List Row → Bool
-hasTag t rs = any (λ (r : Row). sameBytes t r.first) rs
+unfoldable pub has_tag : Text → List Row → Bool
+has_tag t rs = any (λ (r : Row). same_bytes t r.first) rs
 
 -- ---- tags
 
@@ -92,9 +92,9 @@ reserved t = reads dashes t || reads unknown t
 
 -- a tag must stand in its table if the file has that table; -- and UNKNOWN always may
 unfoldable pub known : Tables → ℕ → Text → Bool
-unfolding hasTag
-known ts n t = reserved t || not (present n ts) || hasTag t (rows_of (table n ts))
+unfolding has_tag
+known ts n t = reserved t || not (present n ts) || has_tag t (rows_of (table n ts))
 
 -- tags have at most 10 bytes, for MORPHTAG 32
-abbrev pub tagLimit : ℕ → ℕ
-tagLimit n = pick (eqb n morphTags) 32 10
+abbrev pub tag_limit : ℕ → ℕ
+tag_limit n = pick (eqb n morph_tags) 32 10

@@ -8,8 +8,8 @@ pub record Text : Type 0 where
   pub start : ℕ
   pub bytes : List ℕ
 
-abbrev pub noText : Text
-noText = record { start = 0; bytes = [] }
+abbrev pub no_text : Text
+no_text = record { start = 0; bytes = [] }
 
 abbrev pub given : Text → Bool
 given t = not (empty t.bytes)
@@ -18,8 +18,8 @@ given t = not (empty t.bytes)
 abbrev pub reads : List ℕ → Text → Bool
 reads xs t = same t.bytes xs
 
-abbrev pub sameBytes : Text → Text → Bool
-sameBytes t u = same t.bytes u.bytes
+abbrev pub same_bytes : Text → Text → Bool
+same_bytes t u = same t.bytes u.bytes
 
 abbrev pub at_most : ℕ → Text → Bool
 at_most n t = leb (length t.bytes) n
@@ -29,50 +29,50 @@ abbrev pub bare : Text → Text
 bare t = record { start = 0; bytes = t.bytes }
 
 -- the digits behind a phrase line's #
-abbrev pub behindHash : Text → Text
-behindHash t = record { start = suc t.start; bytes = drop 1 t.bytes }
+abbrev pub behind_hash : Text → Text
+behind_hash t = record { start = suc t.start; bytes = drop 1 t.bytes }
 
 -- ---- white bytes lost at both ends
 
-abbrev pub unlessWhite : ℕ → List ℕ → List ℕ
-unlessWhite b [] = pick (white b) [] (b ∷ [])
-unlessWhite b (c ∷ cs) = b ∷ c ∷ cs
+abbrev pub unless_white : ℕ → List ℕ → List ℕ
+unless_white b [] = pick (white b) [] (b ∷ [])
+unless_white b (c ∷ cs) = b ∷ c ∷ cs
 
-unfoldable pub rightTrim : List ℕ → List ℕ
-rightTrim [] = []
-rightTrim (b ∷ bs) = unlessWhite b (rightTrim bs)
+unfoldable pub right_trim : List ℕ → List ℕ
+right_trim [] = []
+right_trim (b ∷ bs) = unless_white b (right_trim bs)
 
-unfoldable pub trimFrom : ℕ → List ℕ → Text
-unfolding rightTrim
-trimFrom at [] = noText
-trimFrom at (b ∷ bs) =
-    let later = trimFrom (suc at) bs in
-    pick (white b) later (record { start = at; bytes = rightTrim (b ∷ bs) })
+unfoldable pub trim_from : ℕ → List ℕ → Text
+unfolding right_trim
+trim_from at [] = no_text
+trim_from at (b ∷ bs) =
+    let later = trim_from (suc at) bs in
+    pick (white b) later (record { start = at; bytes = right_trim (b ∷ bs) })
 
 abbrev pub trim : Text → Text
-trim t = trimFrom t.start t.bytes
+trim t = trim_from t.start t.bytes
 
 -- ---- the first two adjacent percent signs: what stands in front of them, and what behind
 
-abbrev pub startsComment : ℕ → ℕ → Bool
-startsComment a b = same (a ∷ b ∷ []) percents
+abbrev pub starts_comment : ℕ → ℕ → Bool
+starts_comment a b = same (a ∷ b ∷ []) percents
 
-unfoldable pub frontBytes : List ℕ → List ℕ
-frontBytes [] = []
-frontBytes (a ∷ []) = a ∷ []
-frontBytes (a ∷ b ∷ bs) =
-    let more = a ∷ frontBytes (b ∷ bs) in
-    pick (startsComment a b) [] more
+unfoldable pub front_bytes : List ℕ → List ℕ
+front_bytes [] = []
+front_bytes (a ∷ []) = a ∷ []
+front_bytes (a ∷ b ∷ bs) =
+    let more = a ∷ front_bytes (b ∷ bs) in
+    pick (starts_comment a b) [] more
 
-unfoldable pub behindFrom : ℕ → List ℕ → Text
-behindFrom at [] = noText
-behindFrom at (a ∷ []) = noText
-behindFrom at (a ∷ b ∷ bs) =
-    let later = behindFrom (suc at) (b ∷ bs) in
-    pick (startsComment a b) (record { start = suc (suc at); bytes = bs }) later
+unfoldable pub behind_from : ℕ → List ℕ → Text
+behind_from at [] = no_text
+behind_from at (a ∷ []) = no_text
+behind_from at (a ∷ b ∷ bs) =
+    let later = behind_from (suc at) (b ∷ bs) in
+    pick (starts_comment a b) (record { start = suc (suc at); bytes = bs }) later
 
-abbrev pub inFront : Text → Text
-inFront t = record { start = t.start; bytes = frontBytes t.bytes }
+abbrev pub in_front : Text → Text
+in_front t = record { start = t.start; bytes = front_bytes t.bytes }
 
 abbrev pub behind : Text → Text
-behind t = behindFrom t.start t.bytes
+behind t = behind_from t.start t.bytes

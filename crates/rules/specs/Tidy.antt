@@ -4,27 +4,27 @@ use Rattle.std.proofs.Math.Option.{Option, none, some}
 use Rattle.rules.specs.Lists.{pick, bytes, joined}
 use Rattle.rules.specs.Bytes.{newline, percents}
 use Rattle.rules.specs.Texts.{Text, given}
-use Rattle.rules.specs.Tables.{Tables, Row, origins, wordTags, tableNames}
+use Rattle.rules.specs.Tables.{Tables, Row, origins, word_tags, table_names}
 use Rattle.rules.specs.Sentences.{Edge, Node, Sentence}
 use Rattle.rules.specs.Meaning.{Meaning}
 
 -- ---- numbers as they are written
 
 -- the digits of n, of which there are at most k + 1
-unfoldable pub digitsWithin : ℕ → ℕ → List ℕ
-digitsWithin zero n = (48 + n % 10) ∷ []
-digitsWithin (suc k) n =
-    let more = digitsWithin k (n / 10) ++ ((48 + n % 10) ∷ []) in
+unfoldable pub digits_within : ℕ → ℕ → List ℕ
+digits_within zero n = (48 + n % 10) ∷ []
+digits_within (suc k) n =
+    let more = digits_within k (n / 10) ++ ((48 + n % 10) ∷ []) in
     pick (ltb n 10) ((48 + n % 10) ∷ []) more
 
-unfoldable pub digitsOf : ℕ → List ℕ
-unfolding digitsWithin
-digitsOf n = digitsWithin n n
+unfoldable pub digits_of : ℕ → List ℕ
+unfolding digits_within
+digits_of n = digits_within n n
 
 -- an id from -1 on, of which one more is given
-abbrev pub idDigits : ℕ → List ℕ
-idDigits zero = bytes "-1"
-idDigits (suc i) = digitsOf i
+abbrev pub id_digits : ℕ → List ℕ
+id_digits zero = bytes "-1"
+id_digits (suc i) = digits_of i
 
 -- ---- lines: keyword lines use one space between columns, rows and node lines one tab
 
@@ -39,11 +39,11 @@ parted by [] = newline ∷ []
 parted by (x ∷ []) = x ++ (newline ∷ [])
 parted by (x ∷ y ∷ xs) = x ++ (by ∷ parted by (y ∷ xs))
 
-abbrev pub keywordLine : List (List ℕ) → List ℕ
-keywordLine xs = parted space xs
+abbrev pub keyword_line : List (List ℕ) → List ℕ
+keyword_line xs = parted space xs
 
-abbrev pub tabbedLine : List (List ℕ) → List ℕ
-tabbedLine xs = parted tab xs
+abbrev pub tabbed_line : List (List ℕ) → List ℕ
+tabbed_line xs = parted tab xs
 
 -- a comment, if there is one, is %% and its text
 abbrev pub commented : Text → List (List ℕ)
@@ -51,58 +51,58 @@ commented t = pick (given t) (percents ∷ t.bytes ∷ []) []
 
 -- ---- tables
 
-abbrev pub flagText : ℕ → List ℕ
-flagText f = pick (eqb f 1) (bytes "Y") (bytes "N")
+abbrev pub flag_text : ℕ → List ℕ
+flag_text f = pick (eqb f 1) (bytes "Y") (bytes "N")
 
 abbrev pub flagged : ℕ → Row → List (List ℕ)
-flagged n r = pick (eqb n wordTags) (flagText r.flag ∷ []) []
+flagged n r = pick (eqb n word_tags) (flag_text r.flag ∷ []) []
 
 -- an origin's comment behind %%, in the other tables the second text as it is
-abbrev pub secondText : ℕ → Row → List (List ℕ)
-secondText n r = pick (eqb n origins) (commented r.second) (r.second.bytes ∷ [])
+abbrev pub second_text : ℕ → Row → List (List ℕ)
+second_text n r = pick (eqb n origins) (commented r.second) (r.second.bytes ∷ [])
 
 abbrev pub row_line : ℕ → Row → List ℕ
-row_line n r = tabbedLine (idDigits r.id1 ∷ r.first.bytes ∷ flagged n r ++ secondText n r)
+row_line n r = tabbed_line (id_digits r.id1 ∷ r.first.bytes ∷ flagged n r ++ second_text n r)
 
-abbrev pub tableName : ℕ → List ℕ
-tableName n = get_or tableNames n []
+abbrev pub table_name : ℕ → List ℕ
+table_name n = get_or table_names n []
 
-abbrev pub tableText : ℕ → Option (List Row) → List ℕ
-tableText n none = []
-tableText n (some rs) =
-    keywordLine (bytes "#BOT" ∷ tableName n ∷ []) ++ joined (map (row_line n) rs) ++ keywordLine (bytes "#EOT" ∷ tableName n ∷ [])
+abbrev pub table_text : ℕ → Option (List Row) → List ℕ
+table_text n none = []
+table_text n (some rs) =
+    keyword_line (bytes "#BOT" ∷ table_name n ∷ []) ++ joined (map (row_line n) rs) ++ keyword_line (bytes "#EOT" ∷ table_name n ∷ [])
 
 -- the tables from the n-th on
-abbrev pub tablesText : ℕ → Tables → List ℕ
-tablesText n [] = []
-tablesText n (t ∷ ts) = tableText n t ++ tablesText (suc n) ts
+abbrev pub tables_text : ℕ → Tables → List ℕ
+tables_text n [] = []
+tables_text n (t ∷ ts) = table_text n t ++ tables_text (suc n) ts
 
 -- ---- sentences
 
-abbrev pub nodeName : Node → List ℕ
-nodeName n = pick (given n.word) n.word.bytes (35 ∷ digitsOf n.number)
+abbrev pub node_name : Node → List ℕ
+node_name n = pick (given n.word) n.word.bytes (35 ∷ digits_of n.number)
 
-abbrev pub edgeColumns : Edge → List (List ℕ)
-edgeColumns e = e.label.bytes ∷ digitsOf e.parent ∷ []
+abbrev pub edge_columns : Edge → List (List ℕ)
+edge_columns e = e.label.bytes ∷ digits_of e.parent ∷ []
 
-abbrev pub nodeLine : Node → List ℕ
-nodeLine n =
-    tabbedLine
-    (nodeName n ∷ n.tag.bytes ∷ n.morphology.bytes ∷ n.edge.bytes ∷ digitsOf n.parent
-    ∷ joined (map edgeColumns n.secondary) ++ commented n.comment)
+abbrev pub node_line : Node → List ℕ
+node_line n =
+    tabbed_line
+    (node_name n ∷ n.tag.bytes ∷ n.morphology.bytes ∷ n.edge.bytes ∷ digits_of n.parent
+    ∷ joined (map edge_columns n.secondary) ++ commented n.comment)
 
-abbrev pub headingLine : Sentence → List ℕ
-headingLine s =
-    keywordLine
-    (bytes "#BOS" ∷ digitsOf s.heading.number ∷ idDigits s.heading.editor1 ∷ digitsOf s.heading.date
-    ∷ digitsOf s.heading.origin ∷ commented s.heading.comment)
+abbrev pub heading_line : Sentence → List ℕ
+heading_line s =
+    keyword_line
+    (bytes "#BOS" ∷ digits_of s.heading.number ∷ id_digits s.heading.editor1 ∷ digits_of s.heading.date
+    ∷ digits_of s.heading.origin ∷ commented s.heading.comment)
 
-abbrev pub sentenceText : Sentence → List ℕ
-sentenceText s =
-    headingLine s ++ joined (map nodeLine s.words) ++ joined (map nodeLine s.phrases)
-    ++ keywordLine (bytes "#EOS" ∷ digitsOf s.heading.number ∷ [])
+abbrev pub sentence_text : Sentence → List ℕ
+sentence_text s =
+    heading_line s ++ joined (map node_line s.words) ++ joined (map node_line s.phrases)
+    ++ keyword_line (bytes "#EOS" ∷ digits_of s.heading.number ∷ [])
 
-unfoldable pub tidyText : Meaning → List ℕ
-unfolding digitsOf parted
-tidyText m =
-    keywordLine (bytes "#FORMAT" ∷ digitsOf m.format ∷ []) ++ tablesText 0 m.tables ++ joined (map sentenceText m.sentences)
+unfoldable pub tidy_text : Meaning → List ℕ
+unfolding digits_of parted
+tidy_text m =
+    keyword_line (bytes "#FORMAT" ∷ digits_of m.format ∷ []) ++ tables_text 0 m.tables ++ joined (map sentence_text m.sentences)

@@ -3,11 +3,11 @@
 use Rattle.std.specs.Prelude.{ℕ, suc, ◌<◌, ◌≡◌, ◌↔◌, List, [], ◌∷◌, leb}
 use Rattle.std.proofs.Math.Option.{Option, none, some}
 use Rattle.rules.specs.Lists.{pick}
-use Rattle.rules.specs.GrammarNames.{ofEditor}
+use Rattle.rules.specs.GrammarNames.{of_editor}
 use Rattle.rules.specs.GrammarContent.{RowContent, NodeContent, SentenceContent, Content}
 use Rattle.rules.specs.GrammarLines.{In}
 use Rattle.rules.specs.AsWritten.{EachWith}
-use Rattle.rules.specs.TidyLines.{Consists, tidyLines}
+use Rattle.rules.specs.TidyLines.{Consists, tidy_lines}
 
 -- ---- the order
 
@@ -26,7 +26,7 @@ abbrev pub TableOrdered : ℕ → Option (List RowContent) → Option (List RowC
 TableOrdered which none none = Unit
 TableOrdered which none (some qs) = ⊥
 TableOrdered which (some rs) none = ⊥
-TableOrdered which (some rs) (some qs) = pick (leb which ofEditor) (ByRising (λ (r : RowContent). r.id1) rs qs) (qs ≡ rs)
+TableOrdered which (some rs) (some qs) = pick (leb which of_editor) (ByRising (λ (r : RowContent). r.id1) rs qs) (qs ≡ rs)
 
 abbrev pub TablesOrdered : ℕ → List (Option (List RowContent)) → List (Option (List RowContent)) → Type 0
 TablesOrdered which [] [] = Unit
@@ -43,12 +43,12 @@ pub record TidyOrder (c d : Content) : Type 0 where
   pub format : d.format ≡ c.format
   pub tables : TablesOrdered 0 c.tables d.tables
   pub each : List SentenceContent
-  pub by-phrases : EachWith SentenceOrdered c.sentences each
+  pub by_phrases : EachWith SentenceOrdered c.sentences each
   pub by_number : ByRising (λ (s : SentenceContent). s.heading.number) each d.sentences
 
 -- ---- the tidy text of a content
 
 pub record WrittenTidily (c : Content) (text : List ℕ) : Type 0 where
-  pub inOrder : Content
-  pub ordered : TidyOrder c inOrder
-  pub consists : Consists (tidyLines inOrder) text
+  pub in_order : Content
+  pub ordered : TidyOrder c in_order
+  pub consists : Consists (tidy_lines in_order) text

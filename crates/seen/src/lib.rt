@@ -1,6 +1,6 @@
 // The seen set: number n is bit n mod 8 of byte n / 8.
 ghost use Rattle.std.specs.Prelude.{◌≡◌, false, ◌*◌, ◌<◌, length, replicate};
-ghost use Rattle.seen.specs.Bits.{bit_at, withBit};
+ghost use Rattle.seen.specs.Bits.{bit_at, with_bit};
 
 // The bytes of a set that has a bit for each number from 0 to the highest of a sentence.
 pub const SIZE: usize = 8192;
@@ -21,7 +21,7 @@ pub fn has(seen: &[u8], n: u32) -> bool
 
 pub fn add(seen: &mut [u8], n: u32)
     requires { (n < 8 * length seen.old) × (bit_at seen.old n ≡ false) }
-    ensures { seen.new ≡ withBit seen.old n }
+    ensures { seen.new ≡ with_bit seen.old n }
 {
     let place = (n / 8) as usize;
     let bit = (n % 8) as usize;

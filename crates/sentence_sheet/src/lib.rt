@@ -1,11 +1,11 @@
 // The sentence sheet and the list of secondary edges, filled line by line.
 ghost use Rattle.std.specs.Prelude.{◌≡◌, [], ◌∷◌, ◌+◌, ◌*◌, ◌≤◌, ◌<◌, length};
-ghost use Rattle.rules.specs.SheetFields.{leadingCount, nodeRoom, nodeWidth, fieldPlace};
-ghost use Rattle.rules.specs.Sheets.{sentenceSheetSize};
+ghost use Rattle.rules.specs.SheetFields.{leading_count, node_room, node_width, field_place};
+ghost use Rattle.rules.specs.Sheets.{sentence_sheet_size};
 ghost use Rattle.columns.specs.Splices.{splice};
-ghost use Rattle.sentence_sheet.specs.OpenSentences.{countsPlace};
-ghost use Rattle.sentence_sheet.specs.FlatEdges.{edgeWidth};
-ghost use Rattle.sentence_sheet.specs.NodeRecords.{recordNumbers};
+ghost use Rattle.sentence_sheet.specs.OpenSentences.{counts_place};
+ghost use Rattle.sentence_sheet.specs.FlatEdges.{edge_width};
+ghost use Rattle.sentence_sheet.specs.NodeRecords.{record_numbers};
 
 // The leading numbers of the sheet, by their places.
 pub const NUMBER: usize = 0;
@@ -75,15 +75,15 @@ pub struct NodeRecord {
 
 // The place of a field of a node.
 pub fn field_place(field: usize, node: usize) -> usize
-    requires { (field < nodeWidth) × (node < nodeRoom) }
-    ensures { result ≡ fieldPlace field node }
+    requires { (field < node_width) × (node < node_room) }
+    ensures { result ≡ field_place field node }
 {
     LEADING_COUNT + (NODE_WIDTH * node + field)
 }
 
 pub fn put_node(sheet: &mut [u32], number: usize, node: NodeRecord)
-    requires { (number < nodeRoom) × (sentenceSheetSize ≤ length sheet.old) }
-    ensures { sheet.new ≡ splice (fieldPlace 0 number) (recordNumbers node) sheet.old }
+    requires { (number < node_room) × (sentence_sheet_size ≤ length sheet.old) }
+    ensures { sheet.new ≡ splice (field_place 0 number) (record_numbers node) sheet.old }
 {
     let numbers = [
         node.word,
@@ -111,7 +111,7 @@ pub fn put_heading(
     comment: u32,
     comment_len: u32,
 )
-    requires { leadingCount ≤ length sheet.old }
+    requires { leading_count ≤ length sheet.old }
     ensures { sheet.new ≡ splice 0 (number ∷ editor1 ∷ date ∷ origin ∷ comment ∷ comment_len ∷ []) sheet.old }
 {
     table_sheet::put(
@@ -123,16 +123,16 @@ pub fn put_heading(
 
 // How many words, phrases and secondary edges there are.
 pub fn put_counts(sheet: &mut [u32], words: u32, phrases: u32, edges: u32)
-    requires { leadingCount ≤ length sheet.old }
-    ensures { sheet.new ≡ splice countsPlace (words ∷ phrases ∷ edges ∷ []) sheet.old }
+    requires { leading_count ≤ length sheet.old }
+    ensures { sheet.new ≡ splice counts_place (words ∷ phrases ∷ edges ∷ []) sheet.old }
 {
     table_sheet::put(sheet, WORDS, &[words, phrases, edges]);
 }
 
 // A secondary edge as four numbers, behind `count` others.
 pub fn put_edge(list: &mut [u32], count: usize, child: u32, label: u32, label_len: u32, parent: u32)
-    requires { edgeWidth * count + edgeWidth ≤ length list.old }
-    ensures { list.new ≡ splice (edgeWidth * count) (child ∷ label ∷ label_len ∷ parent ∷ []) list.old }
+    requires { edge_width * count + edge_width ≤ length list.old }
+    ensures { list.new ≡ splice (edge_width * count) (child ∷ label ∷ label_len ∷ parent ∷ []) list.old }
 {
     table_sheet::put(list, EDGE_WIDTH * count, &[child, label, label_len, parent]);
 }

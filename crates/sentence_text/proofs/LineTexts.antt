@@ -8,24 +8,24 @@ use lib.Seq.{length-take-le}
 use mathlib.Core.Bool.{not}
 use Rattle.rules.specs.Lists.{bytes, pick, empty, counting, joined}
 use Rattle.rules.specs.Bytes.{newline}
-use Rattle.rules.specs.Numbers.{phraseNumber}
-use Rattle.rules.specs.SheetFields.{numberPlace, editorPlace, datePlace, originPlace, remarkStart, remarkLength}
-use Rattle.rules.specs.SheetFields.{wordStart, wordLength, tagStart, morphologyStart, edgeStart, commentStart, fieldPlace}
+use Rattle.rules.specs.Numbers.{phrase_number}
+use Rattle.rules.specs.SheetFields.{number_place, editor_place, date_place, origin_place, remark_start, remark_length}
+use Rattle.rules.specs.SheetFields.{word_start, word_length, tag_start, morphology_start, edge_start, comment_start, field_place}
 use Rattle.rules.specs.Sheets.{EdgeRecord}
-use Rattle.rules.specs.Tidy.{space, tab, digitsOf, idDigits, keywordLine, commented, edgeColumns, nodeLine, headingLine, sentenceText}
-use Rattle.sentence_sheet.specs.FlatEdges.{edgeWidth}
+use Rattle.rules.specs.Tidy.{space, tab, digits_of, id_digits, keyword_line, commented, edge_columns, node_line, heading_line, sentence_text}
+use Rattle.sentence_sheet.specs.FlatEdges.{edge_width}
 use Rattle.printing.specs.Further.{further, text_of}
-use Rattle.printing.specs.Fields.{fieldText, FieldInside}
-use Rattle.printing.proofs.LineLaws.{parted-is, further-append}
-use Rattle.sentence_text.specs.EdgesRead.{edgesFrom, together, ownEdges, firstFrom, edgeIn, edgesText}
-use Rattle.sentence_text.specs.SheetRead.{nodeText, parentText, nodeWith, nameText, columnsText, restText, numbersText, wordsCounted, phrasesCounted, edgesCounted, edgesOnSheet, nodeIn, sentenceIn}
+use Rattle.printing.specs.Fields.{field_text, FieldInside}
+use Rattle.printing.proofs.LineLaws.{parted_is, further_append}
+use Rattle.sentence_text.specs.EdgesRead.{edges_from, together, own_edges, first_from, edge_in, edges_text}
+use Rattle.sentence_text.specs.SheetRead.{node_text, parent_text, node_with, name_text, columns_text, rest_text, numbers_text, words_counted, phrases_counted, edges_counted, edges_on_sheet, node_in, sentence_in}
 use Rattle.sentence_text.specs.Readable.{TextInside}
-use Rattle.sentence_text.proofs.FirstEdges.{own-along}
+use Rattle.sentence_text.proofs.FirstEdges.{own_along}
 
 -- ---- a node's first column
 
-field-length : (file sheet : List ℕ) (start len : ℕ) → FieldInside file sheet start len → length (fieldText file sheet start len) ≡ get_or sheet len 0
-field-length file sheet start len inside =
+field_length : (file sheet : List ℕ) (start len : ℕ) → FieldInside file sheet start len → length (field_text file sheet start len) ≡ get_or sheet len 0
+field_length file sheet start len inside =
     let from = get_or sheet start 0 in
     length-take-le (get_or sheet len 0) (drop from file) (omega (arith, length-drop from file, inside.inside))
 
@@ -38,83 +38,83 @@ left_out [] ys h = refl
 left_out (x ∷ xs) ys h = absurd (omega (arith, h))
 
 module _ (file sheet : List ℕ) (k : ℕ) where
-  abbrev wordText : List ℕ
-  wordText = nodeText file sheet wordStart k
+  abbrev word_text : List ℕ
+  word_text = node_text file sheet word_start k
 
-  pub word-text : TextInside file sheet wordStart k → 0 < get_or sheet (fieldPlace wordLength k) 0 → wordText ≡ nameText file sheet k
-  unfolding nameText
-  word-text inside h = chosen wordText (35 ∷ digitsOf k) (omega (arith, field-length file sheet (fieldPlace wordStart k) (fieldPlace wordLength k) inside))
+  pub word_text_lem : TextInside file sheet word_start k → 0 < get_or sheet (field_place word_length k) 0 → word_text ≡ name_text file sheet k
+  unfolding name_text
+  word_text_lem inside h = chosen word_text (35 ∷ digits_of k) (omega (arith, field_length file sheet (field_place word_start k) (field_place word_length k) inside))
 
-  pub phrase-text : (len : ℕ) → len ≡ fieldPlace wordLength k → TextInside file sheet wordStart k → get_or sheet len 0 ≡ 0
-      → 35 ∷ digitsOf k ≡ nameText file sheet k
-  unfolding nameText
-  phrase-text len p inside h =
-      left_out wordText (35 ∷ digitsOf k)
-      (field-length file sheet (fieldPlace wordStart k) (fieldPlace wordLength k) inside ∙ ap (λ (i : ℕ). get_or sheet i 0) (sym p) ∙ h)
+  pub phrase_text : (len : ℕ) → len ≡ field_place word_length k → TextInside file sheet word_start k → get_or sheet len 0 ≡ 0
+      → 35 ∷ digits_of k ≡ name_text file sheet k
+  unfolding name_text
+  phrase_text len p inside h =
+      left_out word_text (35 ∷ digits_of k)
+      (field_length file sheet (field_place word_start k) (field_place word_length k) inside ∙ ap (λ (i : ℕ). get_or sheet i 0) (sym p) ∙ h)
 
   -- ---- columns one behind the other
 
-  pub columns-text : (tab ∷ nodeText file sheet tagStart k) ++ (tab ∷ nodeText file sheet morphologyStart k) ++ (tab ∷ nodeText file sheet edgeStart k)
-      ++ (tab ∷ parentText sheet k)
-      ≡ columnsText file sheet k
-  unfolding columnsText
-  columns-text = simp (append_assoc, append-nil)
+  pub columns_text_lem : (tab ∷ node_text file sheet tag_start k) ++ (tab ∷ node_text file sheet morphology_start k) ++ (tab ∷ node_text file sheet edge_start k)
+      ++ (tab ∷ parent_text sheet k)
+      ≡ columns_text file sheet k
+  unfolding columns_text
+  columns_text_lem = simp (append_assoc, append-nil)
 
-  pub rest-text : further tab (commented (text_of (nodeText file sheet commentStart k))) ++ (newline ∷ []) ≡ restText file sheet k
-  unfolding restText
-  rest-text = refl
+  pub rest_text_lem : further tab (commented (text_of (node_text file sheet comment_start k))) ++ (newline ∷ []) ≡ rest_text file sheet k
+  unfolding rest_text
+  rest_text_lem = refl
 
-pub numbers-text : (sheet : List ℕ)
-    → bytes "#BOS" ++ (space ∷ digitsOf (get_or sheet numberPlace 0)) ++ (space ∷ []) ++ idDigits (get_or sheet editorPlace 0) ++ (space ∷ digitsOf (get_or sheet datePlace 0))
-    ++ (space ∷ digitsOf (get_or sheet originPlace 0))
-    ≡ numbersText sheet
-unfolding numbersText
-numbers-text sheet = simp (append_assoc, append-nil)
+pub numbers_text_lem : (sheet : List ℕ)
+    → bytes "#BOS" ++ (space ∷ digits_of (get_or sheet number_place 0)) ++ (space ∷ []) ++ id_digits (get_or sheet editor_place 0) ++ (space ∷ digits_of (get_or sheet date_place 0))
+    ++ (space ∷ digits_of (get_or sheet origin_place 0))
+    ≡ numbers_text sheet
+unfolding numbers_text
+numbers_text_lem sheet = simp (append_assoc, append-nil)
 
 -- ---- lines
 
-pub heading-text : (file sheet : List ℕ)
-    → numbersText sheet ++ further space (commented (text_of (fieldText file sheet remarkStart remarkLength))) ++ (newline ∷ []) ≡ headingLine (sentenceIn file sheet [])
-unfolding numbersText sentenceIn
-heading-text file sheet =
-    let four = digitsOf (get_or sheet numberPlace 0) ∷ idDigits (get_or sheet editorPlace 0) ∷ digitsOf (get_or sheet datePlace 0) ∷ digitsOf (get_or sheet originPlace 0) ∷ [] in
-    let note = commented (text_of (fieldText file sheet remarkStart remarkLength)) in
+pub heading_text : (file sheet : List ℕ)
+    → numbers_text sheet ++ further space (commented (text_of (field_text file sheet remark_start remark_length))) ++ (newline ∷ []) ≡ heading_line (sentence_in file sheet [])
+unfolding numbers_text sentence_in
+heading_text file sheet =
+    let four = digits_of (get_or sheet number_place 0) ∷ id_digits (get_or sheet editor_place 0) ∷ digits_of (get_or sheet date_place 0) ∷ digits_of (get_or sheet origin_place 0) ∷ [] in
+    let note = commented (text_of (field_text file sheet remark_start remark_length)) in
     ap (λ (l : List ℕ). l ++ (newline ∷ []))
     (append_assoc (bytes "#BOS") (further space four) (further space note)
-    ∙ ap (λ (l : List ℕ). bytes "#BOS" ++ l) (further-append space four note))
-    ∙ parted-is space (bytes "#BOS") (four ++ note)
+    ∙ ap (λ (l : List ℕ). bytes "#BOS" ++ l) (further_append space four note))
+    ∙ parted_is space (bytes "#BOS") (four ++ note)
 
-pub node-text : (file sheet list : List ℕ) (k first : ℕ) → first ≡ firstFrom 0 k (edgesOnSheet sheet list)
-    → nameText file sheet k ++ columnsText file sheet k
-    ++ edgesText (map (edgeIn file) (together k (edgesFrom list (edgeWidth * first) (edgesCounted sheet - first))))
-    ++ restText file sheet k
-    ≡ nodeLine (nodeIn file sheet (edgesOnSheet sheet list) k)
-unfolding nameText columnsText restText nodeIn
-node-text file sheet list k first f =
-    let es = map (edgeIn file) (ownEdges k (edgesOnSheet sheet list)) in
-    let n = nodeWith file sheet k es in
-    let four = n.tag.bytes ∷ n.morphology.bytes ∷ n.edge.bytes ∷ digitsOf n.parent ∷ [] in
+pub node_text_lem : (file sheet list : List ℕ) (k first : ℕ) → first ≡ first_from 0 k (edges_on_sheet sheet list)
+    → name_text file sheet k ++ columns_text file sheet k
+    ++ edges_text (map (edge_in file) (together k (edges_from list (edge_width * first) (edges_counted sheet - first))))
+    ++ rest_text file sheet k
+    ≡ node_line (node_in file sheet (edges_on_sheet sheet list) k)
+unfolding name_text columns_text rest_text node_in
+node_text_lem file sheet list k first f =
+    let es = map (edge_in file) (own_edges k (edges_on_sheet sheet list)) in
+    let n = node_with file sheet k es in
+    let four = n.tag.bytes ∷ n.morphology.bytes ∷ n.edge.bytes ∷ digits_of n.parent ∷ [] in
     let note = commented n.comment in
-    let name = nameText file sheet k in
-    let before = name ++ further tab four ++ edgesText es in
-    ap (λ (i : ℕ). nameText file sheet k ++ columnsText file sheet k ++ edgesText (map (edgeIn file) (together k (edgesFrom list (edgeWidth * i) (edgesCounted sheet - i)))) ++ restText file sheet k) f
-    ∙ ap (λ (l : List EdgeRecord). name ++ further tab four ++ edgesText (map (edgeIn file) l) ++ restText file sheet k) (own-along list (edgesCounted sheet) k)
+    let name = name_text file sheet k in
+    let before = name ++ further tab four ++ edges_text es in
+    ap (λ (i : ℕ). name_text file sheet k ++ columns_text file sheet k ++ edges_text (map (edge_in file) (together k (edges_from list (edge_width * i) (edges_counted sheet - i)))) ++ rest_text file sheet k) f
+    ∙ ap (λ (l : List EdgeRecord). name ++ further tab four ++ edges_text (map (edge_in file) l) ++ rest_text file sheet k) (own_along list (edges_counted sheet) k)
     ∙ sym (append_assoc before (further tab note) (newline ∷ []))
     ∙ ap (λ (l : List ℕ). l ++ (newline ∷ []))
-    (ap (λ (l : List ℕ). l ++ further tab note) (append_assoc name (further tab four) (edgesText es))
-    ∙ append_assoc name (further tab four ++ edgesText es) (further tab note)
+    (ap (λ (l : List ℕ). l ++ further tab note) (append_assoc name (further tab four) (edges_text es))
+    ∙ append_assoc name (further tab four ++ edges_text es) (further tab note)
     ∙ ap (λ (l : List ℕ). name ++ l)
-    (ap (λ (l : List ℕ). l ++ further tab note) (further-append tab four (joined (map edgeColumns es)))
-    ∙ further-append tab (four ++ joined (map edgeColumns es)) note))
-    ∙ parted-is tab name (four ++ joined (map edgeColumns es) ++ note)
+    (ap (λ (l : List ℕ). l ++ further tab note) (further_append tab four (joined (map edge_columns es)))
+    ∙ further_append tab (four ++ joined (map edge_columns es)) note))
+    ∙ parted_is tab name (four ++ joined (map edge_columns es) ++ note)
 
 -- ---- all lines
 
-pub sentence-text : (file sheet list : List ℕ)
-    → headingLine (sentenceIn file sheet [])
-    ++ joined (map nodeLine (map (nodeIn file sheet (edgesOnSheet sheet list)) (counting 0 (wordsCounted sheet))))
-    ++ joined (map nodeLine (map (nodeIn file sheet (edgesOnSheet sheet list)) (counting phraseNumber.lowest (phrasesCounted sheet))))
-    ++ keywordLine (bytes "#EOS" ∷ digitsOf (get_or sheet numberPlace 0) ∷ [])
-    ≡ sentenceText (sentenceIn file sheet list)
-unfolding sentenceIn
-sentence-text file sheet list = refl
+pub sentence_text_lem : (file sheet list : List ℕ)
+    → heading_line (sentence_in file sheet [])
+    ++ joined (map node_line (map (node_in file sheet (edges_on_sheet sheet list)) (counting 0 (words_counted sheet))))
+    ++ joined (map node_line (map (node_in file sheet (edges_on_sheet sheet list)) (counting phrase_number.lowest (phrases_counted sheet))))
+    ++ keyword_line (bytes "#EOS" ∷ digits_of (get_or sheet number_place 0) ∷ [])
+    ≡ sentence_text (sentence_in file sheet list)
+unfolding sentence_in
+sentence_text_lem file sheet list = refl

@@ -3,13 +3,13 @@
 -- limit. Document 01, "The file from top to bottom".
 use Rattle.std.specs.Prelude.{ℕ, ◌≤◌, ◌<◌, ◌≡◌, false, List, [], ◌∷◌, map, length}
 use Rattle.rules.specs.Lists.{counting, sorted, Each}
-use Rattle.rules.specs.Numbers.{phraseNumber, edgeLimit}
-use Rattle.rules.specs.Sentences.{Node, Sentence, edgesOf, listed}
-use Rattle.rules.specs.SheetFields.{nodeRoom}
-use Rattle.rules.specs.Sheets.{nodes, sentenceSheet}
-use Rattle.rules.specs.Meaning.{nodeNumber}
+use Rattle.rules.specs.Numbers.{phrase_number, edge_limit}
+use Rattle.rules.specs.Sentences.{Node, Sentence, edges_of, listed}
+use Rattle.rules.specs.SheetFields.{node_room}
+use Rattle.rules.specs.Sheets.{nodes, sentence_sheet}
+use Rattle.rules.specs.Meaning.{node_number}
 use Rattle.rules.specs.Places.{LiesIn, NodeLies}
-use Rattle.sentence_sheet.specs.FlatEdges.{edgesAmong, flatEdges}
+use Rattle.sentence_sheet.specs.FlatEdges.{edges_among, flat_edges}
 
 -- the numbers differ
 abbrev pub Apart : List Node → Type 0
@@ -18,17 +18,17 @@ Apart (n ∷ ns) = (listed ns n.number ≡ false) × Apart ns
 
 pub record Printable (file : List ℕ) (s : Sentence) : Type 0 where
   pub comment : LiesIn file s.heading.comment
-  pub each-lies : Each (NodeLies file) (nodes s)
-  pub in_order : map nodeNumber s.words ≡ counting 0 (length s.words)
-  pub no_gap : map nodeNumber (sorted nodeNumber s.phrases) ≡ counting phraseNumber.lowest (length s.phrases)
+  pub each_lies : Each (NodeLies file) (nodes s)
+  pub in_order : map node_number s.words ≡ counting 0 (length s.words)
+  pub no_gap : map node_number (sorted node_number s.phrases) ≡ counting phrase_number.lowest (length s.phrases)
   pub apart : Apart (nodes s)
-  pub in-room : Each (λ (n : Node). n.number < nodeRoom) (nodes s)
+  pub in_room : Each (λ (n : Node). n.number < node_room) (nodes s)
   pub few_words : length s.words ≤ 500
-  pub few-phrases : length s.phrases ≤ 500
-  pub few-edges : edgesOf s ≤ edgeLimit
+  pub few_phrases : length s.phrases ≤ 500
+  pub few_edges : edges_of s ≤ edge_limit
 
 -- a sheet and a list of secondary edges that hold such a sentence
 pub record Sheeted (file : List ℕ) (s : Sentence) (sheet list : List ℕ) : Type 0 where
-  pub sheet-is : sheet ≡ sentenceSheet s
-  pub list-is : list ≡ flatEdges (edgesAmong (nodes s))
+  pub sheet_is : sheet ≡ sentence_sheet s
+  pub list_is : list ≡ flat_edges (edges_among (nodes s))
   pub printable : Printable file s

@@ -1,59 +1,59 @@
 -- What makes a sentence sheet and its list readable: counts within their limits, children that are nodes, and texts that
 -- stand inside the file.
 use Rattle.std.specs.Prelude.{ℕ, ◌+◌, ◌*◌, ◌≤◌, ◌<◌, ◌≡◌, List, length, get_or}
-use Rattle.rules.specs.Numbers.{edgeLimit}
-use Rattle.rules.specs.SheetFields.{remarkStart, remarkLength, wordStart, tagStart, morphologyStart, edgeStart, commentStart, nodeRoom, fieldPlace}
-use Rattle.rules.specs.Sheets.{sentenceSheetSize}
-use Rattle.sentence_sheet.specs.FlatEdges.{edgeWidth}
-use Rattle.printing.specs.Fields.{textMost, FieldInside}
-use Rattle.sentence_text.specs.SheetRead.{wordsCounted, phrasesCounted, edgesCounted}
+use Rattle.rules.specs.Numbers.{edge_limit}
+use Rattle.rules.specs.SheetFields.{remark_start, remark_length, word_start, tag_start, morphology_start, edge_start, comment_start, node_room, field_place}
+use Rattle.rules.specs.Sheets.{sentence_sheet_size}
+use Rattle.sentence_sheet.specs.FlatEdges.{edge_width}
+use Rattle.printing.specs.Fields.{text_most, FieldInside}
+use Rattle.sentence_text.specs.SheetRead.{words_counted, phrases_counted, edges_counted}
 
 -- a text of a node, by the field of its start
 abbrev pub TextInside : List ℕ → List ℕ → ℕ → ℕ → Type 0
-TextInside file sheet field k = FieldInside file sheet (fieldPlace field k) (fieldPlace (field + 1) k)
+TextInside file sheet field k = FieldInside file sheet (field_place field k) (field_place (field + 1) k)
 
 -- the texts of a node
 pub record NodeInside (file sheet : List ℕ) (k : ℕ) : Type 0 where
-  pub word : TextInside file sheet wordStart k
-  pub tag : TextInside file sheet tagStart k
-  pub morphology : TextInside file sheet morphologyStart k
-  pub edge : TextInside file sheet edgeStart k
-  pub comment : TextInside file sheet commentStart k
+  pub word : TextInside file sheet word_start k
+  pub tag : TextInside file sheet tag_start k
+  pub morphology : TextInside file sheet morphology_start k
+  pub edge : TextInside file sheet edge_start k
+  pub comment : TextInside file sheet comment_start k
 
 -- the edge that stands from a place on
 pub record EdgeInside (file list : List ℕ) (at : ℕ) : Type 0 where
-  pub child : get_or list at 0 < nodeRoom
-  pub room : at + edgeWidth ≤ length list
+  pub child : get_or list at 0 < node_room
+  pub room : at + edge_width ≤ length list
   pub label : FieldInside file list (at + 1) (at + 2)
 
 abbrev pub EdgesInside : List ℕ → List ℕ → ℕ → Type 0
-EdgesInside file list count = (i : ℕ) → i < count → EdgeInside file list (edgeWidth * i)
+EdgesInside file list count = (i : ℕ) → i < count → EdgeInside file list (edge_width * i)
 
 pub record SheetReadable (file sheet list : List ℕ) : Type 0 where
-  pub size : length sheet ≡ sentenceSheetSize
-  pub words : wordsCounted sheet ≤ 500
-  pub phrases : phrasesCounted sheet ≤ 500
-  pub few : edgesCounted sheet ≤ edgeLimit
-  pub room : edgeWidth * edgesCounted sheet ≤ length list
-  pub comment : FieldInside file sheet remarkStart remarkLength
-  pub each-node : (k : ℕ) → k < nodeRoom → NodeInside file sheet k
-  pub each-edge : EdgesInside file list (edgesCounted sheet)
+  pub size : length sheet ≡ sentence_sheet_size
+  pub words : words_counted sheet ≤ 500
+  pub phrases : phrases_counted sheet ≤ 500
+  pub few : edges_counted sheet ≤ edge_limit
+  pub room : edge_width * edges_counted sheet ≤ length list
+  pub comment : FieldInside file sheet remark_start remark_length
+  pub each_node : (k : ℕ) → k < node_room → NodeInside file sheet k
+  pub each_edge : EdgesInside file list (edges_counted sheet)
 
 -- ---- the most bytes that are printed
 
 -- tab, label, tab, number
-abbrev pub edgeMost : ℕ
-edgeMost = 12 + textMost
+abbrev pub edge_most : ℕ
+edge_most = 12 + text_most
 
 -- five texts, five tabs and a number, the edges, comment signs and newline
-abbrev pub nodeMost : ℕ
-nodeMost = 19 + 5 * textMost + edgeLimit * edgeMost
+abbrev pub node_most : ℕ
+node_most = 19 + 5 * text_most + edge_limit * edge_most
 
-abbrev pub headingMost : ℕ
-headingMost = 53 + textMost
+abbrev pub heading_most : ℕ
+heading_most = 53 + text_most
 
-abbrev pub endMost : ℕ
-endMost = 16
+abbrev pub end_most : ℕ
+end_most = 16
 
-abbrev pub sentenceMost : ℕ
-sentenceMost = headingMost + nodeMost * nodeRoom + endMost
+abbrev pub sentence_most : ℕ
+sentence_most = heading_most + node_most * node_room + end_most

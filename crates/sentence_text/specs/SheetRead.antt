@@ -3,93 +3,93 @@
 use Rattle.std.specs.Prelude.{ℕ, ◌+◌, List, [], ◌∷◌, ◌++◌, map, get_or}
 use Rattle.rules.specs.Lists.{bytes, counting}
 use Rattle.rules.specs.Bytes.{newline}
-use Rattle.rules.specs.Numbers.{phraseNumber}
+use Rattle.rules.specs.Numbers.{phrase_number}
 use Rattle.rules.specs.Sentences.{Edge, Node, Heading, Sentence}
-use Rattle.rules.specs.SheetFields.{numberPlace, editorPlace, datePlace, originPlace, remarkStart, remarkLength, wordsPlace, phrasesPlace, edgesPlace}
-use Rattle.rules.specs.SheetFields.{wordStart, tagStart, morphologyStart, edgeStart, parentPlace, commentStart, fieldPlace}
+use Rattle.rules.specs.SheetFields.{number_place, editor_place, date_place, origin_place, remark_start, remark_length, words_place, phrases_place, edges_place}
+use Rattle.rules.specs.SheetFields.{word_start, tag_start, morphology_start, edge_start, parent_place, comment_start, field_place}
 use Rattle.rules.specs.Sheets.{EdgeRecord}
-use Rattle.rules.specs.Tidy.{space, tab, digitsOf, idDigits, commented, nodeName}
+use Rattle.rules.specs.Tidy.{space, tab, digits_of, id_digits, commented, node_name}
 use Rattle.printing.specs.Further.{further, text_of}
-use Rattle.printing.specs.Fields.{fieldText}
-use Rattle.sentence_text.specs.EdgesRead.{edgesFrom, ownEdges, edgeIn}
+use Rattle.printing.specs.Fields.{field_text}
+use Rattle.sentence_text.specs.EdgesRead.{edges_from, own_edges, edge_in}
 
 -- a text of a node, by the field of its start, behind which stands that of its length
-abbrev pub nodeText : List ℕ → List ℕ → ℕ → ℕ → List ℕ
-nodeText file sheet field k = fieldText file sheet (fieldPlace field k) (fieldPlace (field + 1) k)
+abbrev pub node_text : List ℕ → List ℕ → ℕ → ℕ → List ℕ
+node_text file sheet field k = field_text file sheet (field_place field k) (field_place (field + 1) k)
 
-abbrev pub parentText : List ℕ → ℕ → List ℕ
-parentText sheet k = digitsOf (get_or sheet (fieldPlace parentPlace k) 0)
+abbrev pub parent_text : List ℕ → ℕ → List ℕ
+parent_text sheet k = digits_of (get_or sheet (field_place parent_place k) 0)
 
-abbrev pub nodeWith : List ℕ → List ℕ → ℕ → List Edge → Node
-nodeWith file sheet k es =
+abbrev pub node_with : List ℕ → List ℕ → ℕ → List Edge → Node
+node_with file sheet k es =
     record {
       number = k;
-      word = text_of (nodeText file sheet wordStart k);
-      tag = text_of (nodeText file sheet tagStart k);
-      morphology = text_of (nodeText file sheet morphologyStart k);
-      edge = text_of (nodeText file sheet edgeStart k);
-      parent = get_or sheet (fieldPlace parentPlace k) 0;
+      word = text_of (node_text file sheet word_start k);
+      tag = text_of (node_text file sheet tag_start k);
+      morphology = text_of (node_text file sheet morphology_start k);
+      edge = text_of (node_text file sheet edge_start k);
+      parent = get_or sheet (field_place parent_place k) 0;
       secondary = es;
-      comment = text_of (nodeText file sheet commentStart k);
+      comment = text_of (node_text file sheet comment_start k);
     }
 
-unfoldable pub nodeIn : List ℕ → List ℕ → List EdgeRecord → ℕ → Node
-nodeIn file sheet es k = nodeWith file sheet k (map (edgeIn file) (ownEdges k es))
+unfoldable pub node_in : List ℕ → List ℕ → List EdgeRecord → ℕ → Node
+node_in file sheet es k = node_with file sheet k (map (edge_in file) (own_edges k es))
 
-abbrev pub headingOnSheet : List ℕ → List ℕ → Heading
-headingOnSheet file sheet =
+abbrev pub heading_on_sheet : List ℕ → List ℕ → Heading
+heading_on_sheet file sheet =
     record {
-      number = get_or sheet numberPlace 0;
-      editor1 = get_or sheet editorPlace 0;
-      date = get_or sheet datePlace 0;
-      origin = get_or sheet originPlace 0;
-      comment = text_of (fieldText file sheet remarkStart remarkLength);
+      number = get_or sheet number_place 0;
+      editor1 = get_or sheet editor_place 0;
+      date = get_or sheet date_place 0;
+      origin = get_or sheet origin_place 0;
+      comment = text_of (field_text file sheet remark_start remark_length);
     }
 
 -- ---- parts of lines
 
 -- the first column of a node's line
-unfoldable pub nameText : List ℕ → List ℕ → ℕ → List ℕ
-nameText file sheet k = nodeName (nodeWith file sheet k [])
+unfoldable pub name_text : List ℕ → List ℕ → ℕ → List ℕ
+name_text file sheet k = node_name (node_with file sheet k [])
 
 -- tag, morphology, edge and parent
-unfoldable pub columnsText : List ℕ → List ℕ → ℕ → List ℕ
-columnsText file sheet k =
+unfoldable pub columns_text : List ℕ → List ℕ → ℕ → List ℕ
+columns_text file sheet k =
     further tab
-    (nodeText file sheet tagStart k ∷ nodeText file sheet morphologyStart k ∷ nodeText file sheet edgeStart k ∷ parentText sheet k ∷ [])
+    (node_text file sheet tag_start k ∷ node_text file sheet morphology_start k ∷ node_text file sheet edge_start k ∷ parent_text sheet k ∷ [])
 
 -- the comment, if there is one, and the newline
-unfoldable pub restText : List ℕ → List ℕ → ℕ → List ℕ
-restText file sheet k = further tab (commented (text_of (nodeText file sheet commentStart k))) ++ (newline ∷ [])
+unfoldable pub rest_text : List ℕ → List ℕ → ℕ → List ℕ
+rest_text file sheet k = further tab (commented (text_of (node_text file sheet comment_start k))) ++ (newline ∷ [])
 
 -- #BOS and four numbers
-unfoldable pub numbersText : List ℕ → List ℕ
-numbersText sheet =
+unfoldable pub numbers_text : List ℕ → List ℕ
+numbers_text sheet =
     bytes "#BOS"
     ++ further space
-    (digitsOf (get_or sheet numberPlace 0) ∷ idDigits (get_or sheet editorPlace 0) ∷ digitsOf (get_or sheet datePlace 0)
-    ∷ digitsOf (get_or sheet originPlace 0) ∷ [])
+    (digits_of (get_or sheet number_place 0) ∷ id_digits (get_or sheet editor_place 0) ∷ digits_of (get_or sheet date_place 0)
+    ∷ digits_of (get_or sheet origin_place 0) ∷ [])
 
 -- ---- the whole
 
 -- how many words, phrases and secondary edges there are
-abbrev pub wordsCounted : List ℕ → ℕ
-wordsCounted sheet = get_or sheet wordsPlace 0
+abbrev pub words_counted : List ℕ → ℕ
+words_counted sheet = get_or sheet words_place 0
 
-abbrev pub phrasesCounted : List ℕ → ℕ
-phrasesCounted sheet = get_or sheet phrasesPlace 0
+abbrev pub phrases_counted : List ℕ → ℕ
+phrases_counted sheet = get_or sheet phrases_place 0
 
-abbrev pub edgesCounted : List ℕ → ℕ
-edgesCounted sheet = get_or sheet edgesPlace 0
+abbrev pub edges_counted : List ℕ → ℕ
+edges_counted sheet = get_or sheet edges_place 0
 
-abbrev pub edgesOnSheet : List ℕ → List ℕ → List EdgeRecord
-edgesOnSheet sheet list = edgesFrom list 0 (edgesCounted sheet)
+abbrev pub edges_on_sheet : List ℕ → List ℕ → List EdgeRecord
+edges_on_sheet sheet list = edges_from list 0 (edges_counted sheet)
 
-unfoldable pub sentenceIn : List ℕ → List ℕ → List ℕ → Sentence
-sentenceIn file sheet list =
+unfoldable pub sentence_in : List ℕ → List ℕ → List ℕ → Sentence
+sentence_in file sheet list =
     record {
       start = 0;
-      heading = headingOnSheet file sheet;
-      words = map (nodeIn file sheet (edgesOnSheet sheet list)) (counting 0 (wordsCounted sheet));
-      phrases = map (nodeIn file sheet (edgesOnSheet sheet list)) (counting phraseNumber.lowest (phrasesCounted sheet));
+      heading = heading_on_sheet file sheet;
+      words = map (node_in file sheet (edges_on_sheet sheet list)) (counting 0 (words_counted sheet));
+      phrases = map (node_in file sheet (edges_on_sheet sheet list)) (counting phrase_number.lowest (phrases_counted sheet));
     }

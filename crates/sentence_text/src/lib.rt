@@ -4,12 +4,12 @@ mod nodes;
 
 ghost use Rattle.std.specs.Prelude.{◌≡◌, [], ◌∷◌, ◌+◌, ◌≤◌, length, replicate};
 ghost use Rattle.rules.specs.Lists.{bytes};
-ghost use Rattle.rules.specs.SheetFields.{remarkStart, remarkLength, leadingCount, nodeRoom};
-ghost use Rattle.rules.specs.Tidy.{keywordLine, digitsOf, headingLine, sentenceText};
+ghost use Rattle.rules.specs.SheetFields.{remark_start, remark_length, leading_count, node_room};
+ghost use Rattle.rules.specs.Tidy.{keyword_line, digits_of, heading_line, sentence_text};
 ghost use Rattle.printing.specs.Over.{farthest, Put};
 ghost use Rattle.printing.specs.Fields.{FieldInside};
-ghost use Rattle.sentence_text.specs.SheetRead.{numbersText, sentenceIn};
-ghost use Rattle.sentence_text.specs.Readable.{SheetReadable, headingMost, endMost, sentenceMost};
+ghost use Rattle.sentence_text.specs.SheetRead.{numbers_text, sentence_in};
+ghost use Rattle.sentence_text.specs.Readable.{SheetReadable, heading_most, end_most, sentence_most};
 
 use sentence_sheet::{
     DATE, EDGES, EDITOR, FIRST_PHRASE, NUMBER, ORIGIN, PHRASES, REMARK, REMARK_LEN, WORDS,
@@ -24,8 +24,8 @@ const NEWLINE: u8 = 10;
 
 // #BOS and the sentence's numbers, without comment and newline.
 fn put_numbers(sheet: &[u32], out: &mut [u8], at: usize) -> usize
-    requires { (leadingCount ≤ length sheet.now) × (at + 48 ≤ farthest) }
-    ensures { Put 48 (numbersText sheet.now) at out.old result out.new }
+    requires { (leading_count ≤ length sheet.now) × (at + 48 ≤ farthest) }
+    ensures { Put 48 (numbers_text sheet.now) at out.old result out.new }
 {
     let keyword = printing::put_text(b"#BOS", out, at);
     let numbered = printing::put_number_column(SPACE, sheet[NUMBER], out, keyword);
@@ -36,8 +36,8 @@ fn put_numbers(sheet: &[u32], out: &mut [u8], at: usize) -> usize
 }
 
 fn put_heading(file: &[u8], sheet: &[u32], out: &mut [u8], at: usize) -> usize
-    requires { (leadingCount ≤ length sheet.now) × FieldInside file.now sheet.now remarkStart remarkLength × (at + headingMost ≤ farthest) }
-    ensures { Put headingMost (headingLine (sentenceIn file.now sheet.now [])) at out.old result out.new }
+    requires { (leading_count ≤ length sheet.now) × FieldInside file.now sheet.now remark_start remark_length × (at + heading_most ≤ farthest) }
+    ensures { Put heading_most (heading_line (sentence_in file.now sheet.now [])) at out.old result out.new }
 {
     let numbered = put_numbers(sheet, out, at);
     let noted = printing::fields::put_note(SPACE, file, sheet, REMARK, REMARK_LEN, out, numbered);
@@ -45,8 +45,8 @@ fn put_heading(file: &[u8], sheet: &[u32], out: &mut [u8], at: usize) -> usize
 }
 
 fn put_end(number: u32, out: &mut [u8], at: usize) -> usize
-    requires { at + endMost ≤ farthest }
-    ensures { Put endMost (keywordLine (bytes "#EOS" ∷ digitsOf number ∷ [])) at out.old result out.new }
+    requires { at + end_most ≤ farthest }
+    ensures { Put end_most (keyword_line (bytes "#EOS" ∷ digits_of number ∷ [])) at out.old result out.new }
 {
     let keyword = printing::put_text(b"#EOS", out, at);
     let numbered = printing::put_number_column(SPACE, number, out, keyword);
@@ -62,8 +62,8 @@ pub fn print_sentence(
     out: &mut [u8],
     at: usize,
 ) -> usize
-    requires { SheetReadable file.now sheet.now list.now × (firsts.old ≡ replicate nodeRoom 0) × (at + sentenceMost ≤ farthest) }
-    ensures { Put sentenceMost (sentenceText (sentenceIn file.now sheet.now list.now)) at out.old result out.new × (firsts.new ≡ replicate nodeRoom 0) }
+    requires { SheetReadable file.now sheet.now list.now × (firsts.old ≡ replicate node_room 0) × (at + sentence_most ≤ farthest) }
+    ensures { Put sentence_most (sentence_text (sentence_in file.now sheet.now list.now)) at out.old result out.new × (firsts.new ≡ replicate node_room 0) }
 {
     let count = sheet[EDGES] as usize;
     edges::note_firsts(list, count, firsts);

@@ -1,14 +1,14 @@
 // The lines of words and phrases.
 ghost use Rattle.std.specs.Prelude.{◌≡◌, ◌∷◌, map, ◌+◌, ◌*◌, ◌≤◌, ◌<◌, length};
 ghost use Rattle.rules.specs.Lists.{counting, joined};
-ghost use Rattle.rules.specs.SheetFields.{wordStart, commentStart, nodeWidth, nodeRoom};
-ghost use Rattle.rules.specs.Sheets.{sentenceSheetSize};
-ghost use Rattle.rules.specs.Tidy.{tab, nodeLine};
+ghost use Rattle.rules.specs.SheetFields.{word_start, comment_start, node_width, node_room};
+ghost use Rattle.rules.specs.Sheets.{sentence_sheet_size};
+ghost use Rattle.rules.specs.Tidy.{tab, node_line};
 ghost use Rattle.printing.specs.Over.{farthest, Put};
-ghost use Rattle.printing.specs.Fields.{textMost};
+ghost use Rattle.printing.specs.Fields.{text_most};
 ghost use Rattle.sentence_text.specs.EdgesRead.{Firsts};
-ghost use Rattle.sentence_text.specs.SheetRead.{nodeText, nameText, columnsText, restText, nodeIn, edgesOnSheet};
-ghost use Rattle.sentence_text.specs.Readable.{TextInside, NodeInside, SheetReadable, nodeMost};
+ghost use Rattle.sentence_text.specs.SheetRead.{node_text, name_text, columns_text, rest_text, node_in, edges_on_sheet};
+ghost use Rattle.sentence_text.specs.Readable.{TextInside, NodeInside, SheetReadable, node_most};
 
 use crate::{NEWLINE, TAB, edges};
 use sentence_sheet::{COMMENT, EDGE, EDGES, MORPHOLOGY, PARENT, TAG, WORD};
@@ -22,8 +22,8 @@ fn put_text(
     out: &mut [u8],
     at: usize,
 ) -> usize
-    requires { (field + 1 < nodeWidth) × (node < nodeRoom) × TextInside file.now sheet.now field node × (at + (1 + textMost) ≤ farthest) }
-    ensures { Put (1 + textMost) (tab ∷ nodeText file.now sheet.now field node) at out.old result out.new }
+    requires { (field + 1 < node_width) × (node < node_room) × TextInside file.now sheet.now field node × (at + (1 + text_most) ≤ farthest) }
+    ensures { Put (1 + text_most) (tab ∷ node_text file.now sheet.now field node) at out.old result out.new }
 {
     let start = sentence_sheet::field_place(field, node);
     let len = sentence_sheet::field_place(field + 1, node);
@@ -32,8 +32,8 @@ fn put_text(
 
 // A word, or # and a phrase's number.
 fn put_first(file: &[u8], sheet: &[u32], node: usize, out: &mut [u8], at: usize) -> usize
-    requires { (node < nodeRoom) × TextInside file.now sheet.now wordStart node × (at + textMost ≤ farthest) }
-    ensures { Put textMost (nameText file.now sheet.now node) at out.old result out.new }
+    requires { (node < node_room) × TextInside file.now sheet.now word_start node × (at + text_most ≤ farthest) }
+    ensures { Put text_most (name_text file.now sheet.now node) at out.old result out.new }
 {
     let start = sentence_sheet::field_place(WORD, node);
     let len = sentence_sheet::field_place(WORD + 1, node);
@@ -46,8 +46,8 @@ fn put_first(file: &[u8], sheet: &[u32], node: usize, out: &mut [u8], at: usize)
 
 // Tag, morphology, edge and parent.
 fn put_columns(file: &[u8], sheet: &[u32], node: usize, out: &mut [u8], at: usize) -> usize
-    requires { (node < nodeRoom) × (length sheet.now ≡ sentenceSheetSize) × NodeInside file.now sheet.now node × (at + (14 + 3 * textMost) ≤ farthest) }
-    ensures { Put (14 + 3 * textMost) (columnsText file.now sheet.now node) at out.old result out.new }
+    requires { (node < node_room) × (length sheet.now ≡ sentence_sheet_size) × NodeInside file.now sheet.now node × (at + (14 + 3 * text_most) ≤ farthest) }
+    ensures { Put (14 + 3 * text_most) (columns_text file.now sheet.now node) at out.old result out.new }
 {
     let tagged = put_text(file, sheet, TAG, node, out, at);
     let formed = put_text(file, sheet, MORPHOLOGY, node, out, tagged);
@@ -58,8 +58,8 @@ fn put_columns(file: &[u8], sheet: &[u32], node: usize, out: &mut [u8], at: usiz
 
 // The comment, if there is one, and the line's end.
 fn put_rest(file: &[u8], sheet: &[u32], node: usize, out: &mut [u8], at: usize) -> usize
-    requires { (node < nodeRoom) × TextInside file.now sheet.now commentStart node × (at + (5 + textMost) ≤ farthest) }
-    ensures { Put (5 + textMost) (restText file.now sheet.now node) at out.old result out.new }
+    requires { (node < node_room) × TextInside file.now sheet.now comment_start node × (at + (5 + text_most) ≤ farthest) }
+    ensures { Put (5 + text_most) (rest_text file.now sheet.now node) at out.old result out.new }
 {
     let start = sentence_sheet::field_place(COMMENT, node);
     let len = sentence_sheet::field_place(COMMENT + 1, node);
@@ -77,8 +77,8 @@ fn put_node(
     out: &mut [u8],
     at: usize,
 ) -> usize
-    requires { SheetReadable file.now sheet.now list.now × Firsts (edgesOnSheet sheet.now list.now) 0 firsts.now × (node < nodeRoom) × (at + nodeMost ≤ farthest) }
-    ensures { Put nodeMost (nodeLine (nodeIn file.now sheet.now (edgesOnSheet sheet.now list.now) node)) at out.old result out.new }
+    requires { SheetReadable file.now sheet.now list.now × Firsts (edges_on_sheet sheet.now list.now) 0 firsts.now × (node < node_room) × (at + node_most ≤ farthest) }
+    ensures { Put node_most (node_line (node_in file.now sheet.now (edges_on_sheet sheet.now list.now) node)) at out.old result out.new }
 {
     let named = put_first(file, sheet, node, out, at);
     let columned = put_columns(file, sheet, node, out, named);
@@ -99,8 +99,8 @@ pub fn put_nodes(
     out: &mut [u8],
     at: usize,
 ) -> usize
-    requires { SheetReadable file.now sheet.now list.now × Firsts (edgesOnSheet sheet.now list.now) 0 firsts.now × (from + count ≤ nodeRoom) × (at + nodeMost * count ≤ farthest) }
-    ensures { Put (nodeMost * count) (joined (map nodeLine (map (nodeIn file.now sheet.now (edgesOnSheet sheet.now list.now)) (counting from count)))) at out.old result out.new }
+    requires { SheetReadable file.now sheet.now list.now × Firsts (edges_on_sheet sheet.now list.now) 0 firsts.now × (from + count ≤ node_room) × (at + node_most * count ≤ farthest) }
+    ensures { Put (node_most * count) (joined (map node_line (map (node_in file.now sheet.now (edges_on_sheet sheet.now list.now)) (counting from count)))) at out.old result out.new }
 {
     let mut k = 0;
     let mut end = at;

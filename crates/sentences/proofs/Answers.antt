@@ -6,17 +6,17 @@ use mathlib.Core.Bool.{Bool, true, false}
 use mathlib.Core.Option.{Option, none, some}
 use mathlib.Core.List.{List}
 use lib.ListN.{length, replicate, length-replicate}
-use Rattle.rules.specs.Numbers.{edgeLimit}
+use Rattle.rules.specs.Numbers.{edge_limit}
 use Rattle.rules.specs.Sentences.{Sentence}
-use Rattle.rules.specs.Sheets.{sentenceSheetSize}
-use Rattle.rules.specs.SentenceFrom.{startsLine, sentenceFrom}
-use Rattle.sentence_sheet.specs.FlatEdges.{edgeWidth}
+use Rattle.rules.specs.Sheets.{sentence_sheet_size}
+use Rattle.rules.specs.SentenceFrom.{starts_line, sentence_from}
+use Rattle.sentence_sheet.specs.FlatEdges.{edge_width}
 use Rattle.judging.specs.declared.state.Tally.{Tally}
-use Rattle.sentences.specs.Beginnings.{begunAt, openedAt, Headed, BegunAs}
+use Rattle.sentences.specs.Beginnings.{begun_at, opened_at, Headed, BegunAs}
 use Rattle.sentences.specs.declared.beginning.Begun.{Begun}
 use Rattle.sentences.specs.declared.beginning.Begun.TheVariants.{Behind, Nowhere}
 use Rattle.sentences.specs.SentenceRead.{Gathered, SentenceRead}
-use Rattle.sentences.proofs.Gathering.{goneOn, begun-on}
+use Rattle.sentences.proofs.Gathering.{gone_on, begun_on}
 
 -- a list cleared is zero, as long as it was
 pub cleared : {l : List ℕ} {m n : ℕ} → l ≡ replicate m 0 → m ≡ n → l ≡ replicate n 0
@@ -27,11 +27,11 @@ as_long {n} e = ap length e ∙ length-replicate {A = ℕ} n 0
 
 -- what was found of the first line
 module _ (file : List ℕ) (place : ℕ) (lent sheet : List ℕ) (r : Begun) (b : BegunAs file place r lent sheet) where
-  nowhere : r ≡ Nowhere → (openedAt file place ≡ none) × (sheet ≡ lent)
+  nowhere : r ≡ Nowhere → (opened_at file place ≡ none) × (sheet ≡ lent)
   nowhere e = subst (λ (x : Begun). BegunAs file place x lent sheet) e b
 
-  pub begun-nowhere : r ≡ Nowhere → (begunAt file place ≡ none) × (sheet ≡ lent)
-  begun-nowhere e = (begun-on file place ∙ ap (goneOn file place) (nowhere e).0, (nowhere e).1)
+  pub begun-nowhere : r ≡ Nowhere → (begun_at file place ≡ none) × (sheet ≡ lent)
+  begun-nowhere e = (begun_on file place ∙ ap (gone_on file place) (nowhere e).0, (nowhere e).1)
 
   -- the counts tell where the sentence begins
   module _ (next : ℕ) (t : Tally) (e : r ≡ Behind next t) where
@@ -39,48 +39,48 @@ module _ (file : List ℕ) (place : ℕ) (lent sheet : List ℕ) (r : Begun) (b 
     headed = subst (λ (x : Begun). BegunAs file place x lent sheet) e b
 
     begins-at : t.start ≡ place
-    begins-at = ap (λ (x : Tally). x.start) headed.tally-is
+    begins-at = ap (λ (x : Tally). x.start) headed.tally_is
 
     pub headed-at : (zeros : List ℕ) → lent ≡ zeros → Headed file t.start next t zeros sheet
     headed-at zeros h = rw (← h) (subst (λ (p : ℕ). Headed file p next t lent sheet) (sym begins-at) headed)
 
-    pub gathered-at : (q : Bool) (left edges : List ℕ) → Gathered (begunAt file t.start) q left edges → Gathered (begunAt file place) q left edges
-    gathered-at q left edges g = subst (λ (p : ℕ). Gathered (begunAt file p) q left edges) begins-at g
+    pub gathered-at : (q : Bool) (left edges : List ℕ) → Gathered (begun_at file t.start) q left edges → Gathered (begun_at file place) q left edges
+    gathered-at q left edges g = subst (λ (p : ℕ). Gathered (begun_at file p) q left edges) begins-at g
 
 module _ (file : List ℕ) (place : ℕ) where
-  from-nowhere : startsLine file place ≡ false → sentenceFrom file place ≡ none
-  unfolding sentenceFrom
+  from-nowhere : starts_line file place ≡ false → sentence_from file place ≡ none
+  unfolding sentence_from
   from-nowhere e = rw e
 
-  from-line : startsLine file place ≡ true → sentenceFrom file place ≡ begunAt file place
-  unfolding sentenceFrom
+  from-line : starts_line file place ≡ true → sentence_from file place ≡ begun_at file place
+  unfolding sentence_from
   from-line e = rw e
 
   -- zeros
-  module _ (sheet edges : List ℕ) (a : sheet ≡ replicate sentenceSheetSize 0) (b : edges ≡ replicate (edgeLimit * edgeWidth) 0) where
-    read_none : sentenceFrom file place ≡ none → SentenceRead (sentenceFrom file place) false sheet edges
+  module _ (sheet edges : List ℕ) (a : sheet ≡ replicate sentence_sheet_size 0) (b : edges ≡ replicate (edge_limit * edge_width) 0) where
+    read_none : sentence_from file place ≡ none → SentenceRead (sentence_from file place) false sheet edges
     read_none e =
         subst (λ (o : Option Sentence). SentenceRead o false sheet edges) (sym e) (record { answer = refl; sheet-is = a; edges_are = b })
 
-    pub nothing-starts : startsLine file place ≡ false → SentenceRead (sentenceFrom file place) false sheet edges
+    pub nothing-starts : starts_line file place ≡ false → SentenceRead (sentence_from file place) false sheet edges
     nothing-starts e = read_none (from-nowhere e)
 
-    pub nothing-begins : startsLine file place ≡ true → begunAt file place ≡ none → SentenceRead (sentenceFrom file place) false sheet edges
+    pub nothing-begins : starts_line file place ≡ true → begun_at file place ≡ none → SentenceRead (sentence_from file place) false sheet edges
     nothing-begins e h = read_none (from-line e ∙ h)
 
-    pub nothing-gathered : startsLine file place ≡ true → (sheet₀ edges₀ : List ℕ) (r : Bool) → Gathered (begunAt file place) r sheet₀ edges₀ → r ≡ false
-        → SentenceRead (sentenceFrom file place) false sheet edges
-    nothing-gathered e sheet₀ edges₀ r g h = nothing-begins e (by (begunAt file place) g)
+    pub nothing-gathered : starts_line file place ≡ true → (sheet₀ edges₀ : List ℕ) (r : Bool) → Gathered (begun_at file place) r sheet₀ edges₀ → r ≡ false
+        → SentenceRead (sentence_from file place) false sheet edges
+    nothing-gathered e sheet₀ edges₀ r g h = nothing-begins e (by (begun_at file place) g)
       where
         by : (o : Option Sentence) → Gathered o r sheet₀ edges₀ → o ≡ none
         by none g = refl
         by (some s) g = cc (g.answer, h)
 
-  pub found-gathered : startsLine file place ≡ true → (sheet edges : List ℕ) (r : Bool) → Gathered (begunAt file place) r sheet edges → r ≡ true
-      → SentenceRead (sentenceFrom file place) true sheet edges
+  pub found-gathered : starts_line file place ≡ true → (sheet edges : List ℕ) (r : Bool) → Gathered (begun_at file place) r sheet edges → r ≡ true
+      → SentenceRead (sentence_from file place) true sheet edges
   found-gathered e sheet edges r g h =
-      subst (λ (o : Option Sentence). SentenceRead o true sheet edges) (sym (from-line e)) (by (begunAt file place) g)
+      subst (λ (o : Option Sentence). SentenceRead o true sheet edges) (sym (from-line e)) (by (begun_at file place) g)
     where
       by : (o : Option Sentence) → Gathered o r sheet edges → SentenceRead o true sheet edges
       by none g = absurd (let z : ◌≡◌ {A = ℕ} 0 1 = cc (g, h) in omega arith)
-      by (some s) g = record { answer = refl; sheet-is = g.sheet-is; edges_are = g.edges-are }
+      by (some s) g = record { answer = refl; sheet-is = g.sheet_is; edges_are = g.edges-are }

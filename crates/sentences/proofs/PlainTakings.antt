@@ -8,43 +8,43 @@ use Rattle.rules.specs.Bytes.{ignored}
 use Rattle.rules.specs.Columns.{written}
 use Rattle.rules.specs.Rules.{Verdict, granted}
 use Rattle.rules.specs.Tables.{Tables}
-use Rattle.rules.specs.Sheets.{tableCount}
-use Rattle.rules.specs.Keywords.{firstColumn}
-use Rattle.rules.specs.Lines.{Taking, ignoredLine, amongNodes}
-use Rattle.columns.specs.Listing.{line_of, columnsOf, span_of, noSpan}
+use Rattle.rules.specs.Sheets.{table_count}
+use Rattle.rules.specs.Keywords.{first_column}
+use Rattle.rules.specs.Lines.{Taking, ignored_line, among_nodes}
+use Rattle.columns.specs.Listing.{line_of, columns_of, span_of, no_span}
 use Rattle.columns.specs.declared.listing.Line.{Line}
-use Rattle.table_sheet.specs.SheetRows.{tablesIn}
-use Rattle.citations.proofs.NoTables.{no-tables}
+use Rattle.table_sheet.specs.SheetRows.{tables_in}
+use Rattle.citations.proofs.NoTables.{no_tables_lem}
 use Rattle.steps.specs.Steps.{step_of}
 use Rattle.steps.specs.declared.NodeSaid.{NodeSaid}
 use Rattle.steps.specs.declared.Step.TheVariants as steps
-use Rattle.nodes.specs.PlainNodes.{plainSaid}
-use Rattle.judging.specs.Judging.{soFarBy}
+use Rattle.nodes.specs.PlainNodes.{plain_said}
+use Rattle.judging.specs.Judging.{so_far_by}
 use Rattle.judging.specs.PlainLines.{PlainBy}
 use Rattle.judging.specs.declared.state.Tally.{Tally}
 use Rattle.judging.specs.declared.plain.Plain.{Plain}
 use Rattle.judging.specs.declared.plain.Plain.TheVariants.{Word, Phrase}
-use Rattle.sentences.specs.Keeping.{takenBy}
+use Rattle.sentences.specs.Keeping.{taken_by}
 
 module _ (file : List ℕ) (line : Line) (t : Tally) (marks : List ℕ) (stamp : ℕ) where
   abbrev judged : Tables → Verdict Taking
   judged ts =
-      pick (ignored (line_of file line).bytes) (granted ignoredLine)
-      (amongNodes (line_of file line) (firstColumn (line_of file line)) 3 ts (soFarBy t marks stamp))
+      pick (ignored (line_of file line).bytes) (granted ignored_line)
+      (among_nodes (line_of file line) (first_column (line_of file line)) 3 ts (so_far_by t marks stamp))
 
   abbrev Said : Verdict Taking → Plain → Type 0
-  Said = PlainBy (columnsOf file line) t.words
+  Said = PlainBy (columns_of file line) t.words
 
-  module _ (p : Plain) (said : Said (judged (tablesIn file (replicate tableCount 0))) p) where
-    taken : Said (takenBy (line_of file line) t marks stamp) p
-    unfolding takenBy
-    taken = subst (λ (ts : Tables). Said (judged ts) p) (no-tables file).1 said
+  module _ (p : Plain) (said : Said (judged (tables_in file (replicate table_count 0))) p) where
+    taken : Said (taken_by (line_of file line) t marks stamp) p
+    unfolding taken_by
+    taken = subst (λ (ts : Tables). Said (judged ts) p) (no_tables_lem file).1 said
 
-    pub word-taken : (its-parent : ℕ) → p ≡ Word its-parent → {n : NodeSaid} → n ≡ plainSaid (columnsOf file line) (span_of (written (columnsOf file line) 0)) t.words its-parent
-        → steps.Word n ≡ step_of (takenBy (line_of file line) t marks stamp)
-    word-taken its-parent e w = ap steps.Word w ∙ sym (subst (Said (takenBy (line_of file line) t marks stamp)) e taken)
+    pub word_taken : (its_parent : ℕ) → p ≡ Word its_parent → {n : NodeSaid} → n ≡ plain_said (columns_of file line) (span_of (written (columns_of file line) 0)) t.words its_parent
+        → steps.Word n ≡ step_of (taken_by (line_of file line) t marks stamp)
+    word_taken its_parent e w = ap steps.Word w ∙ sym (subst (Said (taken_by (line_of file line) t marks stamp)) e taken)
 
-    pub phrase-taken : (its-number its-parent : ℕ) → p ≡ Phrase its-number its-parent → {n : NodeSaid} → n ≡ plainSaid (columnsOf file line) noSpan its-number its-parent
-        → steps.Phrase n ≡ step_of (takenBy (line_of file line) t marks stamp)
-    phrase-taken its-number its-parent e w =
-        ap steps.Phrase w ∙ sym (subst (Said (takenBy (line_of file line) t marks stamp)) e taken)
+    pub phrase_taken : (its_number its_parent : ℕ) → p ≡ Phrase its_number its_parent → {n : NodeSaid} → n ≡ plain_said (columns_of file line) no_span its_number its_parent
+        → steps.Phrase n ≡ step_of (taken_by (line_of file line) t marks stamp)
+    phrase_taken its_number its_parent e w =
+        ap steps.Phrase w ∙ sym (subst (Said (taken_by (line_of file line) t marks stamp)) e taken)

@@ -9,12 +9,12 @@ use types.Run.{OneOf}
 use denote.Enum.Declared.{tag_of}
 use Rattle.rules.specs.Texts.{Text}
 use Rattle.rules.specs.Rules.{Verdict, refused, granted}
-use Rattle.rules.specs.Tables.{noTables}
+use Rattle.rules.specs.Tables.{no_tables}
 use Rattle.rules.specs.Sentences.{Sentence, so_far}
-use Rattle.rules.specs.Nodes.{word_of, phraseOf}
-use Rattle.rules.specs.Lines.{Taking, ignoredLine, formatLine, tableBegins, row_line, tableEnds, sentenceBegins, word_line, phraseLine, sentenceEnds}
-use Rattle.rules.specs.Phases.{Phase, inSentence, taken}
-use Rattle.lines.proofs.Variants.{not-among}
+use Rattle.rules.specs.Nodes.{word_of, phrase_of}
+use Rattle.rules.specs.Lines.{Taking, ignored_line, format_line, table_begins, row_line, table_ends, sentence_begins, word_line, phrase_line, sentence_ends}
+use Rattle.rules.specs.Phases.{Phase, in_sentence, taken}
+use Rattle.lines.proofs.Variants.{not_among}
 use Rattle.columns.specs.Listing as listing
 use Rattle.columns.specs.declared.listing.Line.{Line}
 use Rattle.steps.specs.Steps.{step_of}
@@ -25,10 +25,10 @@ use Rattle.steps.specs.contracts.Step.{the_type}
 use Rattle.nodes.specs.NodeLines.{fields_of}
 use Rattle.judging.specs.States as states
 use Rattle.judging.specs.declared.state.Tally.{Tally}
-use Rattle.sentences.specs.Keeping.{takenBy, Stored, storedBy, Storable}
-use Rattle.sentences.proofs.NodeTakings.{bare, taken-same, Taken, node-taken}
+use Rattle.sentences.specs.Keeping.{taken_by, Stored, stored_by, Storable}
+use Rattle.sentences.proofs.NodeTakings.{bare, taken_same, Taken, node_taken}
 use Rattle.sentences.proofs.Gathering.{Gathering}
-use Rattle.sentences.proofs.Taking.{LineHere, refused-here, found_here, ignored-on, word-applies, word_on, phrase-applies, phrase-on}
+use Rattle.sentences.proofs.Taking.{LineHere, refused_here, found_here, ignored_on, word_applies, word_on, phrase_applies, phrase_on}
 
 module _ {file : List ℕ} {sought : Option Sentence} {handed at : ℕ} {k : Stored} {e : ℕ} {l : Line} {places : List ℕ} (t : LineHere file sought handed at k e l places) where
   abbrev g : Gathering file sought handed at k
@@ -38,10 +38,10 @@ module _ {file : List ℕ} {sought : Option Sentence} {handed at : ℕ} {k : Sto
   s = g.sentence
 
   abbrev ph : Phase
-  ph = inSentence bare s
+  ph = in_sentence bare s
 
   abbrev line : Text
-  line = listing.textBetween file at e
+  line = listing.text_between file at e
 
   abbrev fs : List Text
   fs = fields_of file l
@@ -51,7 +51,7 @@ module _ {file : List ℕ} {sought : Option Sentence} {handed at : ℕ} {k : Sto
   abbrev Goes : Step → Type 0
   Goes y =
       Storable file l places y k
-      × ((k' : Stored) → k' ≡ storedBy (handed + 1) fs y k → length k'.sheet ≡ length k.sheet → length k'.edges ≡ length k.edges → Gathering file sought handed (e + 1) k')
+      × ((k' : Stored) → k' ≡ stored_by (handed + 1) fs y k → length k'.sheet ≡ length k.sheet → length k'.edges ≡ length k.edges → Gathering file sought handed (e + 1) k')
 
   abbrev Turned : Step → Type 0
   Turned steps.Ignored = Goes steps.Ignored
@@ -65,35 +65,35 @@ module _ {file : List ℕ} {sought : Option Sentence} {handed at : ℕ} {k : Sto
   Turned steps.SentenceEnds = sought ≡ some s
   Turned (steps.Refused f) = sought ≡ none
 
-  by-verdict : (v : Verdict Taking) → taken ph [] line ≡ v → Taken s line v → Turned (step_of v)
-  unfolding storedBy
-  by-verdict (refused b) h w = refused-here t b h
-  by-verdict (granted ignoredLine) h w = (tt, λ k' is a b. subst (Gathering file sought handed (e + 1)) (sym is) (ignored-on t h))
-  by-verdict (granted (formatLine n)) h w = w
-  by-verdict (granted (tableBegins n)) h w = w
-  by-verdict (granted (row_line r)) h w = w
-  by-verdict (granted tableEnds) h w = w
-  by-verdict (granted (sentenceBegins b)) h w = w
-  by-verdict (granted (word_line n)) h w =
-      let so = ap (word_of 3 noTables (so_far s)) t.is ∙ w in
-      (word-applies t n h so, word_on t n h so)
-  by-verdict (granted (phraseLine n)) h w =
-      let so = ap (phraseOf 3 noTables (so_far s)) t.is ∙ w in
-      (phrase-applies t n h so, phrase-on t n h so)
-  by-verdict (granted sentenceEnds) h w = found_here t h
+  by_verdict : (v : Verdict Taking) → taken ph [] line ≡ v → Taken s line v → Turned (step_of v)
+  unfolding stored_by
+  by_verdict (refused b) h w = refused_here t b h
+  by_verdict (granted ignored_line) h w = (tt, λ k' is a b. subst (Gathering file sought handed (e + 1)) (sym is) (ignored_on t h))
+  by_verdict (granted (format_line n)) h w = w
+  by_verdict (granted (table_begins n)) h w = w
+  by_verdict (granted (row_line r)) h w = w
+  by_verdict (granted table_ends) h w = w
+  by_verdict (granted (sentence_begins b)) h w = w
+  by_verdict (granted (word_line n)) h w =
+      let so = ap (word_of 3 no_tables (so_far s)) t.is ∙ w in
+      (word_applies t n h so, word_on t n h so)
+  by_verdict (granted (phrase_line n)) h w =
+      let so = ap (phrase_of 3 no_tables (so_far s)) t.is ∙ w in
+      (phrase_applies t n h so, phrase_on t n h so)
+  by_verdict (granted sentence_ends) h w = found_here t h
 
   -- ---- as the code has it: y is the step that the judge answered
 
-  module _ (y : Step) (is : y ≡ step_of (takenBy (listing.line_of file l) k.tally k.marks (handed + 1))) where
+  module _ (y : Step) (is : y ≡ step_of (taken_by (listing.line_of file l) k.tally k.marks (handed + 1))) where
     step_is : y ≡ step_of (taken ph [] line)
     step_is =
         is
-        ∙ ap (λ (c : Tally). step_of (takenBy (listing.line_of file l) c k.marks (handed + 1))) g.tally-is
-        ∙ ap step_of (taken-same file k.marks handed s g.known g.telling (listing.line_of file l))
+        ∙ ap (λ (c : Tally). step_of (taken_by (listing.line_of file l) c k.marks (handed + 1))) g.tally_is
+        ∙ ap step_of (taken_same file k.marks handed s g.known g.telling (listing.line_of file l))
         ∙ ap (λ (x : Text). step_of (taken ph [] x)) t.is
 
     turned : Turned y
-    turned = subst Turned (sym step_is) (by-verdict (taken ph [] line) refl (node-taken s line))
+    turned = subst Turned (sym step_is) (by_verdict (taken ph [] line) refl (node_taken s line))
 
     pub refused_none : (f : Fault) → y ≡ steps.Refused f → sought ≡ none
     refused_none f h = subst Turned h turned
@@ -119,5 +119,5 @@ module _ {file : List ℕ} {sought : Option Sentence} {handed at : ℕ} {k : Sto
         by (steps.SentenceBegins h) w o u = absurd w
         by (steps.Word n) w o u = w
         by (steps.Phrase n) w o u = w
-        by steps.SentenceEnds w o u = absurd (not-among 8 unended refl u)
-        by (steps.Refused f) w o u = absurd (not-among 9 unrefused refl o)
+        by steps.SentenceEnds w o u = absurd (not_among 8 unended refl u)
+        by (steps.Refused f) w o u = absurd (not_among 9 unrefused refl o)

@@ -2,20 +2,20 @@
 -- in front of phrases in a file, so the nodes are in file order.
 use Rattle.std.specs.Prelude.{ℕ, ◌*◌, ◌≡◌, Bool, true, false, List, replicate}
 use Rattle.std.proofs.Math.Option.{Option, none, some}
-use Rattle.rules.specs.Numbers.{edgeLimit}
+use Rattle.rules.specs.Numbers.{edge_limit}
 use Rattle.rules.specs.Sentences.{Sentence}
-use Rattle.rules.specs.Sheets.{sentenceSheetSize, nodes, sentenceSheet}
-use Rattle.sentence_sheet.specs.FlatEdges.{edgeWidth, edgesAmong, flatEdges}
+use Rattle.rules.specs.Sheets.{sentence_sheet_size, nodes, sentence_sheet}
+use Rattle.sentence_sheet.specs.FlatEdges.{edge_width, edges_among, flat_edges}
 
 pub record SentenceLeft (s : Sentence) (r : Bool) (sheet edges : List ℕ) : Type 0 where
   pub answer : r ≡ true
-  pub sheet-is : sheet ≡ sentenceSheet s
-  pub edges_are : edges ≡ flatEdges (edgesAmong (nodes s))
+  pub sheet_is : sheet ≡ sentence_sheet s
+  pub edges_are : edges ≡ flat_edges (edges_among (nodes s))
 
 pub record NothingLeft (r : Bool) (sheet edges : List ℕ) : Type 0 where
   pub answer : r ≡ false
-  pub sheet-is : sheet ≡ replicate sentenceSheetSize 0
-  pub edges_are : edges ≡ replicate (edgeLimit * edgeWidth) 0
+  pub sheet_is : sheet ≡ replicate sentence_sheet_size 0
+  pub edges_are : edges ≡ replicate (edge_limit * edge_width) 0
 
 abbrev pub SentenceRead : Option Sentence → Bool → List ℕ → List ℕ → Type 0
 SentenceRead none r sheet edges = NothingLeft r sheet edges

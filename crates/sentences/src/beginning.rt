@@ -1,9 +1,9 @@
 // The first line of the sentence: #BOS, read as it is written.
 ghost use Rattle.std.specs.Prelude.{◌≡◌, ◌≤◌, length};
-ghost use Rattle.rules.specs.Bytes.{classTable};
-ghost use Rattle.rules.specs.Numbers.{fileLimit};
-ghost use Rattle.rules.specs.Sheets.{sentenceSheetSize};
-ghost use Rattle.rules.specs.SentenceFrom.{startsLine};
+ghost use Rattle.rules.specs.Bytes.{class_table};
+ghost use Rattle.rules.specs.Numbers.{file_limit};
+ghost use Rattle.rules.specs.Sheets.{sentence_sheet_size};
+ghost use Rattle.rules.specs.SentenceFrom.{starts_line};
 ghost use Rattle.sentences.specs.Beginnings.{BegunAs};
 
 use columns::listing;
@@ -24,7 +24,7 @@ pub enum Begun {
 }
 
 pub fn starts_line(file: &[u8], place: usize) -> bool
-    ensures { result ≡ startsLine file.now place }
+    ensures { result ≡ starts_line file.now place }
 {
     if place == 0 {
         return true;
@@ -43,7 +43,7 @@ pub fn begin(
     places: &mut Places,
     classes: &[u8; 256],
 ) -> Begun
-    requires { (classes.now ≡ classTable) × (length file.now ≤ fileLimit) × (place ≤ length file.now) × (length sheet.old ≡ sentenceSheetSize) }
+    requires { (classes.now ≡ class_table) × (length file.now ≤ file_limit) × (place ≤ length file.now) × (length sheet.old ≡ sentence_sheet_size) }
     ensures { BegunAs file.now place result sheet.old sheet.new }
 {
     let found = lines::line_end(file, place, classes);

@@ -1,8 +1,8 @@
 // Sheet and list of a sentence cleared where the sentence used them.
 ghost use Rattle.std.specs.Prelude.{◌≡◌, ◌*◌, replicate};
-ghost use Rattle.rules.specs.Numbers.{edgeLimit};
-ghost use Rattle.rules.specs.Sheets.{sentenceSheetSize};
-ghost use Rattle.sentence_sheet.specs.FlatEdges.{edgeWidth};
+ghost use Rattle.rules.specs.Numbers.{edge_limit};
+ghost use Rattle.rules.specs.Sheets.{sentence_sheet_size};
+ghost use Rattle.sentence_sheet.specs.FlatEdges.{edge_width};
 ghost use Rattle.sentences.specs.UsedRoom.{UsedOnly};
 
 use sentence_sheet::{EDGE_WIDTH, LEADING_COUNT, NODE_WIDTH};
@@ -19,7 +19,7 @@ const PHRASES_FROM: usize = LEADING_COUNT + NODE_WIDTH * 500;
 
 pub fn clear_used(sheet: &mut [u32], edges: &mut [u32])
     requires { UsedOnly sheet.old edges.old }
-    ensures { (sheet.new ≡ replicate sentenceSheetSize 0) × (edges.new ≡ replicate (edgeLimit * edgeWidth) 0) }
+    ensures { (sheet.new ≡ replicate sentence_sheet_size 0) × (edges.new ≡ replicate (edge_limit * edge_width) 0) }
 {
     let words = sheet[WORDS] as usize;
     let phrases = sheet[PHRASES] as usize;

@@ -1,11 +1,11 @@
 // What a line behind the heading is taken for. There are no tables. An ordinary line takes the quick way.
 ghost use Rattle.std.specs.Prelude.{◌≡◌, List, ℕ, ◌+◌, ◌≤◌};
-ghost use Rattle.rules.specs.Bytes.{classTable};
-ghost use Rattle.columns.specs.Listing.{line_of, columnsOf, Listed};
+ghost use Rattle.rules.specs.Bytes.{class_table};
+ghost use Rattle.columns.specs.Listing.{line_of, columns_of, Listed};
 ghost use Rattle.steps.specs.Steps.{step_of};
-ghost use Rattle.nodes.specs.PlainNodes.{plainSaid};
+ghost use Rattle.nodes.specs.PlainNodes.{plain_said};
 ghost use Rattle.judging.specs.Judging.{Countable};
-ghost use Rattle.sentences.specs.Keeping.{takenBy};
+ghost use Rattle.sentences.specs.Keeping.{taken_by};
 
 use columns::listing;
 use columns::listing::{Line, Places, Span};
@@ -16,7 +16,7 @@ use steps::{NodeSaid, Step};
 // What an ordinary line says of its node: no secondary edges, no comment.
 fn plain_said(line: Line, places: &Places, word: Span, number: u32, parent: u32) -> NodeSaid
     requires { (4 ≤ line.columns) × ((file : List ℕ) × Listed file line places.now) }
-    ensures { (file : List ℕ) → Listed file line places.now → result ≡ plainSaid (columnsOf file line) word number parent }
+    ensures { (file : List ℕ) → Listed file line places.now → result ≡ plain_said (columns_of file line) word number parent }
 {
     let tag = listing::column_span(line, places, 1);
     let morphology = listing::column_span(line, places, 2);
@@ -45,8 +45,8 @@ fn judge_fully(
     marks: &[u32; MARKS],
     classes: &[u8; 256],
 ) -> Step
-    requires { (classes.now ≡ classTable) × Listed file.now line places.now × Countable t handed }
-    ensures { result ≡ step_of (takenBy (line_of file.now line) t marks.now (handed + 1)) }
+    requires { (classes.now ≡ class_table) × Listed file.now line places.now × Countable t handed }
+    ensures { result ≡ step_of (taken_by (line_of file.now line) t marks.now (handed + 1)) }
 {
     if listing::is_ignored(file, line) {
         return Step::Ignored;
@@ -69,8 +69,8 @@ pub fn judge(
     marks: &[u32; MARKS],
     classes: &[u8; 256],
 ) -> Step
-    requires { (classes.now ≡ classTable) × Listed file.now line places.now × Countable t handed }
-    ensures { result ≡ step_of (takenBy (line_of file.now line) t marks.now (handed + 1)) }
+    requires { (classes.now ≡ class_table) × Listed file.now line places.now × Countable t handed }
+    ensures { result ≡ step_of (taken_by (line_of file.now line) t marks.now (handed + 1)) }
 {
     if line.columns != listing::ORDINARY {
         return judge_fully(file, line, places, t, handed, hints, marks, classes);

@@ -1,9 +1,9 @@
 // What the step of a line does to all that is kept of a sentence: its counts, its sheet, its edges, the marks of its phrases.
 ghost use Rattle.std.specs.Prelude.{◌≡◌, ◌+◌, ◌-◌, ◌≤◌, set};
-ghost use Rattle.rules.specs.Bytes.{classTable};
-ghost use Rattle.rules.specs.Numbers.{fileLimit};
+ghost use Rattle.rules.specs.Bytes.{class_table};
+ghost use Rattle.rules.specs.Numbers.{file_limit};
 ghost use Rattle.nodes.specs.NodeLines.{fields_of};
-ghost use Rattle.sentences.specs.Keeping.{stored, recordSaid, withRecord, withEdges, NodeStorable, Storable, storedBy};
+ghost use Rattle.sentences.specs.Keeping.{stored, record_said, with_record, with_edges, NodeStorable, Storable, stored_by};
 
 use crate::pairs::put_pairs;
 use columns::listing::{Line, Places};
@@ -13,7 +13,7 @@ use sentence_sheet::NodeRecord;
 use steps::{NodeSaid, Step};
 
 fn record_said(node: NodeSaid) -> NodeRecord
-    ensures { result ≡ recordSaid node }
+    ensures { result ≡ record_said node }
 {
     let word = node.word;
     let tag = node.tag;
@@ -54,8 +54,8 @@ fn put_node(
     edges: &mut [u32],
     classes: &[u8; 256],
 )
-    requires { (classes.now ≡ classTable) × NodeStorable file.now line places.now node t sheet.old edges.old }
-    ensures { (sheet.new ≡ withRecord node sheet.old) × (edges.new ≡ withEdges (fields_of file.now line) node t edges.old) }
+    requires { (classes.now ≡ class_table) × NodeStorable file.now line places.now node t sheet.old edges.old }
+    ensures { (sheet.new ≡ with_record node sheet.old) × (edges.new ≡ with_edges (fields_of file.now line) node t edges.old) }
 {
     sentence_sheet::put_node(sheet, node.number as usize, record_said(node));
     put_pairs(file, line, places, node, t.edges, edges, classes);
@@ -74,8 +74,8 @@ pub fn keep(
     marks: &mut [u32; MARKS],
     classes: &[u8; 256],
 ) -> Tally
-    requires { (classes.now ≡ classTable) × (handed ≤ fileLimit) × Storable file.now line places.now step (stored t sheet.old edges.old marks.old) }
-    ensures { stored result sheet.new edges.new marks.new ≡ storedBy (handed + 1) (fields_of file.now line) step (stored t sheet.old edges.old marks.old) }
+    requires { (classes.now ≡ class_table) × (handed ≤ file_limit) × Storable file.now line places.now step (stored t sheet.old edges.old marks.old) }
+    ensures { stored result sheet.new edges.new marks.new ≡ stored_by (handed + 1) (fields_of file.now line) step (stored t sheet.old edges.old marks.old) }
 {
     match step {
         Step::Word(node) => {

@@ -6,13 +6,13 @@ mod keeping;
 mod pairs;
 
 ghost use Rattle.std.specs.Prelude.{◌≡◌, ◌+◌, ◌*◌, ◌≤◌, length, replicate};
-ghost use Rattle.rules.specs.Bytes.{classTable};
-ghost use Rattle.rules.specs.Numbers.{fileLimit, edgeLimit};
-ghost use Rattle.rules.specs.Sheets.{sentenceSheetSize};
-ghost use Rattle.rules.specs.SentenceFrom.{sentenceFrom};
-ghost use Rattle.sentence_sheet.specs.FlatEdges.{edgeWidth};
+ghost use Rattle.rules.specs.Bytes.{class_table};
+ghost use Rattle.rules.specs.Numbers.{file_limit, edge_limit};
+ghost use Rattle.rules.specs.Sheets.{sentence_sheet_size};
+ghost use Rattle.rules.specs.SentenceFrom.{sentence_from};
+ghost use Rattle.sentence_sheet.specs.FlatEdges.{edge_width};
 ghost use Rattle.sentences.specs.Keeping.{MarkedUpTo};
-ghost use Rattle.sentences.specs.Beginnings.{begunAt, Headed};
+ghost use Rattle.sentences.specs.Beginnings.{begun_at, Headed};
 ghost use Rattle.sentences.specs.SentenceRead.{Gathered, SentenceRead};
 
 use beginning::Begun;
@@ -34,8 +34,8 @@ fn take_nodes(
     hints: &[u8; table_sheet::HINTS],
     classes: &[u8; 256],
 ) -> bool
-    requires { (classes.now ≡ classTable) × (length file.now ≤ fileLimit) × Headed file.now first.start from first (replicate sentenceSheetSize 0) sheet.old × (length sheet.old ≡ sentenceSheetSize) × (edges.old ≡ replicate (edgeLimit * edgeWidth) 0) × (handed ≤ fileLimit) × MarkedUpTo handed marks.old }
-    ensures { Gathered (begunAt file.now first.start) result sheet.new edges.new × MarkedUpTo (handed + 1) marks.new }
+    requires { (classes.now ≡ class_table) × (length file.now ≤ file_limit) × Headed file.now first.start from first (replicate sentence_sheet_size 0) sheet.old × (length sheet.old ≡ sentence_sheet_size) × (edges.old ≡ replicate (edge_limit * edge_width) 0) × (handed ≤ file_limit) × MarkedUpTo handed marks.old }
+    ensures { Gathered (begun_at file.now first.start) result sheet.new edges.new × MarkedUpTo (handed + 1) marks.new }
 {
     let mut t = first;
     let mut at = from;
@@ -74,8 +74,8 @@ pub fn read_into(
     hints: &[u8; table_sheet::HINTS],
     classes: &[u8; 256],
 ) -> bool
-    requires { (classes.now ≡ classTable) × (length file.now ≤ fileLimit) × (sheet.old ≡ replicate sentenceSheetSize 0) × (edges.old ≡ replicate (edgeLimit * edgeWidth) 0) × (handed ≤ fileLimit) × MarkedUpTo handed marks.old }
-    ensures { SentenceRead (sentenceFrom file.now place) result sheet.new edges.new × MarkedUpTo (handed + 1) marks.new }
+    requires { (classes.now ≡ class_table) × (length file.now ≤ file_limit) × (sheet.old ≡ replicate sentence_sheet_size 0) × (edges.old ≡ replicate (edge_limit * edge_width) 0) × (handed ≤ file_limit) × MarkedUpTo handed marks.old }
+    ensures { SentenceRead (sentence_from file.now place) result sheet.new edges.new × MarkedUpTo (handed + 1) marks.new }
 {
     if !beginning::starts_line(file, place) {
         return false;
@@ -97,8 +97,8 @@ pub fn read_into(
 
 // False if no sentence stands there; sheet and list are then zero.
 pub fn read_sentence(file: &[u8], place: usize, sheet: &mut [u32], edges: &mut [u32]) -> bool
-    requires { (length file.now ≤ fileLimit) × (length sheet.old ≡ sentenceSheetSize) × (length edges.old ≡ edgeLimit * edgeWidth) }
-    ensures { SentenceRead (sentenceFrom file.now place) result sheet.new edges.new }
+    requires { (length file.now ≤ file_limit) × (length sheet.old ≡ sentence_sheet_size) × (length edges.old ≡ edge_limit * edge_width) }
+    ensures { SentenceRead (sentence_from file.now place) result sheet.new edges.new }
 {
     table_sheet::clear(sheet);
     table_sheet::clear(edges);

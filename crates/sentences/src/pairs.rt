@@ -1,12 +1,12 @@
 // The secondary edges that a line gives its node: pairs of a label and a parent in columns 5 and 6, 7 and 8, and so on.
 ghost use Rattle.std.specs.Prelude.{◌≡◌, ◌+◌, ◌*◌, ◌≤◌, length};
-ghost use Rattle.rules.specs.Bytes.{classTable};
+ghost use Rattle.rules.specs.Bytes.{class_table};
 ghost use Rattle.rules.specs.Lists.{joined};
-ghost use Rattle.rules.specs.Numbers.{phraseNumber, number, value, edgeLimit};
+ghost use Rattle.rules.specs.Numbers.{phrase_number, number, value, edge_limit};
 ghost use Rattle.columns.specs.Splices.{splice};
-ghost use Rattle.sentence_sheet.specs.FlatEdges.{edgeWidth};
+ghost use Rattle.sentence_sheet.specs.FlatEdges.{edge_width};
 ghost use Rattle.nodes.specs.NodeLines.{fields_of, Whole};
-ghost use Rattle.sentences.specs.LineEdges.{pairEdges};
+ghost use Rattle.sentences.specs.LineEdges.{pair_edges};
 
 use columns::listing;
 use columns::listing::{Line, Places};
@@ -15,8 +15,8 @@ use steps::NodeSaid;
 
 // 0 for what isn't a phrase's number.
 fn parent_in(text: &[u8], classes: &[u8; 256]) -> u32
-    requires { classes.now ≡ classTable }
-    ensures { result ≡ value (number phraseNumber text.now) }
+    requires { classes.now ≡ class_table }
+    ensures { result ≡ value (number phrase_number text.now) }
 {
     let read = PhraseNumber::read(text, classes);
     let Number::Good(parent) = read else {
@@ -35,8 +35,8 @@ pub fn put_pairs(
     edges: &mut [u32],
     classes: &[u8; 256],
 )
-    requires { (classes.now ≡ classTable) × Whole file.now line places.now (5 + 2 * node.edges) × (from + node.edges ≤ edgeLimit) × (length edges.old ≡ edgeLimit * edgeWidth) }
-    ensures { edges.new ≡ splice (edgeWidth * from) (joined (pairEdges (fields_of file.now line) node.number 5)) edges.old }
+    requires { (classes.now ≡ class_table) × Whole file.now line places.now (5 + 2 * node.edges) × (from + node.edges ≤ edge_limit) × (length edges.old ≡ edge_limit * edge_width) }
+    ensures { edges.new ≡ splice (edge_width * from) (joined (pair_edges (fields_of file.now line) node.number 5)) edges.old }
 {
     let count = node.edges as usize;
     let mut j = 0;

@@ -1,6 +1,6 @@
 // An opened sentence in lines: its heading, then a line for each node.
 ghost use Rattle.std.specs.Prelude.{◌+◌, ◌<◌};
-ghost use Rattle.rules.specs.SheetFields.{nodeWidth, nodeRoom};
+ghost use Rattle.rules.specs.SheetFields.{node_width, node_room};
 
 use sentence_sheet::{
     COMMENT, DATE, EDGE, EDGE_LIMIT, EDGE_LIST_SIZE, EDGE_WIDTH, EDITOR, MORPHOLOGY, NODE_ROOM,
@@ -80,20 +80,20 @@ fn name(file: &[u8], node: u32, start: u32, length: u32) {
 
 // A number of a node.
 fn field(sheet: &[u32; SIZE], its: usize, n: usize) -> u32
-    requires { (its < nodeWidth) × (n < nodeRoom) }
+    requires { (its < node_width) × (n < node_room) }
 {
     sheet[sentence_sheet::field_place(its, n)]
 }
 
 // A text of a node behind a tab, by the field of its start.
 fn column(file: &[u8], sheet: &[u32; SIZE], its: usize, n: usize)
-    requires { (its + 1 < nodeWidth) × (n < nodeRoom) }
+    requires { (its + 1 < node_width) × (n < node_room) }
 {
     text(b"\t", file, field(sheet, its, n), field(sheet, its + 1, n));
 }
 
 fn node(file: &[u8], sheet: &[u32; SIZE], edges: &[u32; EDGE_LIST_SIZE], n: usize)
-    requires { n < nodeRoom }
+    requires { n < node_room }
 {
     name(
         file,
@@ -112,7 +112,7 @@ fn node(file: &[u8], sheet: &[u32; SIZE], edges: &[u32; EDGE_LIST_SIZE], n: usiz
 
 // Every node has a tag.
 fn is_there(sheet: &[u32; SIZE], n: usize) -> bool
-    requires { n < nodeRoom }
+    requires { n < node_room }
 {
     field(sheet, TAG + 1, n) != 0
 }

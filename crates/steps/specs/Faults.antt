@@ -7,16 +7,16 @@ use Rattle.steps.specs.declared.Fault.{Fault}
 use Rattle.steps.specs.declared.Step.{Step}
 use Rattle.steps.specs.declared.Step.TheVariants.{Refused}
 
-abbrev pub noFault : Fault
-noFault = record { number = 0; place = 0 }
+abbrev pub no_fault : Fault
+no_fault = record { number = 0; place = 0 }
 
-abbrev pub brokenBy : Rule → Fault
-brokenBy r = record { number = r.number; place = r.about.start }
+abbrev pub broken_by : Rule → Fault
+broken_by r = record { number = r.number; place = r.about.start }
 
 -- the first of the rules that is broken
-unfoldable pub faultIn : List Rule → Fault
-faultIn [] = noFault
-faultIn (r ∷ rs) = let later = faultIn rs in pick r.holds later (brokenBy r)
+unfoldable pub fault_in : List Rule → Fault
+fault_in [] = no_fault
+fault_in (r ∷ rs) = let later = fault_in rs in pick r.holds later (broken_by r)
 
 -- the first fault, unless there is none
 abbrev pub or_else : Fault → Fault → Fault
@@ -26,5 +26,5 @@ abbrev pub refusal : ℕ → ℕ → Step
 refusal n place = Refused (record { number = n; place = place })
 
 -- the step, unless there is a fault
-abbrev pub unlessFault : Fault → Step → Step
-unlessFault f s = pick (eqb f.number 0) s (Refused f)
+abbrev pub unless_fault : Fault → Step → Step
+unless_fault f s = pick (eqb f.number 0) s (Refused f)

@@ -3,24 +3,24 @@ use Rattle.std.specs.Prelude.{length}
 use Rattle.rules.specs.Rules.{Verdict, refused, granted}
 use Rattle.rules.specs.Tables as rules
 use Rattle.rules.specs.Sentences.{Node, Heading}
-use Rattle.rules.specs.Highest.{highestParent}
-use Rattle.rules.specs.Lines.{Taking, ignoredLine, formatLine, tableBegins, row_line, tableEnds, sentenceBegins, word_line, phraseLine, sentenceEnds}
+use Rattle.rules.specs.Highest.{highest_parent}
+use Rattle.rules.specs.Lines.{Taking, ignored_line, format_line, table_begins, row_line, table_ends, sentence_begins, word_line, phrase_line, sentence_ends}
 use Rattle.columns.specs.Listing.{span_of}
-use Rattle.steps.specs.Faults.{brokenBy}
+use Rattle.steps.specs.Faults.{broken_by}
 use Rattle.steps.specs.declared.RowSaid.{RowSaid}
 use Rattle.steps.specs.declared.HeadingSaid.{HeadingSaid}
 use Rattle.steps.specs.declared.NodeSaid.{NodeSaid}
 use Rattle.steps.specs.declared.Step.{Step}
 use Rattle.steps.specs.declared.Step.TheVariants as steps
 
-abbrev pub rowSaid : rules.Row → RowSaid
-rowSaid r = record { id1 = r.id1; first = span_of r.first; second = span_of r.second; flag = r.flag }
+abbrev pub row_said : rules.Row → RowSaid
+row_said r = record { id1 = r.id1; first = span_of r.first; second = span_of r.second; flag = r.flag }
 
-abbrev pub headingSaid : Heading → HeadingSaid
-headingSaid h = record { number = h.number; editor1 = h.editor1; date = h.date; origin = h.origin; comment = span_of h.comment }
+abbrev pub heading_said : Heading → HeadingSaid
+heading_said h = record { number = h.number; editor1 = h.editor1; date = h.date; origin = h.origin; comment = span_of h.comment }
 
-abbrev pub nodeSaid : Node → NodeSaid
-nodeSaid n = record {
+abbrev pub node_said : Node → NodeSaid
+node_said n = record {
   number = n.number;
   word = span_of n.word;
   tag = span_of n.tag;
@@ -29,20 +29,20 @@ nodeSaid n = record {
   parent = n.parent;
   comment = span_of n.comment;
   edges = length n.secondary;
-  highest = highestParent n;
+  highest = highest_parent n;
 }
 
-abbrev pub stepFor : Taking → Step
-stepFor ignoredLine = steps.Ignored
-stepFor (formatLine n) = steps.Format n
-stepFor (tableBegins n) = steps.TableBegins n
-stepFor (row_line r) = steps.Row (rowSaid r)
-stepFor tableEnds = steps.TableEnds
-stepFor (sentenceBegins h) = steps.SentenceBegins (headingSaid h)
-stepFor (word_line n) = steps.Word (nodeSaid n)
-stepFor (phraseLine n) = steps.Phrase (nodeSaid n)
-stepFor sentenceEnds = steps.SentenceEnds
+abbrev pub step_for : Taking → Step
+step_for ignored_line = steps.Ignored
+step_for (format_line n) = steps.Format n
+step_for (table_begins n) = steps.TableBegins n
+step_for (row_line r) = steps.Row (row_said r)
+step_for table_ends = steps.TableEnds
+step_for (sentence_begins h) = steps.SentenceBegins (heading_said h)
+step_for (word_line n) = steps.Word (node_said n)
+step_for (phrase_line n) = steps.Phrase (node_said n)
+step_for sentence_ends = steps.SentenceEnds
 
 abbrev pub step_of : Verdict Taking → Step
-step_of (refused r) = steps.Refused (brokenBy r)
-step_of (granted t) = stepFor t
+step_of (refused r) = steps.Refused (broken_by r)
+step_of (granted t) = step_for t

@@ -2,9 +2,9 @@
 pub mod refusals;
 
 ghost use Rattle.std.specs.Prelude.{◌≡◌, List, ℕ, ◌≤◌, ◌<◌};
-ghost use Rattle.rules.specs.Numbers.{fileLimit};
+ghost use Rattle.rules.specs.Numbers.{file_limit};
 ghost use Rattle.rules.specs.Columns.{written};
-ghost use Rattle.columns.specs.Listing.{columnsOf, Listed};
+ghost use Rattle.columns.specs.Listing.{columns_of, Listed};
 ghost use Rattle.steps.specs.Faults.{refusal};
 
 use columns::listing;
@@ -65,7 +65,7 @@ pub enum Step {
 }
 
 pub fn refused(number: u32, place: usize) -> Step
-    requires { place ≤ fileLimit }
+    requires { place ≤ file_limit }
     ensures { result ≡ refusal number place }
 {
     let at = place as u32;
@@ -85,7 +85,7 @@ pub fn refused_text(number: u32, text: Span) -> Step
 // A rule is broken that is about column k.
 pub fn refused_at(number: u32, line: Line, places: &Places, k: usize) -> Step
     requires { (k < line.columns) × ((file : List ℕ) × Listed file line places.now) }
-    ensures { (file : List ℕ) → Listed file line places.now → result ≡ refusal number (written (columnsOf file line) k).start }
+    ensures { (file : List ℕ) → Listed file line places.now → result ≡ refusal number (written (columns_of file line) k).start }
 {
     refused_text(number, listing::column_span(line, places, k))
 }

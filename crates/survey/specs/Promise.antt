@@ -8,17 +8,17 @@ use Rattle.survey.specs.declared.Surveyed.{Surveyed}
 abbrev pub outcome : Surveyed → List ℕ → List ℕ → SurveyOutcome
 outcome r tables seen =
     record {
-      answer = record { refusal = r.refusal; place = r.place; sentences = r.sentences; soundEnd = r.sound_end };
+      answer = record { refusal = r.refusal; place = r.place; sentences = r.sentences; sound_end = r.sound_end };
       tables = tables;
       seen = seen;
     }
 
 -- the four numbers that are told
-abbrev pub asSurveyed : Told → Surveyed
-asSurveyed t = record { refusal = t.refusal; place = t.place; sentences = t.sentences; sound_end = t.soundEnd }
+abbrev pub as_surveyed : Told → Surveyed
+as_surveyed t = record { refusal = t.refusal; place = t.place; sentences = t.sentences; sound_end = t.sound_end }
 
-abbrev pub surveyedAs : Read → Surveyed
-surveyedAs r = record { refusal = r.refusal; place = r.place; sentences = r.sentences; sound_end = r.sound_end }
+abbrev pub surveyed_as : Read → Surveyed
+surveyed_as r = record { refusal = r.refusal; place = r.place; sentences = r.sentences; sound_end = r.sound_end }
 
 -- ---- the index
 

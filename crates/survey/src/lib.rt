@@ -1,8 +1,8 @@
 // The survey: the lent buffers have their sizes, the file is not too long, and then it is read once.
 ghost use Rattle.std.specs.Prelude.{◌≡◌};
-ghost use Rattle.rules.specs.Survey.{told, nothingRead, sheetsFit, afterSurvey};
-ghost use Rattle.rules.specs.Index.{afterIndexing};
-ghost use Rattle.survey.specs.Promise.{outcome, asSurveyed, surveyedAs, indexed};
+ghost use Rattle.rules.specs.Survey.{told, nothing_read, sheets_fit, after_survey};
+ghost use Rattle.rules.specs.Index.{after_indexing};
+ghost use Rattle.survey.specs.Promise.{outcome, as_surveyed, surveyed_as, indexed};
 
 use reading::Read;
 use steps::refusals;
@@ -19,7 +19,7 @@ pub struct Surveyed {
 }
 
 fn nothing_read(refusal: u32) -> Surveyed
-    ensures { result ≡ asSurveyed (told (nothingRead refusal)) }
+    ensures { result ≡ as_surveyed (told (nothing_read refusal)) }
 {
     Surveyed {
         refusal,
@@ -30,7 +30,7 @@ fn nothing_read(refusal: u32) -> Surveyed
 }
 
 fn surveyed_as(read: Read) -> Surveyed
-    ensures { result ≡ surveyedAs read }
+    ensures { result ≡ surveyed_as read }
 {
     Surveyed {
         refusal: read.refusal,
@@ -41,7 +41,7 @@ fn surveyed_as(read: Read) -> Surveyed
 }
 
 pub fn sheets_fit(sheet: &[u32], seen: &[u8]) -> bool
-    ensures { result ≡ sheetsFit sheet.now seen.now }
+    ensures { result ≡ sheets_fit sheet.now seen.now }
 {
     if sheet.len() != table_sheet::SIZE {
         return false;
@@ -51,7 +51,7 @@ pub fn sheets_fit(sheet: &[u32], seen: &[u8]) -> bool
 
 // Document 01, "What the library does": survey(file, table sheet, seen set). Where sentences begin is not asked.
 pub fn survey(file: &[u8], sheet: &mut [u32], seen: &mut [u8]) -> Surveyed
-    ensures { outcome result sheet.new seen.new ≡ afterSurvey file.now sheet.old seen.old }
+    ensures { outcome result sheet.new seen.new ≡ after_survey file.now sheet.old seen.old }
 {
     if !sheets_fit(sheet, seen) {
         return nothing_read(refusals::WRONG_SIZE);
@@ -69,7 +69,7 @@ pub const INDEX_SIZE: usize = 65536;
 // A survey that also tells, for each sentence number, where its sentence begins: one more than the place of its first line,
 // 0 where none is handed out.
 pub fn index(file: &[u8], sheet: &mut [u32], seen: &mut [u8], places: &mut [u32]) -> Surveyed
-    ensures { indexed result sheet.new seen.new places.new ≡ afterIndexing file.now sheet.old seen.old places.old }
+    ensures { indexed result sheet.new seen.new places.new ≡ after_indexing file.now sheet.old seen.old places.old }
 {
     if !sheets_fit(sheet, seen) {
         return nothing_read(refusals::WRONG_SIZE);

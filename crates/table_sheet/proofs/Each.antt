@@ -10,6 +10,6 @@ module _ {A : Type 0} (P : A → Type 0) where
   each_set (y ∷ xs) zero x e p = (p, e.1)
   each_set (y ∷ xs) (suc k) x e p = (e.0, each_set xs k x e.1 p)
 
-  pub each-replicate : (n : ℕ) (x : A) → P x → Each P (replicate n x)
-  each-replicate zero x p = tt
-  each-replicate (suc n) x p = (p, each-replicate n x p)
+  pub each_replicate : (n : ℕ) (x : A) → P x → Each P (replicate n x)
+  each_replicate zero x p = tt
+  each_replicate (suc n) x p = (p, each_replicate n x p)

@@ -5,34 +5,34 @@ use Rattle.std.proofs.Math.Option.{Option, none, some}
 use Rattle.rules.specs.Lists.{counting}
 use Rattle.rules.specs.Texts.{Text}
 use Rattle.rules.specs.Tables.{Row, Tables}
-use Rattle.rules.specs.Sheets.{tableCount, rowWidth, rowPlace}
+use Rattle.rules.specs.Sheets.{table_count, row_width, row_place}
 
 -- the text of a file that has this start and this length
-abbrev pub textAt : List ℕ → ℕ → ℕ → Text
-textAt file start len = record { start = start; bytes = take len (drop start file) }
+abbrev pub text_at : List ℕ → ℕ → ℕ → Text
+text_at file start len = record { start = start; bytes = take len (drop start file) }
 
 -- the row whose numbers stand from a place on
 abbrev pub row_at : List ℕ → List ℕ → ℕ → Row
 row_at file sheet at =
     record {
       id1 = get_or sheet at 0;
-      first = textAt file (get_or sheet (at + 1) 0) (get_or sheet (at + 2) 0);
-      second = textAt file (get_or sheet (at + 3) 0) (get_or sheet (at + 4) 0);
+      first = text_at file (get_or sheet (at + 1) 0) (get_or sheet (at + 2) 0);
+      second = text_at file (get_or sheet (at + 3) 0) (get_or sheet (at + 4) 0);
       flag = get_or sheet (at + 5) 0;
     }
 
 -- as many rows as count, from a place on
 unfoldable pub rows_from : List ℕ → List ℕ → ℕ → ℕ → List Row
 rows_from file sheet at zero = []
-rows_from file sheet at (suc count) = row_at file sheet at ∷ rows_from file sheet (at + rowWidth) count
+rows_from file sheet at (suc count) = row_at file sheet at ∷ rows_from file sheet (at + row_width) count
 
 -- the table that has this count and its rows from a place on
 abbrev pub counted : List ℕ → List ℕ → ℕ → ℕ → Option (List Row)
 counted file sheet at zero = none
 counted file sheet at (suc rows) = some (rows_from file sheet at rows)
 
-abbrev pub tableIn : List ℕ → List ℕ → ℕ → Option (List Row)
-tableIn file sheet n = counted file sheet (rowPlace n 0) (get_or sheet n 0)
+abbrev pub table_in : List ℕ → List ℕ → ℕ → Option (List Row)
+table_in file sheet n = counted file sheet (row_place n 0) (get_or sheet n 0)
 
-unfoldable pub tablesIn : List ℕ → List ℕ → Tables
-tablesIn file sheet = map (tableIn file sheet) (counting 0 tableCount)
+unfoldable pub tables_in : List ℕ → List ℕ → Tables
+tables_in file sheet = map (table_in file sheet) (counting 0 table_count)

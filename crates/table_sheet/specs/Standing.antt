@@ -3,18 +3,18 @@ use Rattle.std.specs.Prelude.{ℕ, ◌+◌, ◌*◌, ◌≤◌, ◌<◌, ◌≡�
 use Rattle.std.proofs.Math.Option.{Option}
 use Rattle.rules.specs.Lists.{Each}
 use Rattle.rules.specs.Texts.{Text}
-use Rattle.rules.specs.Numbers.{rowLimit}
+use Rattle.rules.specs.Numbers.{row_limit}
 use Rattle.rules.specs.Tables.{Row, Tables, rows_of}
-use Rattle.rules.specs.Sheets.{tableCount, rowWidth}
+use Rattle.rules.specs.Sheets.{table_count, row_width}
 
 abbrev pub RowsHaveRoom : List Row → Type 0
-RowsHaveRoom rs = length rs ≤ rowLimit
+RowsHaveRoom rs = length rs ≤ row_limit
 
 abbrev pub TableHasRoom : Option (List Row) → Type 0
 TableHasRoom t = RowsHaveRoom (rows_of t)
 
 pub record TablesHaveRoom (ts : Tables) : Type 0 where
-  pub seven : length ts ≡ tableCount
+  pub seven : length ts ≡ table_count
   pub room : Each TableHasRoom ts
 
 -- the file has the text's bytes at the text's place
@@ -42,4 +42,4 @@ pub record RowInside (file sheet : List ℕ) (at : ℕ) : Type 0 where
 
 -- so do those of as many rows as count, from a place on
 abbrev pub Inside : List ℕ → List ℕ → ℕ → ℕ → Type 0
-Inside file sheet at count = (k : ℕ) → k < count → RowInside file sheet (at + rowWidth * k)
+Inside file sheet at count = (k : ℕ) → k < count → RowInside file sheet (at + row_width * k)

@@ -1,12 +1,12 @@
 // Rows whose ids are passed over four at a time, in front of a look-up row by row.
 ghost use Rattle.std.specs.Prelude.{◌≡◌, true, List, ℕ, ◌+◌, ◌-◌, ◌*◌, ◌≤◌, length};
-ghost use Rattle.rules.specs.Sheets.{rowWidth};
+ghost use Rattle.rules.specs.Sheets.{row_width};
 ghost use Rattle.table_sheet.specs.SheetRows.{rows_from};
-ghost use Rattle.table_sheet.specs.LookUps.{idFrom, idFound, FourWithout};
+ghost use Rattle.table_sheet.specs.LookUps.{id_from, id_found, FourWithout};
 
 // Whether none of the four rows from a place on has this id + 1.
 fn four_without(sheet: &[u32], at: usize, id1: u32) -> bool
-    requires { at + rowWidth * 4 ≤ length sheet.now }
+    requires { at + row_width * 4 ≤ length sheet.now }
     ensures { result ≡ true → FourWithout sheet.now at id1 }
 {
     let second = at + crate::ROW_WIDTH;
@@ -26,8 +26,8 @@ fn four_without(sheet: &[u32], at: usize, id1: u32) -> bool
 
 // How many of the first rows need not be looked at: none of them has this id + 1.
 pub fn pass_fours(sheet: &[u32], place: usize, rows: usize, id1: u32) -> usize
-    requires { place + rowWidth * rows ≤ length sheet.now }
-    ensures { (result ≤ rows) × ((file : List ℕ) → idFrom result id1 (rows_from file sheet.now (place + rowWidth * result) (rows - result)) ≡ idFound id1 (rows_from file sheet.now place rows)) }
+    requires { place + row_width * rows ≤ length sheet.now }
+    ensures { (result ≤ rows) × ((file : List ℕ) → id_from result id1 (rows_from file sheet.now (place + row_width * result) (rows - result)) ≡ id_found id1 (rows_from file sheet.now place rows)) }
 {
     let mut row = 0;
     let mut at = place;

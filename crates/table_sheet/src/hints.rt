@@ -1,8 +1,8 @@
 // Where to look first for a tag among the rows of its table: 512 guesses for each of the seven. A hint is only a guess,
 // and no answer depends on it.
 ghost use Rattle.std.specs.Prelude.{◌≡◌, ◌+◌, ◌≤◌, ◌<◌, length, get_or};
-ghost use Rattle.rules.specs.Sheets.{tableCount};
-ghost use Rattle.table_sheet.specs.Hints.{fewBytes, someBytes, number_at, tagNumber, hintPlace};
+ghost use Rattle.rules.specs.Sheets.{table_count};
+ghost use Rattle.table_sheet.specs.Hints.{few_bytes, some_bytes, number_at, tag_number, hint_place};
 
 use texts::words;
 
@@ -17,7 +17,7 @@ pub fn wide(b: u8) -> u64
 // Tags of up to 3 and of 4 to 7 bytes: what `words::front_at` gives where eight bytes are at hand.
 fn few_bytes(tag: &[u8]) -> u64
     requires { (0 < length tag.now) × (length tag.now < 4) }
-    ensures { result ≡ fewBytes tag.now }
+    ensures { result ≡ few_bytes tag.now }
 {
     let n = tag.len();
     let middle = wide(tag[n / 2]) << (64 - 8 * n + 8 * (n / 2));
@@ -26,7 +26,7 @@ fn few_bytes(tag: &[u8]) -> u64
 
 fn some_bytes(tag: &[u8]) -> u64
     requires { (4 ≤ length tag.now) × (length tag.now < 8) }
-    ensures { result ≡ someBytes tag.now }
+    ensures { result ≡ some_bytes tag.now }
 {
     let n = tag.len();
     let front = words::four_at(tag, 0) as u64;
@@ -45,7 +45,7 @@ pub fn number_at(file: &[u8], start: usize, len: usize) -> u64
 
 // Any tag as one number.
 pub fn number_of(tag: &[u8]) -> u64
-    ensures { result ≡ tagNumber tag.now }
+    ensures { result ≡ tag_number tag.now }
 {
     let n = tag.len();
     if n == 0 {
@@ -62,8 +62,8 @@ pub fn number_of(tag: &[u8]) -> u64
 
 // The place of the hint for a tag that is this number.
 pub fn place_of(table: usize, number: u64) -> usize
-    requires { table < tableCount }
-    ensures { (result ≡ hintPlace table number) × (result < 3584) }
+    requires { table < table_count }
+    ensures { (result ≡ hint_place table number) × (result < 3584) }
 {
     let folded = (number ^ (number / 4294967296)) % 4294967296;
     FOR_TABLE * table + (folded * 1150506051 / 8388608 % 512) as usize
@@ -71,8 +71,8 @@ pub fn place_of(table: usize, number: u64) -> usize
 
 // The row to look at first.
 pub fn row_near(hints: &[u8; crate::HINTS], table: usize, number: u64) -> usize
-    requires { table < tableCount }
-    ensures { (result ≡ get_or hints.now (hintPlace table number) 0) × (result < 256) }
+    requires { table < table_count }
+    ensures { (result ≡ get_or hints.now (hint_place table number) 0) × (result < 256) }
 {
     wide(hints[place_of(table, number)]) as usize
 }

@@ -7,11 +7,11 @@ pub mod quick;
 
 ghost use Rattle.std.specs.Prelude.{◌≡◌, List, ℕ, ◌+◌, ◌*◌, ◌≤◌, ◌<◌, length, replicate};
 ghost use Rattle.rules.specs.Lists.{same};
-ghost use Rattle.rules.specs.Numbers.{rowLimit};
-ghost use Rattle.rules.specs.Sheets.{tableCount, rowWidth, rowPlace};
+ghost use Rattle.rules.specs.Numbers.{row_limit};
+ghost use Rattle.rules.specs.Sheets.{table_count, row_width, row_place};
 ghost use Rattle.columns.specs.Splices.{splice};
 ghost use Rattle.table_sheet.specs.SheetRows.{row_at, rows_from};
-ghost use Rattle.table_sheet.specs.LookUps.{isFound, idFound, TagFound};
+ghost use Rattle.table_sheet.specs.LookUps.{is_found, id_found, TagFound};
 ghost use Rattle.table_sheet.specs.Standing.{RowInside, Inside};
 
 // The places of the seven tables in the sheet.
@@ -47,8 +47,8 @@ pub const HINTS: usize = (hints::FOR_TABLE + order::FOR_TABLE) * TABLE_COUNT;
 pub const OUTLINES: usize = outlines::FOR_TABLE * TABLE_COUNT;
 
 pub fn row_place(table: usize, row: usize) -> usize
-    requires { (table < tableCount) × (row ≤ rowLimit) }
-    ensures { result ≡ rowPlace table row }
+    requires { (table < table_count) × (row ≤ row_limit) }
+    ensures { result ≡ row_place table row }
 {
     TABLE_COUNT + TABLE_ROOM * table + ROW_WIDTH * row
 }
@@ -61,7 +61,7 @@ pub enum Found {
 }
 
 pub fn is_row(found: Found) -> bool
-    ensures { result ≡ isFound found }
+    ensures { result ≡ is_found found }
 {
     match found {
         Found::Row(_) => true,
@@ -71,8 +71,8 @@ pub fn is_row(found: Found) -> bool
 
 // The first of the rows from a place on that has this id + 1.
 pub fn find_id(sheet: &[u32], place: usize, rows: usize, id1: u32) -> Found
-    requires { place + rowWidth * rows ≤ length sheet.now }
-    ensures { (file : List ℕ) → result ≡ idFound id1 (rows_from file sheet.now place rows) }
+    requires { place + row_width * rows ≤ length sheet.now }
+    ensures { (file : List ℕ) → result ≡ id_found id1 (rows_from file sheet.now place rows) }
 {
     let mut row = fours::pass_fours(sheet, place, rows, id1);
     let mut at = place + ROW_WIDTH * row;
@@ -88,7 +88,7 @@ pub fn find_id(sheet: &[u32], place: usize, rows: usize, id1: u32) -> Found
 
 // Whether the first text of the row at a place is this tag. Texts of another length aren't compared.
 fn tag_at(file: &[u8], sheet: &[u32], place: usize, tag: &[u8]) -> bool
-    requires { (place + rowWidth ≤ length sheet.now) × RowInside file.now sheet.now place }
+    requires { (place + row_width ≤ length sheet.now) × RowInside file.now sheet.now place }
     ensures { result ≡ same tag.now (row_at file.now sheet.now place).first.bytes }
 {
     let len = sheet[place + 2] as usize;
@@ -101,7 +101,7 @@ fn tag_at(file: &[u8], sheet: &[u32], place: usize, tag: &[u8]) -> bool
 
 // One of the rows from a place on whose first text is this tag.
 pub fn seek_tag(file: &[u8], sheet: &[u32], place: usize, rows: usize, tag: &[u8]) -> Found
-    requires { (place + rowWidth * rows ≤ length sheet.now) × Inside file.now sheet.now place rows }
+    requires { (place + row_width * rows ≤ length sheet.now) × Inside file.now sheet.now place rows }
     ensures { TagFound tag.now (rows_from file.now sheet.now place rows) result }
 {
     let mut k = 0;
@@ -126,7 +126,7 @@ fn find_by_halves(
     rows: usize,
     tag: &[u8],
 ) -> Found
-    requires { (table < tableCount) × (place + rowWidth * rows ≤ length sheet.now) × Inside file.now sheet.now place rows }
+    requires { (table < table_count) × (place + row_width * rows ≤ length sheet.now) × Inside file.now sheet.now place rows }
     ensures { TagFound tag.now (rows_from file.now sheet.now place rows) result }
 {
     let row = order::row_by_halves(file, sheet, hints, table, place, rows, tag);
@@ -148,7 +148,7 @@ pub fn find_tag(
     rows: usize,
     tag: &[u8],
 ) -> Found
-    requires { (table < tableCount) × (place + rowWidth * rows ≤ length sheet.now) × Inside file.now sheet.now place rows }
+    requires { (table < table_count) × (place + row_width * rows ≤ length sheet.now) × Inside file.now sheet.now place rows }
     ensures { TagFound tag.now (rows_from file.now sheet.now place rows) result }
 {
     let hint = hints::row_near(hints, table, hints::number_of(tag));

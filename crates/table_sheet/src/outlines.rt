@@ -1,10 +1,10 @@
 // The outlines of the tags that a table's rows have: most new tags are told from all of them at once.
 ghost use Rattle.std.specs.Prelude.{◌≡◌, not, ◌+◌, ◌*◌, ◌≤◌, ◌<◌, length};
-ghost use Rattle.rules.specs.Sheets.{tableCount, rowWidth};
+ghost use Rattle.rules.specs.Sheets.{table_count, row_width};
 ghost use Rattle.table_sheet.specs.SheetRows.{rows_from};
-ghost use Rattle.table_sheet.specs.LookUps.{tagAmong};
+ghost use Rattle.table_sheet.specs.LookUps.{tag_among};
 ghost use Rattle.table_sheet.specs.Standing.{Inside};
-ghost use Rattle.table_sheet.specs.Outlines.{outlineCount, outlineOf, outlinePlace, withOutline, Outlined};
+ghost use Rattle.table_sheet.specs.Outlines.{outline_count, outline_of, outline_place, with_outline, Outlined};
 
 pub const FOR_TABLE: usize = 1024;
 
@@ -12,7 +12,7 @@ pub const FOR_TABLE: usize = 1024;
 const FACTOR: usize = 37;
 
 fn outline_of(tag: &[u8]) -> usize
-    ensures { (result ≡ outlineOf tag.now) × (result < outlineCount) }
+    ensures { (result ≡ outline_of tag.now) × (result < outline_count) }
 {
     let mut outline = 0;
     let mut i = 0;
@@ -24,15 +24,15 @@ fn outline_of(tag: &[u8]) -> usize
 }
 
 fn place_of(table: usize, tag: &[u8]) -> usize
-    requires { table < tableCount }
-    ensures { (result ≡ outlinePlace table tag.now) × (result < outlineCount * tableCount) }
+    requires { table < table_count }
+    ensures { (result ≡ outline_place table tag.now) × (result < outline_count * table_count) }
 {
     FOR_TABLE * table + outline_of(tag)
 }
 
 pub fn note(outlines: &mut [u8; crate::OUTLINES], table: usize, tag: &[u8])
-    requires { table < tableCount }
-    ensures { outlines.new ≡ withOutline table tag.now outlines.old }
+    requires { table < table_count }
+    ensures { outlines.new ≡ with_outline table tag.now outlines.old }
 {
     let place = place_of(table, tag);
     outlines[place] = 1;
@@ -48,8 +48,8 @@ pub fn is_new(
     rows: usize,
     tag: &[u8],
 ) -> bool
-    requires { (table < tableCount) × (place + rowWidth * rows ≤ length sheet.now) × Inside file.now sheet.now place rows × Outlined outlines.now file.now sheet.now table place rows }
-    ensures { result ≡ not (tagAmong tag.now (rows_from file.now sheet.now place rows)) }
+    requires { (table < table_count) × (place + row_width * rows ≤ length sheet.now) × Inside file.now sheet.now place rows × Outlined outlines.now file.now sheet.now table place rows }
+    ensures { result ≡ not (tag_among tag.now (rows_from file.now sheet.now place rows)) }
 {
     if outlines[place_of(table, tag)] == 0 {
         return true;

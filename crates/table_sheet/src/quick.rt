@@ -1,17 +1,17 @@
 // A look-up that asks two rows at most, the one that a hint names and the one that is found by halves: a yes is sure, a no
 // says nothing. A tag is some bytes of the file.
 ghost use Rattle.std.specs.Prelude.{◌≡◌, true, ◌+◌, ◌*◌, ◌≤◌, ◌<◌, length, get_or, take, drop};
-ghost use Rattle.rules.specs.Sheets.{tableCount, rowWidth};
+ghost use Rattle.rules.specs.Sheets.{table_count, row_width};
 ghost use Rattle.table_sheet.specs.SheetRows.{rows_from};
-ghost use Rattle.table_sheet.specs.LookUps.{tagAmong};
+ghost use Rattle.table_sheet.specs.LookUps.{tag_among};
 ghost use Rattle.table_sheet.specs.Standing.{Inside};
 
 use texts::words;
 
 // Whether there is such a row, and its first text has this length.
 fn has_length(sheet: &[u32], place: usize, rows: usize, row: usize, len: usize) -> bool
-    requires { place + rowWidth * rows ≤ length sheet.now }
-    ensures { result ≡ true → (row < rows) × (len ≡ get_or sheet.now (place + rowWidth * row + 2) 0) }
+    requires { place + row_width * rows ≤ length sheet.now }
+    ensures { result ≡ true → (row < rows) × (len ≡ get_or sheet.now (place + row_width * row + 2) 0) }
 {
     if rows <= row {
         return false;
@@ -21,8 +21,8 @@ fn has_length(sheet: &[u32], place: usize, rows: usize, row: usize, len: usize) 
 
 // Where the first text of a row starts.
 fn start_of(sheet: &[u32], place: usize, row: usize) -> usize
-    requires { place + rowWidth * row + 2 ≤ length sheet.now }
-    ensures { result ≡ get_or sheet.now (place + rowWidth * row + 1) 0 }
+    requires { place + row_width * row + 2 ≤ length sheet.now }
+    ensures { result ≡ get_or sheet.now (place + row_width * row + 1) 0 }
 {
     sheet[place + crate::ROW_WIDTH * row + 1] as usize
 }
@@ -39,8 +39,8 @@ fn has_short(
     start: usize,
     len: usize,
 ) -> bool
-    requires { (table < tableCount) × (place + rowWidth * rows ≤ length sheet.now) × Inside file.now sheet.now place rows × (len < 8) × (start + 8 ≤ length file.now) }
-    ensures { result ≡ true → tagAmong (take len (drop start file.now)) (rows_from file.now sheet.now place rows) ≡ true }
+    requires { (table < table_count) × (place + row_width * rows ≤ length sheet.now) × Inside file.now sheet.now place rows × (len < 8) × (start + 8 ≤ length file.now) }
+    ensures { result ≡ true → tag_among (take len (drop start file.now)) (rows_from file.now sheet.now place rows) ≡ true }
 {
     let number = words::front_at(file, start, len);
     let row = crate::hints::row_near(hints, table, number);
@@ -65,8 +65,8 @@ fn has_long(
     start: usize,
     len: usize,
 ) -> bool
-    requires { (table < tableCount) × (place + rowWidth * rows ≤ length sheet.now) × Inside file.now sheet.now place rows × (8 ≤ len) × (len ≤ 16) × (start + len ≤ length file.now) }
-    ensures { result ≡ true → tagAmong (take len (drop start file.now)) (rows_from file.now sheet.now place rows) ≡ true }
+    requires { (table < table_count) × (place + row_width * rows ≤ length sheet.now) × Inside file.now sheet.now place rows × (8 ≤ len) × (len ≤ 16) × (start + len ≤ length file.now) }
+    ensures { result ≡ true → tag_among (take len (drop start file.now)) (rows_from file.now sheet.now place rows) ≡ true }
 {
     let number = crate::hints::number_at(file, start, len);
     let row = crate::hints::row_near(hints, table, number);
@@ -88,8 +88,8 @@ fn has_hinted(
     start: usize,
     len: usize,
 ) -> bool
-    requires { (table < tableCount) × (place + rowWidth * rows ≤ length sheet.now) × Inside file.now sheet.now place rows × (start + len ≤ length file.now) × (start + 8 ≤ length file.now) }
-    ensures { result ≡ true → tagAmong (take len (drop start file.now)) (rows_from file.now sheet.now place rows) ≡ true }
+    requires { (table < table_count) × (place + row_width * rows ≤ length sheet.now) × Inside file.now sheet.now place rows × (start + len ≤ length file.now) × (start + 8 ≤ length file.now) }
+    ensures { result ≡ true → tag_among (take len (drop start file.now)) (rows_from file.now sheet.now place rows) ≡ true }
 {
     if 8 <= len {
         if 16 < len {
@@ -111,8 +111,8 @@ fn has_by_halves(
     start: usize,
     len: usize,
 ) -> bool
-    requires { (table < tableCount) × (place + rowWidth * rows ≤ length sheet.now) × Inside file.now sheet.now place rows × (start + len ≤ length file.now) }
-    ensures { result ≡ true → tagAmong (take len (drop start file.now)) (rows_from file.now sheet.now place rows) ≡ true }
+    requires { (table < table_count) × (place + row_width * rows ≤ length sheet.now) × Inside file.now sheet.now place rows × (start + len ≤ length file.now) }
+    ensures { result ≡ true → tag_among (take len (drop start file.now)) (rows_from file.now sheet.now place rows) ≡ true }
 {
     let tag = &file[start..start + len];
     let row = crate::order::row_by_halves(file, sheet, hints, table, place, rows, tag);
@@ -133,8 +133,8 @@ pub fn has_tag(
     start: usize,
     len: usize,
 ) -> bool
-    requires { (table < tableCount) × (place + rowWidth * rows ≤ length sheet.now) × Inside file.now sheet.now place rows × (start + len ≤ length file.now) × (start + 8 ≤ length file.now) }
-    ensures { result ≡ true → tagAmong (take len (drop start file.now)) (rows_from file.now sheet.now place rows) ≡ true }
+    requires { (table < table_count) × (place + row_width * rows ≤ length sheet.now) × Inside file.now sheet.now place rows × (start + len ≤ length file.now) × (start + 8 ≤ length file.now) }
+    ensures { result ≡ true → tag_among (take len (drop start file.now)) (rows_from file.now sheet.now place rows) ≡ true }
 {
     if has_hinted(file, sheet, hints, table, place, rows, start, len) {
         return true;

@@ -3,18 +3,18 @@ mod order;
 mod rows;
 
 ghost use Rattle.std.specs.Prelude.{◌≡◌, [], ◌∷◌, ◌+◌, ◌≤◌, ◌<◌, length, get_or};
-ghost use Rattle.rules.specs.Sheets.{tableCount};
-ghost use Rattle.rules.specs.Meaning.{meantTables};
-ghost use Rattle.rules.specs.Tidy.{keywordLine, tableName, tablesText};
-ghost use Rattle.table_sheet.specs.SheetRows.{tablesIn};
+ghost use Rattle.rules.specs.Sheets.{table_count};
+ghost use Rattle.rules.specs.Meaning.{meant_tables};
+ghost use Rattle.rules.specs.Tidy.{keyword_line, table_name, tables_text};
+ghost use Rattle.table_sheet.specs.SheetRows.{tables_in};
 ghost use Rattle.printing.specs.Over.{farthest, Put};
-ghost use Rattle.table_text.specs.TablesShown.{shownTable, tableMost, tablesMost};
+ghost use Rattle.table_text.specs.TablesShown.{shown_table, table_most, tables_most};
 ghost use Rattle.table_text.specs.WholeSheets.{WholeSheet};
 
 // #BOT or #EOT with the table's name.
 fn put_named(keyword: &[u8], table: usize, out: &mut [u8], at: usize) -> usize
-    requires { (length keyword.now ≡ 4) × (table < tableCount) × (at + 16 ≤ farthest) }
-    ensures { Put 16 (keywordLine (keyword.now ∷ tableName table ∷ [])) at out.old result out.new }
+    requires { (length keyword.now ≡ 4) × (table < table_count) × (at + 16 ≤ farthest) }
+    ensures { Put 16 (keyword_line (keyword.now ∷ table_name table ∷ [])) at out.old result out.new }
 {
     match table {
         0 => printing::put_keyword(keyword, b"ORIGIN", out, at),
@@ -29,8 +29,8 @@ fn put_named(keyword: &[u8], table: usize, out: &mut [u8], at: usize) -> usize
 
 // A table, if it is present.
 fn put_table(file: &[u8], sheet: &[u32], table: usize, out: &mut [u8], at: usize) -> usize
-    requires { WholeSheet file.now sheet.now × (table < tableCount) × (at + tableMost ≤ farthest) }
-    ensures { Put tableMost (shownTable file.now sheet.now table (get_or sheet.now table 0)) at out.old result out.new }
+    requires { WholeSheet file.now sheet.now × (table < table_count) × (at + table_most ≤ farthest) }
+    ensures { Put table_most (shown_table file.now sheet.now table (get_or sheet.now table 0)) at out.old result out.new }
 {
     let count = sheet[table] as usize;
     if count == 0 {
@@ -46,8 +46,8 @@ fn put_table(file: &[u8], sheet: &[u32], table: usize, out: &mut [u8], at: usize
 
 // The tables that are present, in the order of the sheet.
 pub fn print_tables(file: &[u8], sheet: &[u32], out: &mut [u8], at: usize) -> usize
-    requires { WholeSheet file.now sheet.now × (at + tablesMost ≤ farthest) }
-    ensures { Put tablesMost (tablesText 0 (meantTables (tablesIn file.now sheet.now))) at out.old result out.new }
+    requires { WholeSheet file.now sheet.now × (at + tables_most ≤ farthest) }
+    ensures { Put tables_most (tables_text 0 (meant_tables (tables_in file.now sheet.now))) at out.old result out.new }
 {
     let mut table = 0;
     let mut end = at;

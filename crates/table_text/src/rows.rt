@@ -1,21 +1,21 @@
 // The lines of a table's rows.
 ghost use Rattle.std.specs.Prelude.{◌≡◌, [], ◌+◌, ◌*◌, ◌≤◌, ◌<◌, length, take};
 ghost use Rattle.rules.specs.Lists.{Each};
-ghost use Rattle.rules.specs.Numbers.{rowLimit};
-ghost use Rattle.rules.specs.Sheets.{tableCount, rowWidth, rowPlace, tableSheetSize};
-ghost use Rattle.rules.specs.Tidy.{tab, flagged, secondText, row_line};
+ghost use Rattle.rules.specs.Numbers.{row_limit};
+ghost use Rattle.rules.specs.Sheets.{table_count, row_width, row_place, table_sheet_size};
+ghost use Rattle.rules.specs.Tidy.{tab, flagged, second_text, row_line};
 ghost use Rattle.table_sheet.specs.SheetRows.{row_at};
 ghost use Rattle.table_sheet.specs.Standing.{RowInside, Inside};
 ghost use Rattle.printing.specs.Over.{farthest, Put};
 ghost use Rattle.printing.specs.Further.{further};
-ghost use Rattle.printing.specs.Fields.{textMost};
-ghost use Rattle.table_text.specs.TablesShown.{row_lines, rowMost};
+ghost use Rattle.printing.specs.Fields.{text_most};
+ghost use Rattle.table_text.specs.TablesShown.{row_lines, row_most};
 
 const TAB: u8 = 9;
 
 // WORDTAG's flag.
 fn put_flag(sheet: &[u32], table: usize, place: usize, out: &mut [u8], at: usize) -> usize
-    requires { (place + rowWidth ≤ length sheet.now) × (at + 2 ≤ farthest) }
+    requires { (place + row_width ≤ length sheet.now) × (at + 2 ≤ farthest) }
     ensures { Put 2 (further tab (flagged table (row_at [] sheet.now place))) at out.old result out.new }
 {
     if table != table_sheet::WORD_TAGS {
@@ -36,8 +36,8 @@ fn put_second(
     out: &mut [u8],
     at: usize,
 ) -> usize
-    requires { (place + rowWidth ≤ length sheet.now) × RowInside file.now sheet.now place × (at + (4 + textMost) ≤ farthest) }
-    ensures { Put (4 + textMost) (further tab (secondText table (row_at file.now sheet.now place))) at out.old result out.new }
+    requires { (place + row_width ≤ length sheet.now) × RowInside file.now sheet.now place × (at + (4 + text_most) ≤ farthest) }
+    ensures { Put (4 + text_most) (further tab (second_text table (row_at file.now sheet.now place))) at out.old result out.new }
 {
     if table == table_sheet::ORIGINS {
         return printing::fields::put_note(TAB, file, sheet, place + 3, place + 4, out, at);
@@ -53,8 +53,8 @@ fn put_row(
     out: &mut [u8],
     at: usize,
 ) -> usize
-    requires { (place + rowWidth ≤ length sheet.now) × RowInside file.now sheet.now place × (at + rowMost ≤ farthest) }
-    ensures { Put rowMost (row_line table (row_at file.now sheet.now place)) at out.old result out.new }
+    requires { (place + row_width ≤ length sheet.now) × RowInside file.now sheet.now place × (at + row_most ≤ farthest) }
+    ensures { Put row_most (row_line table (row_at file.now sheet.now place)) at out.old result out.new }
 {
     let numbered = printing::digits::put_id(sheet[place], out, at);
     let named = printing::fields::put_field(TAB, file, sheet, place + 1, place + 2, out, numbered);
@@ -73,8 +73,8 @@ pub fn put_rows(
     out: &mut [u8],
     at: usize,
 ) -> usize
-    requires { (length sheet.now ≡ tableSheetSize) × (table < tableCount) × (rows ≤ rowLimit) × Inside file.now sheet.now (rowPlace table 0) rows × (rows ≤ length order.now) × Each (λ k. k < rows) (take rows order.now) × (at + rowMost * rows ≤ farthest) }
-    ensures { Put (rowMost * rows) (row_lines file.now sheet.now table (take rows order.now)) at out.old result out.new }
+    requires { (length sheet.now ≡ table_sheet_size) × (table < table_count) × (rows ≤ row_limit) × Inside file.now sheet.now (row_place table 0) rows × (rows ≤ length order.now) × Each (λ k. k < rows) (take rows order.now) × (at + row_most * rows ≤ farthest) }
+    ensures { Put (row_most * rows) (row_lines file.now sheet.now table (take rows order.now)) at out.old result out.new }
 {
     let mut k = 0;
     let mut end = at;

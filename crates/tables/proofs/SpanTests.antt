@@ -10,26 +10,26 @@ use Rattle.rules.specs.Texts.{Text, given, at_most}
 use Rattle.columns.specs.Listing.{span_of}
 use Rattle.columns.specs.declared.listing.Span.{Span}
 
-empty-none : (at : ℕ) (xs : List ℕ) → length xs ≡ 0 → given (record { start = at; bytes = xs }) ≡ false
-empty-none at [] e = refl
-empty-none at (x ∷ xs) e = absurd (omega arith)
+empty_none : (at : ℕ) (xs : List ℕ) → length xs ≡ 0 → given (record { start = at; bytes = xs }) ≡ false
+empty_none at [] e = refl
+empty_none at (x ∷ xs) e = absurd (omega arith)
 
-empty-some : (at : ℕ) (xs : List ℕ) → (length xs ≡ 0 → ⊥) → given (record { start = at; bytes = xs }) ≡ true
-empty-some at [] d = absurd (d refl)
-empty-some at (x ∷ xs) d = refl
+empty_some : (at : ℕ) (xs : List ℕ) → (length xs ≡ 0 → ⊥) → given (record { start = at; bytes = xs }) ≡ true
+empty_some at [] d = absurd (d refl)
+empty_some at (x ∷ xs) d = refl
 
 module _ (t : Text) {s : Span} (is : s ≡ span_of t) where
-  length-is : s.len ≡ length t.bytes
-  length-is = ap (λ (p : Span). p.len) is
+  length_is : s.len ≡ length t.bytes
+  length_is = ap (λ (p : Span). p.len) is
 
-  pub none-given : s.len ≡ 0 → given t ≡ false
-  none-given e = empty-none t.start t.bytes (omega (arith, length-is))
+  pub none_given : s.len ≡ 0 → given t ≡ false
+  none_given e = empty_none t.start t.bytes (omega (arith, length_is))
 
-  pub some-given : (s.len ≡ 0 → ⊥) → given t ≡ true
-  some-given d = empty-some t.start t.bytes (λ z. d (length-is ∙ z))
+  pub some_given : (s.len ≡ 0 → ⊥) → given t ≡ true
+  some_given d = empty_some t.start t.bytes (λ z. d (length_is ∙ z))
 
   pub too_long : (n : ℕ) → n < s.len → at_most n t ≡ false
-  too_long n h = lt-leb (length t.bytes) n (omega (arith, length-is))
+  too_long n h = lt-leb (length t.bytes) n (omega (arith, length_is))
 
-  pub short-enough : (n : ℕ) → s.len ≤ n → at_most n t ≡ true
-  short-enough n h = le-leb (length t.bytes) n (omega (arith, length-is))
+  pub short_enough : (n : ℕ) → s.len ≤ n → at_most n t ≡ true
+  short_enough n h = le-leb (length t.bytes) n (omega (arith, length_is))

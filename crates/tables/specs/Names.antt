@@ -6,9 +6,9 @@ use Rattle.rules.specs.Rules.{Rule, rule}
 use Rattle.tables.specs.declared.names.TableName.{TableName}
 use Rattle.tables.specs.declared.names.TableName.TheVariants.{Known, Unknown}
 
-abbrev pub nameAnswer : Option ℕ → TableName
-nameAnswer none = Unknown
-nameAnswer (some n) = Known n
+abbrev pub name_answer : Option ℕ → TableName
+name_answer none = Unknown
+name_answer (some n) = Known n
 
 -- of n columns, and whether the name may stand there
 abbrev pub name_rules : Text → ℕ → Bool → List Rule

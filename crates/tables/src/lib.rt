@@ -6,14 +6,14 @@ mod rows;
 mod tags;
 
 ghost use Rattle.std.specs.Prelude.{◌≡◌, ◌<◌};
-ghost use Rattle.rules.specs.Bytes.{classTable};
-ghost use Rattle.rules.specs.Keywords.{format_of, tableOpened, tableEnded};
+ghost use Rattle.rules.specs.Bytes.{class_table};
+ghost use Rattle.rules.specs.Keywords.{format_of, table_opened, table_ended};
 ghost use Rattle.rules.specs.Rows.{row_of};
-ghost use Rattle.rules.specs.Sheets.{rowPlace};
-ghost use Rattle.rules.specs.Lines.{takenAs, formatLine, tableBegins, row_line, tableEnds};
+ghost use Rattle.rules.specs.Sheets.{row_place};
+ghost use Rattle.rules.specs.Lines.{taken_as, format_line, table_begins, row_line, table_ends};
 ghost use Rattle.columns.specs.Listing.{line_of, Listed};
 ghost use Rattle.steps.specs.Steps.{step_of};
-ghost use Rattle.table_sheet.specs.SheetRows.{rows_from, tablesIn};
+ghost use Rattle.table_sheet.specs.SheetRows.{rows_from, tables_in};
 ghost use Rattle.table_sheet.specs.Outlines.{Outlined};
 ghost use Rattle.citations.specs.Tabled.{Counted};
 ghost use Rattle.tables.specs.RowRules.{RowsReady};
@@ -29,8 +29,8 @@ const FORMAT: u32 = 3;
 
 // #FORMAT 3
 pub fn format_line(file: &[u8], line: Line, places: &Places, classes: &[u8; 256]) -> Step
-    requires { (classes.now ≡ classTable) × Listed file.now line places.now }
-    ensures { result ≡ step_of (takenAs formatLine (format_of (line_of file.now line))) }
+    requires { (classes.now ≡ class_table) × Listed file.now line places.now }
+    ensures { result ≡ step_of (taken_as format_line (format_of (line_of file.now line))) }
 {
     if line.columns != 2 {
         return steps::refused(refusals::WRONG_COLUMNS, line.start);
@@ -48,7 +48,7 @@ pub fn format_line(file: &[u8], line: Line, places: &Places, classes: &[u8; 256]
 // #BOT NAME
 pub fn table_begin_line(file: &[u8], line: Line, places: &Places, sheet: &[u32]) -> Step
     requires { Counted sheet.now × Listed file.now line places.now }
-    ensures { result ≡ step_of (takenAs tableBegins (tableOpened (tablesIn file.now sheet.now) (line_of file.now line))) }
+    ensures { result ≡ step_of (taken_as table_begins (table_opened (tables_in file.now sheet.now) (line_of file.now line))) }
 {
     let name = names::table_on(file, line, places);
     let TableName::Known(n) = name else {
@@ -63,7 +63,7 @@ pub fn table_begin_line(file: &[u8], line: Line, places: &Places, sheet: &[u32])
 // #EOT NAME
 pub fn table_end_line(file: &[u8], line: Line, places: &Places, table: u32) -> Step
     requires { Listed file.now line places.now }
-    ensures { result ≡ step_of (takenAs (λ m. tableEnds) (tableEnded table (line_of file.now line))) }
+    ensures { result ≡ step_of (taken_as (λ m. table_ends) (table_ended table (line_of file.now line))) }
 {
     let name = names::table_on(file, line, places);
     let TableName::Known(n) = name else {
@@ -86,8 +86,8 @@ pub fn row_line(
     outlines: &[u8; table_sheet::OUTLINES],
     classes: &[u8; 256],
 ) -> Step
-    requires { (classes.now ≡ classTable) × Listed file.now line places.now × (0 < line.columns) × RowsReady file.now sheet.now table rows × Outlined outlines.now file.now sheet.now table (rowPlace table 0) rows }
-    ensures { result ≡ step_of (takenAs row_line (row_of table (rows_from file.now sheet.now (rowPlace table 0) rows) (line_of file.now line))) }
+    requires { (classes.now ≡ class_table) × Listed file.now line places.now × (0 < line.columns) × RowsReady file.now sheet.now table rows × Outlined outlines.now file.now sheet.now table (row_place table 0) rows }
+    ensures { result ≡ step_of (taken_as row_line (row_of table (rows_from file.now sheet.now (row_place table 0) rows) (line_of file.now line))) }
 {
     let place = table_sheet::row_place(table, 0);
     if table == table_sheet::ORIGINS {

@@ -1,10 +1,10 @@
 // The names of the tables, and the lines that name one.
 ghost use Rattle.std.specs.Prelude.{◌≡◌, true, false, List, ℕ, ◌≤◌};
-ghost use Rattle.rules.specs.Numbers.{fileLimit};
+ghost use Rattle.rules.specs.Numbers.{file_limit};
 ghost use Rattle.rules.specs.Columns.{written};
-ghost use Rattle.rules.specs.Tables.{tableNamed};
-ghost use Rattle.columns.specs.Listing.{line_of, columnsOf, Listed};
-ghost use Rattle.tables.specs.Names.{nameAnswer, name_rules};
+ghost use Rattle.rules.specs.Tables.{table_named};
+ghost use Rattle.columns.specs.Listing.{line_of, columns_of, Listed};
+ghost use Rattle.tables.specs.Names.{name_answer, name_rules};
 ghost use Rattle.tables.specs.RowRules.{asked};
 
 use columns::listing;
@@ -19,7 +19,7 @@ pub enum TableName {
 
 // The place of a table's name in the order of the sheet.
 pub fn table_named(name: &[u8]) -> TableName
-    ensures { (start : ℕ) → result ≡ nameAnswer (tableNamed (record { start = start; bytes = name.now })) }
+    ensures { (start : ℕ) → result ≡ name_answer (table_named (record { start = start; bytes = name.now })) }
 {
     if texts::same_text(name, b"ORIGIN") {
         return TableName::Known(0);
@@ -48,7 +48,7 @@ pub fn table_named(name: &[u8]) -> TableName
 // The table that a line names behind its keyword.
 pub fn table_on(file: &[u8], line: Line, places: &Places) -> TableName
     requires { Listed file.now line places.now }
-    ensures { result ≡ nameAnswer (tableNamed (written (columnsOf file.now line) 1)) }
+    ensures { result ≡ name_answer (table_named (written (columns_of file.now line) 1)) }
 {
     if line.columns < 2 {
         return TableName::Unknown;
@@ -58,7 +58,7 @@ pub fn table_on(file: &[u8], line: Line, places: &Places) -> TableName
 
 // A name that can't stand there, or none: then a column is missing.
 pub fn wrong_name(line: Line) -> Step
-    requires { line.start ≤ fileLimit }
+    requires { line.start ≤ file_limit }
     ensures { (file : List ℕ) (s : Step) → result ≡ asked (name_rules (line_of file line) line.columns false) s }
 {
     if line.columns < 2 {
@@ -69,7 +69,7 @@ pub fn wrong_name(line: Line) -> Step
 
 // A name that may stand there: the step, if nothing else does.
 pub fn with_name(line: Line, step: Step) -> Step
-    requires { line.start ≤ fileLimit }
+    requires { line.start ≤ file_limit }
     ensures { (file : List ℕ) → result ≡ asked (name_rules (line_of file line) line.columns true) step }
 {
     if line.columns != 2 {

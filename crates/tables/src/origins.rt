@@ -1,13 +1,13 @@
 // The rows of ORIGIN: an id, a name, and behind two percent signs a comment.
 ghost use Rattle.std.specs.Prelude.{◌≡◌, ◌+◌, ◌*◌, ◌≤◌, ◌<◌, length};
-ghost use Rattle.rules.specs.Bytes.{classTable};
-ghost use Rattle.rules.specs.Rows.{originRow};
-ghost use Rattle.rules.specs.Sheets.{rowWidth};
-ghost use Rattle.rules.specs.Lines.{takenAs, row_line};
-ghost use Rattle.columns.specs.Listing.{line_of, columnsOf, Listed};
+ghost use Rattle.rules.specs.Bytes.{class_table};
+ghost use Rattle.rules.specs.Rows.{origin_row};
+ghost use Rattle.rules.specs.Sheets.{row_width};
+ghost use Rattle.rules.specs.Lines.{taken_as, row_line};
+ghost use Rattle.columns.specs.Listing.{line_of, columns_of, Listed};
 ghost use Rattle.steps.specs.Steps.{step_of};
 ghost use Rattle.table_sheet.specs.SheetRows.{rows_from};
-ghost use Rattle.tables.specs.RowTexts.{originTexts};
+ghost use Rattle.tables.specs.RowTexts.{origin_texts};
 
 use crate::rows;
 use columns::listing;
@@ -27,8 +27,8 @@ pub struct OriginTexts {
 
 // What stands in front of the first two percent signs behind the id, and what behind them.
 pub fn origin_texts(file: &[u8], line: Line, places: &Places, classes: &[u8; 256]) -> OriginTexts
-    requires { (classes.now ≡ classTable) × Listed file.now line places.now × (0 < line.columns) }
-    ensures { result ≡ originTexts (columnsOf file.now line) }
+    requires { (classes.now ≡ class_table) × Listed file.now line places.now × (0 < line.columns) }
+    ensures { result ≡ origin_texts (columns_of file.now line) }
 {
     let end = line.end;
     let head = &file[..end];
@@ -49,8 +49,8 @@ pub fn origin_row(
     rows: usize,
     classes: &[u8; 256],
 ) -> Step
-    requires { (classes.now ≡ classTable) × Listed file.now line places.now × (0 < line.columns) × (place + rowWidth * rows ≤ length sheet.now) }
-    ensures { result ≡ step_of (takenAs row_line (originRow (rows_from file.now sheet.now place rows) (line_of file.now line))) }
+    requires { (classes.now ≡ class_table) × Listed file.now line places.now × (0 < line.columns) × (place + row_width * rows ≤ length sheet.now) }
+    ensures { result ≡ step_of (taken_as row_line (origin_row (rows_from file.now sheet.now place rows) (line_of file.now line))) }
 {
     let texts = origin_texts(file, line, places, classes);
     let name = texts.name;

@@ -1,16 +1,16 @@
 // What the rows of all tables share, and the rows of EDITOR.
 ghost use Rattle.std.specs.Prelude.{◌≡◌, List, [], ◌∷◌, ℕ, ◌+◌, ◌*◌, ◌≤◌, ◌<◌, length};
-ghost use Rattle.rules.specs.Bytes.{classTable};
-ghost use Rattle.rules.specs.Numbers.{fileLimit};
+ghost use Rattle.rules.specs.Bytes.{class_table};
+ghost use Rattle.rules.specs.Numbers.{file_limit};
 ghost use Rattle.rules.specs.Texts.{Text};
 ghost use Rattle.rules.specs.Tables.{Row};
-ghost use Rattle.rules.specs.Rows.{editorRow};
-ghost use Rattle.rules.specs.Sheets.{rowWidth};
-ghost use Rattle.rules.specs.Lines.{takenAs, row_line};
+ghost use Rattle.rules.specs.Rows.{editor_row};
+ghost use Rattle.rules.specs.Sheets.{row_width};
+ghost use Rattle.rules.specs.Lines.{taken_as, row_line};
 ghost use Rattle.columns.specs.Listing.{line_of, span_of, Listed};
 ghost use Rattle.steps.specs.Steps.{step_of};
 ghost use Rattle.table_sheet.specs.SheetRows.{rows_from};
-ghost use Rattle.tables.specs.RowRules.{asked, textRule, idRule, roomRule, rowStep};
+ghost use Rattle.tables.specs.RowRules.{asked, text_rule, id_rule, room_rule, row_step};
 
 use columns::listing;
 use columns::listing::{Line, Places, Span};
@@ -23,8 +23,8 @@ const FULL_NAME_LIMIT: u32 = 40;
 
 // Rule 12, and the row.
 pub fn with_room(line: Line, rows: usize, id1: u32, first: Span, second: Span, flag: u32) -> Step
-    requires { line.start ≤ fileLimit }
-    ensures { (file : List ℕ) (rs : List Row) → length rs ≡ rows → result ≡ asked (roomRule (line_of file line) rs ∷ []) (rowStep id1 first second flag) }
+    requires { line.start ≤ file_limit }
+    ensures { (file : List ℕ) (rs : List Row) → length rs ≡ rows → result ≡ asked (room_rule (line_of file line) rs ∷ []) (row_step id1 first second flag) }
 {
     if table_sheet::ROW_LIMIT <= rows {
         return steps::refused(refusals::TABLE_FULL, line.start);
@@ -47,8 +47,8 @@ pub fn with_new_id(
     first: Span,
     second: Span,
 ) -> Step
-    requires { (line.start ≤ fileLimit) × (place + rowWidth * rows ≤ length sheet.now) }
-    ensures { (file : List ℕ) (rs : List Row) → rs ≡ rows_from file sheet.now place rows → result ≡ asked (idRule id1 (line_of file line) rs ∷ roomRule (line_of file line) rs ∷ []) (rowStep id1 first second 0) }
+    requires { (line.start ≤ file_limit) × (place + row_width * rows ≤ length sheet.now) }
+    ensures { (file : List ℕ) (rs : List Row) → rs ≡ rows_from file sheet.now place rows → result ≡ asked (id_rule id1 (line_of file line) rs ∷ room_rule (line_of file line) rs ∷ []) (row_step id1 first second 0) }
 {
     if table_sheet::is_row(table_sheet::find_id(sheet, place, rows, id1)) {
         return steps::refused(refusals::ROW_OUT_OF_PLACE, line.start);
@@ -68,8 +68,8 @@ pub fn with_texts(
     second: Span,
     second_limit: u32,
 ) -> Step
-    requires { (line.start ≤ fileLimit) × (place + rowWidth * rows ≤ length sheet.now) }
-    ensures { (file : List ℕ) (rs : List Row) (a b : Text) → rs ≡ rows_from file sheet.now place rows → first ≡ span_of a → second ≡ span_of b → result ≡ asked (textRule first_limit a ∷ textRule second_limit b ∷ idRule id1 (line_of file line) rs ∷ roomRule (line_of file line) rs ∷ []) (rowStep id1 (span_of a) (span_of b) 0) }
+    requires { (line.start ≤ file_limit) × (place + row_width * rows ≤ length sheet.now) }
+    ensures { (file : List ℕ) (rs : List Row) (a b : Text) → rs ≡ rows_from file sheet.now place rows → first ≡ span_of a → second ≡ span_of b → result ≡ asked (text_rule first_limit a ∷ text_rule second_limit b ∷ id_rule id1 (line_of file line) rs ∷ room_rule (line_of file line) rs ∷ []) (row_step id1 (span_of a) (span_of b) 0) }
 {
     if first_limit < first.len {
         return steps::refused_text(refusals::BAD_TEXT, first);
@@ -90,8 +90,8 @@ pub fn editor_row(
     rows: usize,
     classes: &[u8; 256],
 ) -> Step
-    requires { (classes.now ≡ classTable) × Listed file.now line places.now × (0 < line.columns) × (place + rowWidth * rows ≤ length sheet.now) }
-    ensures { result ≡ step_of (takenAs row_line (editorRow (rows_from file.now sheet.now place rows) (line_of file.now line))) }
+    requires { (classes.now ≡ class_table) × Listed file.now line places.now × (0 < line.columns) × (place + row_width * rows ≤ length sheet.now) }
+    ensures { result ≡ step_of (taken_as row_line (editor_row (rows_from file.now sheet.now place rows) (line_of file.now line))) }
 {
     let name = listing::text_from(line, places, 2);
     if name.len == 0 {

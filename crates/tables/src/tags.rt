@@ -1,19 +1,19 @@
 // The rows of the five tables of tags: an id, a tag, for WORDTAG a flag, and a description up to the line's end.
 ghost use Rattle.std.specs.Prelude.{◌≡◌, not, ◌&&◌, List, ℕ, ◌+◌, ◌*◌, ◌≤◌, ◌<◌, length, eqb};
-ghost use Rattle.rules.specs.Bytes.{classTable, percents};
+ghost use Rattle.rules.specs.Bytes.{class_table, percents};
 ghost use Rattle.rules.specs.Texts.{at_most, reads};
-ghost use Rattle.rules.specs.Tables.{wordTags, tagLimit};
-ghost use Rattle.rules.specs.Rows.{lastId, follows, ownTag, tagRow};
+ghost use Rattle.rules.specs.Tables.{word_tags, tag_limit};
+ghost use Rattle.rules.specs.Rows.{last_id, follows, own_tag, tag_row};
 ghost use Rattle.rules.specs.Columns.{written};
-ghost use Rattle.rules.specs.Sheets.{tableCount, rowWidth};
-ghost use Rattle.rules.specs.Lines.{takenAs, row_line};
-ghost use Rattle.columns.specs.Listing.{line_of, columnsOf, Listed};
+ghost use Rattle.rules.specs.Sheets.{table_count, row_width};
+ghost use Rattle.rules.specs.Lines.{taken_as, row_line};
+ghost use Rattle.columns.specs.Listing.{line_of, columns_of, Listed};
 ghost use Rattle.steps.specs.Steps.{step_of};
 ghost use Rattle.table_sheet.specs.SheetRows.{rows_from};
 ghost use Rattle.table_sheet.specs.Standing.{Inside};
 ghost use Rattle.table_sheet.specs.Outlines.{Outlined};
-ghost use Rattle.tables.specs.RowTexts.{descriptionColumn, flagOf};
-ghost use Rattle.tables.specs.RowRules.{tagInPlace};
+ghost use Rattle.tables.specs.RowTexts.{description_column, flag_of};
+ghost use Rattle.tables.specs.RowRules.{tag_in_place};
 
 use crate::rows;
 use columns::listing;
@@ -25,7 +25,7 @@ const DESCRIPTION_LIMIT: u32 = 80;
 
 // Row -1 carries UNKNOWN, row 0 --, each here with one added; no other row carries either.
 pub fn own_tag(id1: u32, tag: &[u8]) -> bool
-    ensures { (start : ℕ) → result ≡ ownTag id1 (record { start = start; bytes = tag.now }) }
+    ensures { (start : ℕ) → result ≡ own_tag id1 (record { start = start; bytes = tag.now }) }
 {
     let is_unknown = texts::same_text(tag, b"UNKNOWN");
     if id1 == 0 {
@@ -43,8 +43,8 @@ pub fn own_tag(id1: u32, tag: &[u8]) -> bool
 
 // The ids of tags stand in order: -1 if given, 0 if given, then 1, 2, 3 without a gap, each here with one added.
 pub fn id_follows(sheet: &[u32], place: usize, rows: usize, id1: u32) -> bool
-    requires { place + rowWidth * rows ≤ length sheet.now }
-    ensures { (file : List ℕ) → result ≡ follows (lastId (rows_from file sheet.now place rows)) id1 }
+    requires { place + row_width * rows ≤ length sheet.now }
+    ensures { (file : List ℕ) → result ≡ follows (last_id (rows_from file sheet.now place rows)) id1 }
 {
     if rows == 0 {
         return id1 <= 2;
@@ -70,8 +70,8 @@ pub fn tag_in_place(
     id1: u32,
     tag: &[u8],
 ) -> bool
-    requires { (place + rowWidth * rows ≤ length sheet.now) × Inside file.now sheet.now place rows × (table < tableCount) × Outlined outlines.now file.now sheet.now table place rows }
-    ensures { (start : ℕ) → result ≡ tagInPlace id1 (record { start = start; bytes = tag.now }) (rows_from file.now sheet.now place rows) }
+    requires { (place + row_width * rows ≤ length sheet.now) × Inside file.now sheet.now place rows × (table < table_count) × Outlined outlines.now file.now sheet.now table place rows }
+    ensures { (start : ℕ) → result ≡ tag_in_place id1 (record { start = start; bytes = tag.now }) (rows_from file.now sheet.now place rows) }
 {
     if !id_follows(sheet, place, rows, id1) {
         return false;
@@ -83,7 +83,7 @@ pub fn tag_in_place(
 }
 
 pub fn is_tag(table: usize, tag: &[u8]) -> bool
-    ensures { (start : ℕ) → result ≡ (at_most (tagLimit table) (record { start = start; bytes = tag.now }) && not (reads percents (record { start = start; bytes = tag.now }))) }
+    ensures { (start : ℕ) → result ≡ (at_most (tag_limit table) (record { start = start; bytes = tag.now }) && not (reads percents (record { start = start; bytes = tag.now }))) }
 {
     if citations::tag_limit(table) < tag.len() {
         return false;
@@ -93,7 +93,7 @@ pub fn is_tag(table: usize, tag: &[u8]) -> bool
 
 // The column where a row's description starts.
 fn description_column(table: usize) -> usize
-    ensures { result ≡ descriptionColumn table }
+    ensures { result ≡ description_column table }
 {
     if table == table_sheet::WORD_TAGS {
         3
@@ -110,8 +110,8 @@ pub enum Flag {
 }
 
 fn read_flag(file: &[u8], line: Line, places: &Places, table: usize) -> Flag
-    requires { Listed file.now line places.now × (table ≡ wordTags → 2 < line.columns) }
-    ensures { result ≡ flagOf (eqb table wordTags) (written (columnsOf file.now line) 2) }
+    requires { Listed file.now line places.now × (table ≡ word_tags → 2 < line.columns) }
+    ensures { result ≡ flag_of (eqb table word_tags) (written (columns_of file.now line) 2) }
 {
     if table != table_sheet::WORD_TAGS {
         return Flag::Is(0);
@@ -137,8 +137,8 @@ pub fn tag_row(
     rows: usize,
     classes: &[u8; 256],
 ) -> Step
-    requires { (classes.now ≡ classTable) × Listed file.now line places.now × (0 < line.columns) × (place + rowWidth * rows ≤ length sheet.now) × Inside file.now sheet.now place rows × (table < tableCount) × Outlined outlines.now file.now sheet.now table place rows }
-    ensures { result ≡ step_of (takenAs row_line (tagRow table (rows_from file.now sheet.now place rows) (line_of file.now line))) }
+    requires { (classes.now ≡ class_table) × Listed file.now line places.now × (0 < line.columns) × (place + row_width * rows ≤ length sheet.now) × Inside file.now sheet.now place rows × (table < table_count) × Outlined outlines.now file.now sheet.now table place rows }
+    ensures { result ≡ step_of (taken_as row_line (tag_row table (rows_from file.now sheet.now place rows) (line_of file.now line))) }
 {
     let described = listing::text_from(line, places, description_column(table));
     if described.len == 0 {

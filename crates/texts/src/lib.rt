@@ -3,9 +3,9 @@ pub mod words;
 
 ghost use Rattle.std.specs.Prelude.{◌≡◌, ◌+◌, ◌≤◌, length, drop};
 ghost use Rattle.rules.specs.Lists.{same};
-ghost use Rattle.rules.specs.Bytes.{classTable};
-ghost use Rattle.rules.specs.Texts.{rightTrim, trimFrom, frontBytes};
-ghost use Rattle.rules.specs.Numbers.{fileLimit};
+ghost use Rattle.rules.specs.Bytes.{class_table};
+ghost use Rattle.rules.specs.Texts.{right_trim, trim_from, front_bytes};
+ghost use Rattle.rules.specs.Numbers.{file_limit};
 ghost use Rattle.columns.specs.Listing.{span_of};
 
 use columns::listing::Span;
@@ -66,8 +66,8 @@ pub fn same_text(a: &[u8], b: &[u8]) -> bool
 
 // The place behind the last byte from `start` on that isn't white, or `start`.
 pub fn trimmed_end(head: &[u8], start: usize, classes: &[u8; 256]) -> usize
-    requires { (classes.now ≡ classTable) × (start ≤ length head.now) }
-    ensures { result ≡ start + length (rightTrim (drop start head.now)) }
+    requires { (classes.now ≡ class_table) × (start ≤ length head.now) }
+    ensures { result ≡ start + length (right_trim (drop start head.now)) }
 {
     let mut end = head.len();
     while start < end {
@@ -81,8 +81,8 @@ pub fn trimmed_end(head: &[u8], start: usize, classes: &[u8; 256]) -> usize
 
 // The bytes from `at` on, without the white ones at both ends.
 pub fn trim(head: &[u8], at: usize, classes: &[u8; 256]) -> Span
-    requires { (classes.now ≡ classTable) × (length head.now ≤ fileLimit) }
-    ensures { result ≡ span_of (trimFrom at (drop at head.now)) }
+    requires { (classes.now ≡ class_table) × (length head.now ≤ file_limit) }
+    ensures { result ≡ span_of (trim_from at (drop at head.now)) }
 {
     let start = columns::skip_run(head, at, false, classes);
     if head.len() <= start {
@@ -98,7 +98,7 @@ pub fn trim(head: &[u8], at: usize, classes: &[u8; 256]) -> Span
 // The place of the first two adjacent percent signs from `at` on, or the end of `head`.
 pub fn percents_from(head: &[u8], at: usize) -> usize
     requires { at ≤ length head.now }
-    ensures { result ≡ at + length (frontBytes (drop at head.now)) }
+    ensures { result ≡ at + length (front_bytes (drop at head.now)) }
 {
     let mut i = at;
     while i + 1 < head.len() {

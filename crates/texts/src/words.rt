@@ -1,7 +1,7 @@
 // Four or eight bytes as one number each: two texts are compared at their back, which holds their last byte, and at their front.
 ghost use Rattle.std.specs.Prelude.{◌≡◌, true, false, ◌+◌, ◌≤◌, ◌<◌, length, take, drop};
 ghost use Rattle.rules.specs.Lists.{same};
-ghost use Rattle.texts.specs.Words.{twoAt, fourAt, eightAt, frontAt};
+ghost use Rattle.texts.specs.Words.{two_at, four_at, eight_at, front_at};
 
 fn wide(b: u8) -> u32
     ensures { (result ≡ b) × (result < 256) }
@@ -12,7 +12,7 @@ fn wide(b: u8) -> u32
 // The first byte weighs 1, the next 256.
 fn two_at(text: &[u8], at: usize) -> u32
     requires { at + 2 ≤ length text.now }
-    ensures { (result ≡ twoAt text.now at) × (result < 65536) }
+    ensures { (result ≡ two_at text.now at) × (result < 65536) }
 {
     let back = wide(text[at + 1]);
     wide(text[at]) + 256 * back
@@ -20,7 +20,7 @@ fn two_at(text: &[u8], at: usize) -> u32
 
 pub fn four_at(text: &[u8], at: usize) -> u32
     requires { at + 4 ≤ length text.now }
-    ensures { (result ≡ fourAt text.now at) × (result < 4294967296) }
+    ensures { (result ≡ four_at text.now at) × (result < 4294967296) }
 {
     let back = two_at(text, at + 2);
     two_at(text, at) + 65536 * back
@@ -35,7 +35,7 @@ fn long(b: u8) -> u64
 // One sum, not two halves: so it is compiled to one load on Arm too.
 pub fn eight_at(text: &[u8], at: usize) -> u64
     requires { at + 8 ≤ length text.now }
-    ensures { result ≡ eightAt text.now at }
+    ensures { result ≡ eight_at text.now at }
 {
     let front = long(text[at])
         + 256 * long(text[at + 1])
@@ -101,7 +101,7 @@ pub fn differ_early(a: &[u8], b: &[u8]) -> bool
 // The first `len` of eight bytes, moved to the number's top: what stands behind them is out of it. Of none, all eight.
 pub fn front_at(text: &[u8], at: usize, len: usize) -> u64
     requires { (at + 8 ≤ length text.now) × (len ≤ 8) }
-    ensures { result ≡ frontAt text.now at len }
+    ensures { result ≡ front_at text.now at len }
 {
     eight_at(text, at) << ((64 - 8 * len) % 64)
 }

@@ -10,153 +10,153 @@ use lib.ListN.{length, length-append}
 use borrow.Author.Tests.{ne_eqb}
 use Rattle.rules.specs.Lists.{pick, bytes, empty, joined, sorted, Each}
 use Rattle.rules.specs.Texts.{Text, given}
-use Rattle.rules.specs.Numbers.{rowLimit}
+use Rattle.rules.specs.Numbers.{row_limit}
 use Rattle.rules.specs.Tables.{Tables, Row, origins, table, rows_of}
-use Rattle.rules.specs.Meaning.{bareRow, rowId, meantRows, by_id, meantTables}
-use Rattle.rules.specs.Tidy.{tab, idDigits, keywordLine, commented, flagged, secondText, row_line, tableName, tableText, tablesText}
-use Rattle.rules.proofs.Sorting.{total, total-sorted}
+use Rattle.rules.specs.Meaning.{bare_row, row_id, meant_rows, by_id, meant_tables}
+use Rattle.rules.specs.Tidy.{tab, id_digits, keyword_line, commented, flagged, second_text, row_line, table_name, table_text, tables_text}
+use Rattle.rules.proofs.Sorting.{total, total_sorted}
 use Rattle.rules.proofs.RowsKept.{RowOwn, RowsKept}
 use Rattle.rules.proofs.Kept.{TableKept, TablesKept}
-use Rattle.tidy_length.proofs.ColumnRoom.{columnsRoom, columns-append, parted-length, textRoom}
-use Rattle.tidy_length.proofs.TakenRoom.{total-map, total-within, total-few, joined_length, noteRoom, rowRoom, rowsRoom, namedRoom, tableRoom, tablesRoom}
+use Rattle.tidy_length.proofs.ColumnRoom.{columns_room, columns_append, parted_length, text_room}
+use Rattle.tidy_length.proofs.TakenRoom.{total_map, total_within, total_few, joined_length, note_room, row_room, rows_room, named_room, table_room, tables_room}
 
 -- ---- one row
 
-text-given : (xs : List ℕ) → not (empty xs) ≡ true → textRoom xs ≡ suc (length xs)
-text-given [] e = absurd (false≢true e)
-text-given (b ∷ bs) e = refl
+text_given : (xs : List ℕ) → not (empty xs) ≡ true → text_room xs ≡ suc (length xs)
+text_given [] e = absurd (false≢true e)
+text_given (b ∷ bs) e = refl
 
 -- the two bytes that part the %% of an ORIGIN row from its texts
-abbrev pub signRoom : Row → ℕ
-signRoom r = pick (given r.second) 2 0
+abbrev pub sign_room : Row → ℕ
+sign_room r = pick (given r.second) 2 0
 
-note-printed : (t : Text) → columnsRoom (commented t) ≤ noteRoom t.bytes + pick (given t) 2 0
-note-printed t = by t.bytes
+note_printed : (t : Text) → columns_room (commented t) ≤ note_room t.bytes + pick (given t) 2 0
+note_printed t = by t.bytes
   where
-    by : (xs : List ℕ) → columnsRoom (commented (record { start = 0; bytes = xs })) ≤ noteRoom xs + pick (not (empty xs)) 2 0
+    by : (xs : List ℕ) → columns_room (commented (record { start = 0; bytes = xs })) ≤ note_room xs + pick (not (empty xs)) 2 0
     by [] = omega arith
     by (b ∷ bs) = omega arith
 
 -- what a row of the n-th table may have more than was taken for it
 abbrev glued : ℕ → Row → ℕ
-glued zero r = signRoom r
+glued zero r = sign_room r
 glued (suc n) r = 0
 
-origin-printed : (r : Row) → RowOwn 0 (bareRow r) → length (row_line 0 r) ≤ rowRoom 0 r + signRoom r
-origin-printed r k =
+origin_printed : (r : Row) → RowOwn 0 (bare_row r) → length (row_line 0 r) ≤ row_room 0 r + sign_room r
+origin_printed r k =
     omega (
       arith,
-      parted-length tab (idDigits r.id1) (r.first.bytes ∷ commented r.second),
-      text-given r.first.bytes k.name.given,
-      note-printed r.second,
+      parted_length tab (id_digits r.id1) (r.first.bytes ∷ commented r.second),
+      text_given r.first.bytes k.name.given,
+      note_printed r.second,
     )
 
-second-given : (n : ℕ) (r : Row) → RowOwn (suc n) (bareRow r) → not (empty r.second.bytes) ≡ true
-second-given zero r k = k.name.given
-second-given (suc n) r k = k.described.given
+second_given : (n : ℕ) (r : Row) → RowOwn (suc n) (bare_row r) → not (empty r.second.bytes) ≡ true
+second_given zero r k = k.name.given
+second_given (suc n) r k = k.described.given
 
-other-printed : (n : ℕ) (r : Row) → RowOwn (suc n) (bareRow r) → length (row_line (suc n) r) ≤ rowRoom (suc n) r + 0
-other-printed n r k =
-    let own : secondText (suc n) r ≡ r.second.bytes ∷ [] = rw (ne_eqb (suc n) origins (λ e. omega arith)) in
-    let its = idDigits r.id1 in
-    let line : length (row_line (suc n) r) ≡ columnsRoom (its ∷ r.first.bytes ∷ flagged (suc n) r ++ (r.second.bytes ∷ [])) =
-    parted-length tab its (r.first.bytes ∷ flagged (suc n) r ++ secondText (suc n) r) ∙ ap (λ (xs : List (List ℕ)). columnsRoom (its ∷ r.first.bytes ∷ flagged (suc n) r ++ xs)) own in
-    omega (arith, columns-append (flagged (suc n) r) (r.second.bytes ∷ []), text-given r.second.bytes (second-given n r k))
+other_printed : (n : ℕ) (r : Row) → RowOwn (suc n) (bare_row r) → length (row_line (suc n) r) ≤ row_room (suc n) r + 0
+other_printed n r k =
+    let own : second_text (suc n) r ≡ r.second.bytes ∷ [] = rw (ne_eqb (suc n) origins (λ e. omega arith)) in
+    let its = id_digits r.id1 in
+    let line : length (row_line (suc n) r) ≡ columns_room (its ∷ r.first.bytes ∷ flagged (suc n) r ++ (r.second.bytes ∷ [])) =
+    parted_length tab its (r.first.bytes ∷ flagged (suc n) r ++ second_text (suc n) r) ∙ ap (λ (xs : List (List ℕ)). columns_room (its ∷ r.first.bytes ∷ flagged (suc n) r ++ xs)) own in
+    omega (arith, columns_append (flagged (suc n) r) (r.second.bytes ∷ []), text_given r.second.bytes (second_given n r k))
 
-row-printed : (n : ℕ) (r : Row) → RowOwn n (bareRow r) → length (row_line n r) ≤ rowRoom n r + glued n r
-row-printed zero r k = origin-printed r k
-row-printed (suc n) r k = other-printed n r k
+row_printed : (n : ℕ) (r : Row) → RowOwn n (bare_row r) → length (row_line n r) ≤ row_room n r + glued n r
+row_printed zero r k = origin_printed r k
+row_printed (suc n) r k = other_printed n r k
 
 -- ---- the rows of a table
 
-each-printed : (n : ℕ) (done rs : List Row) → RowsKept n done (map bareRow rs) → Each (λ (r : Row). length (row_line n r) ≤ rowRoom n r + glued n r) rs
-each-printed n done [] k = tt
-each-printed n done (r ∷ rs) k = (row-printed n r k.0.own, each-printed n (done ++ (bareRow r ∷ [])) rs k.1)
+each_printed : (n : ℕ) (done rs : List Row) → RowsKept n done (map bare_row rs) → Each (λ (r : Row). length (row_line n r) ≤ row_room n r + glued n r) rs
+each_printed n done [] k = tt
+each_printed n done (r ∷ rs) k = (row_printed n r k.0.own, each_printed n (done ++ (bare_row r ∷ [])) rs k.1)
 
-rows_few : (n : ℕ) (done rs : List Row) → RowsKept n done (map bareRow rs) → length done ≤ rowLimit → length done + length rs ≤ rowLimit
+rows_few : (n : ℕ) (done rs : List Row) → RowsKept n done (map bare_row rs) → length done ≤ row_limit → length done + length rs ≤ row_limit
 rows_few n done [] k h = omega arith
 rows_few n done (r ∷ rs) k h =
-    let one : length (done ++ (bareRow r ∷ [])) ≡ suc (length done) = omega (arith, length-append done (bareRow r ∷ [])) in
-    omega (arith, k.0.few, rows_few n (done ++ (bareRow r ∷ [])) rs k.1 (omega (arith, k.0.few)))
+    let one : length (done ++ (bare_row r ∷ [])) ≡ suc (length done) = omega (arith, length-append done (bare_row r ∷ [])) in
+    omega (arith, k.0.few, rows_few n (done ++ (bare_row r ∷ [])) rs k.1 (omega (arith, k.0.few)))
 
-abbrev rowsPrinted : ℕ → List Row → ℕ
-rowsPrinted n rs = total rowId (λ (r : Row). length (row_line n r)) rs
+abbrev rows_printed : ℕ → List Row → ℕ
+rows_printed n rs = total row_id (λ (r : Row). length (row_line n r)) rs
 
 -- of all its rows
-abbrev pub signsRoom : List Row → ℕ
-signsRoom rs = total rowId signRoom rs
+abbrev pub signs_room : List Row → ℕ
+signs_room rs = total row_id sign_room rs
 
-origins-printed : (rs : List Row) → RowsKept 0 [] (map bareRow rs) → rowsPrinted 0 rs ≤ rowsRoom 0 rs + signsRoom rs
-origins-printed rs k = total-within rowId (λ (r : Row). length (row_line 0 r)) (rowRoom 0) signRoom rs (each-printed 0 [] rs k)
+origins_printed : (rs : List Row) → RowsKept 0 [] (map bare_row rs) → rows_printed 0 rs ≤ rows_room 0 rs + signs_room rs
+origins_printed rs k = total_within row_id (λ (r : Row). length (row_line 0 r)) (row_room 0) sign_room rs (each_printed 0 [] rs k)
 
-others-printed : (n : ℕ) (rs : List Row) → RowsKept (suc n) [] (map bareRow rs) → rowsPrinted (suc n) rs ≤ rowsRoom (suc n) rs
-others-printed n rs k =
+others_printed : (n : ℕ) (rs : List Row) → RowsKept (suc n) [] (map bare_row rs) → rows_printed (suc n) rs ≤ rows_room (suc n) rs
+others_printed n rs k =
     omega (
       arith,
-      total-within rowId (λ (r : Row). length (row_line (suc n) r)) (rowRoom (suc n)) (λ (r : Row). 0) rs (each-printed (suc n) [] rs k),
-      total-few rowId (λ (r : Row). 0) 0 (λ r. omega arith) rs,
+      total_within row_id (λ (r : Row). length (row_line (suc n) r)) (row_room (suc n)) (λ (r : Row). 0) rs (each_printed (suc n) [] rs k),
+      total_few row_id (λ (r : Row). 0) 0 (λ r. omega arith) rs,
     )
 
-two-a-row : (r : Row) → signRoom r ≤ 2
-two-a-row r = by (given r.second)
+two_a_row : (r : Row) → sign_room r ≤ 2
+two_a_row r = by (given r.second)
   where
     by : (t : Bool) → pick t 2 0 ≤ 2
     by true = omega arith
     by false = omega arith
 
-pub signs-few : (ts : Tables) → TablesKept 0 ts → signsRoom (rows_of (table origins ts)) ≤ 2 * rowLimit
-signs-few [] k = omega arith
-signs-few (none ∷ ts) k = omega arith
-signs-few (some rs ∷ ts) k = omega (arith, total-few rowId signRoom 2 two-a-row rs, rows_few 0 [] rs k.0 (omega arith))
+pub signs_few : (ts : Tables) → TablesKept 0 ts → signs_room (rows_of (table origins ts)) ≤ 2 * row_limit
+signs_few [] k = omega arith
+signs_few (none ∷ ts) k = omega arith
+signs_few (some rs ∷ ts) k = omega (arith, total_few row_id sign_room 2 two_a_row rs, rows_few 0 [] rs k.0 (omega arith))
 
 -- ---- tables
 
-table-printed : (n : ℕ) (rs : List Row) → length (tableText n (some (map bareRow rs))) ≡ namedRoom (bytes "#BOT") n + rowsPrinted n rs + namedRoom (bytes "#EOT") n
-table-printed n rs =
-    let top = keywordLine (bytes "#BOT" ∷ tableName n ∷ []) in
-    let rows = joined (map (row_line n) (map bareRow rs)) in
-    let end = keywordLine (bytes "#EOT" ∷ tableName n ∷ []) in
-    let text : length (tableText n (some (map bareRow rs))) ≡ length ((top ++ rows) ++ end) = refl in
+table_printed : (n : ℕ) (rs : List Row) → length (table_text n (some (map bare_row rs))) ≡ named_room (bytes "#BOT") n + rows_printed n rs + named_room (bytes "#EOT") n
+table_printed n rs =
+    let top = keyword_line (bytes "#BOT" ∷ table_name n ∷ []) in
+    let rows = joined (map (row_line n) (map bare_row rs)) in
+    let end = keyword_line (bytes "#EOT" ∷ table_name n ∷ []) in
+    let text : length (table_text n (some (map bare_row rs))) ≡ length ((top ++ rows) ++ end) = refl in
     omega (
       arith,
       length-append (top ++ rows) end,
       length-append top rows,
-      joined_length rowId (row_line n) (map bareRow rs),
-      total-map rowId (λ (r : Row). length (row_line n r)) rowId bareRow rs,
+      joined_length row_id (row_line n) (map bare_row rs),
+      total_map row_id (λ (r : Row). length (row_line n r)) row_id bare_row rs,
     )
 
-sorted-printed : (n : ℕ) (rs : List Row) → rowsPrinted n (sorted rowId rs) ≡ rowsPrinted n rs
-sorted-printed n rs = total-sorted rowId (λ (r : Row). length (row_line n r)) rs
+sorted_printed : (n : ℕ) (rs : List Row) → rows_printed n (sorted row_id rs) ≡ rows_printed n rs
+sorted_printed n rs = total_sorted row_id (λ (r : Row). length (row_line n r)) rs
 
-origin-table : (t : Option (List Row)) → TableKept 0 t → length (tableText 0 (meantRows (by_id t))) ≤ tableRoom 0 t + signsRoom (rows_of t)
-origin-table none k = omega arith
-origin-table (some rs) k = omega (arith, table-printed 0 (sorted rowId rs), sorted-printed 0 rs, origins-printed rs k)
+origin_table : (t : Option (List Row)) → TableKept 0 t → length (table_text 0 (meant_rows (by_id t))) ≤ table_room 0 t + signs_room (rows_of t)
+origin_table none k = omega arith
+origin_table (some rs) k = omega (arith, table_printed 0 (sorted row_id rs), sorted_printed 0 rs, origins_printed rs k)
 
-editor-table : (t : Option (List Row)) → TableKept 1 t → length (tableText 1 (meantRows (by_id t))) ≤ tableRoom 1 t
-editor-table none k = omega arith
-editor-table (some rs) k = omega (arith, table-printed 1 (sorted rowId rs), sorted-printed 1 rs, others-printed 0 rs k)
+editor_table : (t : Option (List Row)) → TableKept 1 t → length (table_text 1 (meant_rows (by_id t))) ≤ table_room 1 t
+editor_table none k = omega arith
+editor_table (some rs) k = omega (arith, table_printed 1 (sorted row_id rs), sorted_printed 1 rs, others_printed 0 rs k)
 
-tag-tables : (n : ℕ) (ts : Tables) → TablesKept (suc n) ts → length (tablesText (suc n) (map meantRows ts)) ≤ tablesRoom (suc n) ts
-tag-tables n [] k = omega arith
-tag-tables n (none ∷ ts) k = omega (arith, tag-tables (suc n) ts k.1)
-tag-tables n (some rs ∷ ts) k =
+tag_tables : (n : ℕ) (ts : Tables) → TablesKept (suc n) ts → length (tables_text (suc n) (map meant_rows ts)) ≤ tables_room (suc n) ts
+tag_tables n [] k = omega arith
+tag_tables n (none ∷ ts) k = omega (arith, tag_tables (suc n) ts k.1)
+tag_tables n (some rs ∷ ts) k =
     omega (
       arith,
-      length-append (tableText (suc n) (some (map bareRow rs))) (tablesText (suc (suc n)) (map meantRows ts)),
-      table-printed (suc n) rs,
-      others-printed n rs k.0,
-      tag-tables (suc n) ts k.1,
+      length-append (table_text (suc n) (some (map bare_row rs))) (tables_text (suc (suc n)) (map meant_rows ts)),
+      table_printed (suc n) rs,
+      others_printed n rs k.0,
+      tag_tables (suc n) ts k.1,
     )
 
-pub tables-room : (ts : Tables) → TablesKept 0 ts → length (tablesText 0 (meantTables ts)) ≤ tablesRoom 0 ts + signsRoom (rows_of (table origins ts))
-tables-room [] k = omega arith
-tables-room (o ∷ []) k = omega (arith, length-append (tableText 0 (meantRows (by_id o))) [], origin-table o k.0)
-tables-room (o ∷ e ∷ ts) k =
+pub tables_room_lem : (ts : Tables) → TablesKept 0 ts → length (tables_text 0 (meant_tables ts)) ≤ tables_room 0 ts + signs_room (rows_of (table origins ts))
+tables_room_lem [] k = omega arith
+tables_room_lem (o ∷ []) k = omega (arith, length-append (table_text 0 (meant_rows (by_id o))) [], origin_table o k.0)
+tables_room_lem (o ∷ e ∷ ts) k =
     omega (
       arith,
-      length-append (tableText 0 (meantRows (by_id o))) (tableText 1 (meantRows (by_id e)) ++ tablesText 2 (map meantRows ts)),
-      length-append (tableText 1 (meantRows (by_id e))) (tablesText 2 (map meantRows ts)),
-      origin-table o k.0,
-      editor-table e k.1.0,
-      tag-tables 1 ts k.1.1,
+      length-append (table_text 0 (meant_rows (by_id o))) (table_text 1 (meant_rows (by_id e)) ++ tables_text 2 (map meant_rows ts)),
+      length-append (table_text 1 (meant_rows (by_id e))) (tables_text 2 (map meant_rows ts)),
+      origin_table o k.0,
+      editor_table e k.1.0,
+      tag_tables 1 ts k.1.1,
     )

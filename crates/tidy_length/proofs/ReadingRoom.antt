@@ -12,37 +12,37 @@ use Rattle.rules.specs.Lists.{pick}
 use Rattle.rules.specs.Bytes.{newline}
 use Rattle.rules.specs.Rules.{Fault}
 use Rattle.rules.specs.Phases.{Answer, refuse, go, hand, step}
-use Rattle.rules.specs.Reading.{Handed, Reading, begin, line, numbers, ended, withByte, byteUnless, byte, read}
-use Rattle.rules.proofs.NoFault.{never-some}
-use Rattle.tidy_length.proofs.TakenRoom.{total-more, numberHanded, sentenceRoom, handedRoom, phaseRoom, NoMore}
+use Rattle.rules.specs.Reading.{Handed, Reading, begin, line, numbers, ended, with_byte, byte_unless, byte, read}
+use Rattle.rules.proofs.NoFault.{never_some}
+use Rattle.tidy_length.proofs.TakenRoom.{total_more, number_handed, sentence_room, handed_room, phase_room, NoMore}
 use Rattle.tidy_length.proofs.StepsHaveRoom.{step_room}
 
 -- with so many bytes read
 abbrev pub Within : Reading → ℕ → Type 0
-Within r n = r.fault ≡ none → handedRoom r.handed + phaseRoom r.phase + length r.part ≤ n
+Within r n = r.fault ≡ none → handed_room r.handed + phase_room r.phase + length r.part ≤ n
 
-module _ (r : Reading) (n : ℕ) (k : handedRoom r.handed + phaseRoom r.phase + length r.part ≤ n) where
-  ended-within : (a : Answer) → NoMore r.phase (reverse r.part) a → Within (ended r a) (suc n)
-  ended-within (refuse q) h e = absurd (never-some _ e)
-  ended-within (go later) h e = omega (arith, length-reverse r.part)
-  ended-within (hand p s) h e =
-      omega (arith, length-reverse r.part, total-more numberHanded (λ (h : Handed). sentenceRoom h.sentence) r.handed (record { end = suc r.at; sentence = s }))
+module _ (r : Reading) (n : ℕ) (k : handed_room r.handed + phase_room r.phase + length r.part ≤ n) where
+  ended_within : (a : Answer) → NoMore r.phase (reverse r.part) a → Within (ended r a) (suc n)
+  ended_within (refuse q) h e = absurd (never_some _ e)
+  ended_within (go later) h e = omega (arith, length-reverse r.part)
+  ended_within (hand p s) h e =
+      omega (arith, length-reverse r.part, total_more number_handed (λ (h : Handed). sentence_room h.sentence) r.handed (record { end = suc r.at; sentence = s }))
 
-byte-within : (r : Reading) (b n : ℕ) → Within r n → Within (byte r b) (suc n)
-byte-within r b n k = by r.fault refl
+byte_within : (r : Reading) (b n : ℕ) → Within r n → Within (byte r b) (suc n)
+byte_within r b n k = by r.fault refl
   where
-    at-line : (t : Bool) → handedRoom r.handed + phaseRoom r.phase + length r.part ≤ n
-        → Within (pick t (ended r (step r.phase (numbers r.handed) (line r))) (withByte r b)) (suc n)
-    at-line true h = ended-within r n h (step r.phase (numbers r.handed) (line r)) (step_room (line r) r.phase (numbers r.handed))
-    at-line false h = λ e. omega arith
+    at_line : (t : Bool) → handed_room r.handed + phase_room r.phase + length r.part ≤ n
+        → Within (pick t (ended r (step r.phase (numbers r.handed) (line r))) (with_byte r b)) (suc n)
+    at_line true h = ended_within r n h (step r.phase (numbers r.handed) (line r)) (step_room (line r) r.phase (numbers r.handed))
+    at_line false h = λ e. omega arith
 
-    by : (o : Option Fault) → r.fault ≡ o → Within (byteUnless o r b) (suc n)
-    by none e = at-line (eqb b newline) (k e)
-    by (some f) e = λ q. absurd (never-some f q)
+    by : (o : Option Fault) → r.fault ≡ o → Within (byte_unless o r b) (suc n)
+    by none e = at_line (eqb b newline) (k e)
+    by (some f) e = λ q. absurd (never_some f q)
 
-pub read-within : (r : Reading) (bs : List ℕ) (n : ℕ) → Within r n → Within (read r bs) (n + length bs)
-read-within r [] n k e = omega (arith, k e)
-read-within r (b ∷ bs) n k e = omega (arith, read-within (byte r b) bs (suc n) (byte-within r b n k) e)
+pub read_within : (r : Reading) (bs : List ℕ) (n : ℕ) → Within r n → Within (read r bs) (n + length bs)
+read_within r [] n k e = omega (arith, k e)
+read_within r (b ∷ bs) n k e = omega (arith, read_within (byte r b) bs (suc n) (byte_within r b n k) e)
 
-pub file-within : (f : List ℕ) → Within (read begin f) (length f)
-file-within f e = omega (arith, read-within begin f 0 (λ z. omega arith) e)
+pub file_within : (f : List ℕ) → Within (read begin f) (length f)
+file_within f e = omega (arith, read_within begin f 0 (λ z. omega arith) e)

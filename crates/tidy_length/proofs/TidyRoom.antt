@@ -9,126 +9,126 @@ use mathlib.Core.List.{List, [], ◌∷◌, ◌++◌, map}
 use lib.ListN.{length, length-append}
 use borrow.Author.Tests.{le-leb}
 use Rattle.rules.specs.Lists.{pick, bytes, joined}
-use Rattle.rules.specs.Numbers.{fileLimit, rowLimit}
+use Rattle.rules.specs.Numbers.{file_limit, row_limit}
 use Rattle.rules.specs.Rules.{Fault}
 use Rattle.rules.specs.Tables.{origins, table, rows_of}
 use Rattle.rules.specs.Sentences.{Sentence}
-use Rattle.rules.specs.Phases.{Phase, start, top, in_table, inSentence, behindSentence, atEnd, formatAt, tablesAt}
-use Rattle.rules.specs.Reading.{Reading, begin, read, closing, closingUnless, verdict}
-use Rattle.rules.specs.Survey.{Survey, answered, nothingRead, surveyOf, fileFits}
-use Rattle.rules.specs.Meaning.{meantTables, meantSentences, meaningOf}
-use Rattle.rules.specs.Tidy.{digitsOf, keywordLine, tablesText, sentenceText, tidyText}
-use Rattle.rules.specs.Writing.{tidyOf, writingAnswer}
+use Rattle.rules.specs.Phases.{Phase, start, top, in_table, in_sentence, behind_sentence, at_end, format_at, tables_at}
+use Rattle.rules.specs.Reading.{Reading, begin, read, closing, closing_unless, verdict}
+use Rattle.rules.specs.Survey.{Survey, answered, nothing_read, survey_of, file_fits}
+use Rattle.rules.specs.Meaning.{meant_tables, meant_sentences, meaning_of}
+use Rattle.rules.specs.Tidy.{digits_of, keyword_line, tables_text, sentence_text, tidy_text}
+use Rattle.rules.specs.Writing.{tidy_of, writing_answer}
 use Rattle.rules.specs.Same.{SameMeaning}
 use Rattle.rules.proofs.Kept.{TablesKept, PhaseKept}
-use Rattle.rules.proofs.KeptReading.{bares, ReadingKept, file-kept, survey-read}
+use Rattle.rules.proofs.KeptReading.{bares, ReadingKept, file_kept, survey_read}
 use Rattle.rules.proofs.RoundTrip.{round_trip}
-use Rattle.tidy_length.proofs.TakenRoom.{tablesRoom, formatRoom, phaseRoom}
-use Rattle.tidy_length.proofs.ReadingRoom.{file-within}
-use Rattle.tidy_length.proofs.PrintedTables.{signsRoom, signs-few, tables-room}
-use Rattle.tidy_length.proofs.PrintedSentences.{sentences-room}
+use Rattle.tidy_length.proofs.TakenRoom.{tables_room, format_room, phase_room}
+use Rattle.tidy_length.proofs.ReadingRoom.{file_within}
+use Rattle.tidy_length.proofs.PrintedTables.{signs_room, signs_few, tables_room_lem}
+use Rattle.tidy_length.proofs.PrintedSentences.{sentences_room}
 
 -- ---- a reading that is accepted
 
-never-zero : (n : ℕ) → ◌≡◌ {A = ℕ} (suc n) 0 → ⊥
-never-zero n e = omega (arith, e)
+never_zero : (n : ℕ) → ◌≡◌ {A = ℕ} (suc n) 0 → ⊥
+never_zero n e = omega (arith, e)
 
 record Accepted (r : Reading) : Type 0 where
-  no-fault : r.fault ≡ none
-  ends : atEnd r.phase ≡ 0
+  no_fault_lem : r.fault ≡ none
+  ends : at_end r.phase ≡ 0
 
 accepted : (r : Reading) → ReadingKept r → (verdict r).number ≡ 0 → Accepted r
 accepted r k e = by r.fault refl e
   where
-    whole : (part : List ℕ) → (closing r part).number ≡ 0 → atEnd r.phase ≡ 0
+    whole : (part : List ℕ) → (closing r part).number ≡ 0 → at_end r.phase ≡ 0
     whole [] e = e
-    whole (b ∷ bs) e = absurd (never-zero 2 e)
+    whole (b ∷ bs) e = absurd (never_zero 2 e)
 
-    by : (o : Option Fault) → r.fault ≡ o → (closingUnless o r).number ≡ 0 → Accepted r
-    by none q e = record { no-fault = q; ends = whole r.part e }
+    by : (o : Option Fault) → r.fault ≡ o → (closing_unless o r).number ≡ 0 → Accepted r
+    by none q e = record { no_fault_lem = q; ends = whole r.part e }
     by (some f) q e = absurd (omega (arith, k.fault f q))
 
 -- it stands behind its tables or behind a sentence
-preamble-room : (phase : Phase) → atEnd phase ≡ 0 → phaseRoom phase ≡ formatRoom (formatAt phase) + tablesRoom 0 (tablesAt phase)
-preamble-room start e = absurd (never-zero 8 e)
-preamble-room (top p) e = refl
-preamble-room (in_table p n rs) e = absurd (never-zero 22 e)
-preamble-room (inSentence p s) e = absurd (never-zero 22 e)
-preamble-room (behindSentence p) e = refl
+preamble_room : (phase : Phase) → at_end phase ≡ 0 → phase_room phase ≡ format_room (format_at phase) + tables_room 0 (tables_at phase)
+preamble_room start e = absurd (never_zero 8 e)
+preamble_room (top p) e = refl
+preamble_room (in_table p n rs) e = absurd (never_zero 22 e)
+preamble_room (in_sentence p s) e = absurd (never_zero 22 e)
+preamble_room (behind_sentence p) e = refl
 
-tables-kept : (phase : Phase) (ss : List Sentence) → PhaseKept phase ss → TablesKept 0 (tablesAt phase)
-tables-kept start ss k = (tt, (tt, (tt, (tt, (tt, (tt, (tt, tt)))))))
-tables-kept (top p) ss k = k.0.tables
-tables-kept (in_table p n rs) ss k = k.preamble.tables
-tables-kept (inSentence p s) ss k = k.preamble.tables
-tables-kept (behindSentence p) ss k = k.preamble.tables
+tables_kept : (phase : Phase) (ss : List Sentence) → PhaseKept phase ss → TablesKept 0 (tables_at phase)
+tables_kept start ss k = (tt, (tt, (tt, (tt, (tt, (tt, (tt, tt)))))))
+tables_kept (top p) ss k = k.0.tables
+tables_kept (in_table p n rs) ss k = k.preamble.tables
+tables_kept (in_sentence p s) ss k = k.preamble.tables
+tables_kept (behind_sentence p) ss k = k.preamble.tables
 
 -- ---- its tidy text
 
-text-length : (s : Survey) → length (tidyText (meaningOf s)) ≡ formatRoom s.format + length (tablesText 0 (meantTables s.tables)) + length (joined (map sentenceText (meantSentences s.handed)))
-unfolding tidyText meaningOf
-text-length s =
-    let format = keywordLine (bytes "#FORMAT" ∷ digitsOf s.format ∷ []) in
-    let tables = tablesText 0 (meantTables s.tables) in
-    let sentences = joined (map sentenceText (meantSentences s.handed)) in
-    let text : length (tidyText (meaningOf s)) ≡ length ((format ++ tables) ++ sentences) = refl in
+text_length : (s : Survey) → length (tidy_text (meaning_of s)) ≡ format_room s.format + length (tables_text 0 (meant_tables s.tables)) + length (joined (map sentence_text (meant_sentences s.handed)))
+unfolding tidy_text meaning_of
+text_length s =
+    let format = keyword_line (bytes "#FORMAT" ∷ digits_of s.format ∷ []) in
+    let tables = tables_text 0 (meant_tables s.tables) in
+    let sentences = joined (map sentence_text (meant_sentences s.handed)) in
+    let text : length (tidy_text (meaning_of s)) ≡ length ((format ++ tables) ++ sentences) = refl in
     omega (arith, length-append (format ++ tables) sentences, length-append format tables)
 
 -- two bytes for each ORIGIN row with a comment
-abbrev pub signsOf : Survey → ℕ
-signsOf s = signsRoom (rows_of (table origins s.tables))
+abbrev pub signs_of : Survey → ℕ
+signs_of s = signs_room (rows_of (table origins s.tables))
 
 pub record HasRoom (file : List ℕ) (s : Survey) : Type 0 where
-  pub by-signs : length (tidyText (meaningOf s)) ≤ length file + signsOf s
-  pub few : signsOf s ≤ 2 * rowLimit
+  pub by_signs : length (tidy_text (meaning_of s)) ≤ length file + signs_of s
+  pub few : signs_of s ≤ 2 * row_limit
 
-read-room : (f : List ℕ) → (verdict (read begin f)).number ≡ 0 → HasRoom f (answered (read begin f))
-read-room f e =
+read_room : (f : List ℕ) → (verdict (read begin f)).number ≡ 0 → HasRoom f (answered (read begin f))
+read_room f e =
     let r = read begin f in
-    let k = file-kept f in
+    let k = file_kept f in
     let a = accepted r k e in
-    let kept = tables-kept r.phase (bares r.handed) k.phase in
+    let kept = tables_kept r.phase (bares r.handed) k.phase in
     record {
-      by-signs =
+      by_signs =
           omega (
             arith,
-            text-length (answered r),
-            tables-room (tablesAt r.phase) kept,
-            sentences-room r.handed,
-            preamble-room r.phase a.ends,
-            file-within f a.no-fault,
+            text_length (answered r),
+            tables_room_lem (tables_at r.phase) kept,
+            sentences_room r.handed,
+            preamble_room r.phase a.ends,
+            file_within f a.no_fault_lem,
           );
-      few = signs-few (tablesAt r.phase) kept;
+      few = signs_few (tables_at r.phase) kept;
     }
 
-two-refuses : (t : Bool) (r : Reading) → (pick t (answered r) (nothingRead 2)).refusal ≡ 0 → t ≡ true
-two-refuses true r e = refl
-two-refuses false r e = absurd (never-zero 1 e)
+two_refuses : (t : Bool) (r : Reading) → (pick t (answered r) (nothing_read 2)).refusal ≡ 0 → t ≡ true
+two_refuses true r e = refl
+two_refuses false r e = absurd (never_zero 1 e)
 
-has_room : (f : List ℕ) → (surveyOf f).refusal ≡ 0 → HasRoom f (surveyOf f)
-unfolding surveyOf
+has_room : (f : List ℕ) → (survey_of f).refusal ≡ 0 → HasRoom f (survey_of f)
+unfolding survey_of
 has_room f e =
-    let fits : fileFits f ≡ true = two-refuses (fileFits f) (read begin f) e in
-    let whole = survey-read f fits in
-    subst (HasRoom f) (sym whole) (read-room f (sym (ap (λ (s : Survey). s.refusal) whole) ∙ e))
+    let fits : file_fits f ≡ true = two_refuses (file_fits f) (read begin f) e in
+    let whole = survey_read f fits in
+    subst (HasRoom f) (sym whole) (read_room f (sym (ap (λ (s : Survey). s.refusal) whole) ∙ e))
 
 -- ---- any file
 
 -- longer only by the bytes that part the %% of ORIGIN rows from their texts
-pub tidy-by-signs : (f : List ℕ) → (surveyOf f).refusal ≡ 0 → length (tidyOf f) ≤ length f + signsOf (surveyOf f)
-unfolding tidyOf
-tidy-by-signs f e = (has_room f e).by-signs
+pub tidy_by_signs : (f : List ℕ) → (survey_of f).refusal ≡ 0 → length (tidy_of f) ≤ length f + signs_of (survey_of f)
+unfolding tidy_of
+tidy_by_signs f e = (has_room f e).by_signs
 
-pub tidy-room : (f : List ℕ) → (surveyOf f).refusal ≡ 0 → length (tidyOf f) ≤ length f + 2 * rowLimit
-tidy-room f e = omega (arith, tidy-by-signs f e, (has_room f e).few)
+pub tidy_room : (f : List ℕ) → (survey_of f).refusal ≡ 0 → length (tidy_of f) ≤ length f + 2 * row_limit
+tidy_room f e = omega (arith, tidy_by_signs f e, (has_room f e).few)
 
 -- so the tidy text of a file that leaves these bytes free is no longer than a file may be
-pub round-trip-room : (f : List ℕ) → (surveyOf f).refusal ≡ 0 → length f + 2 * rowLimit ≤ fileLimit → ((surveyOf (tidyOf f)).refusal ≡ 0) × SameMeaning (tidyOf f) f
-round-trip-room f e h = round_trip f e (omega (arith, tidy-room f e))
+pub round_trip_room : (f : List ℕ) → (survey_of f).refusal ≡ 0 → length f + 2 * row_limit ≤ file_limit → ((survey_of (tidy_of f)).refusal ≡ 0) × SameMeaning (tidy_of f) f
+round_trip_room f e h = round_trip f e (omega (arith, tidy_room f e))
 
 -- and an output with these bytes more than the file has room for it
-pub writing-room : (f output : List ℕ) → (surveyOf f).refusal ≡ 0 → length f + 2 * rowLimit ≤ length output → length f + 2 * rowLimit ≤ fileLimit
-    → writingAnswer f output ≡ record { refusal = 0; place = length f; written = length (tidyOf f) }
-writing-room f output e h g =
-    let room = tidy-room f e in
-    rw (e, le-leb (length (tidyOf f)) (length output) (omega arith), le-leb (length (tidyOf f)) fileLimit (omega arith))
+pub writing_room : (f output : List ℕ) → (survey_of f).refusal ≡ 0 → length f + 2 * row_limit ≤ length output → length f + 2 * row_limit ≤ file_limit
+    → writing_answer f output ≡ record { refusal = 0; place = length f; written = length (tidy_of f) }
+writing_room f output e h g =
+    let room = tidy_room f e in
+    rw (e, le-leb (length (tidy_of f)) (length output) (omega arith), le-leb (length (tidy_of f)) file_limit (omega arith))

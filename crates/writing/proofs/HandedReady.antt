@@ -11,43 +11,43 @@ use lib.ListN.{length, get_or}
 use lib.Dec.{eqb}
 use borrow.Author.Tests.{ne_eqb}
 use Rattle.rules.specs.Lists.{pick, member, counting, sorted, Each}
-use Rattle.rules.specs.Numbers.{edgeLimit}
-use Rattle.rules.specs.Sentences.{Node, Sentence, edge_count, edgesOf, listed}
+use Rattle.rules.specs.Numbers.{edge_limit}
+use Rattle.rules.specs.Sentences.{Node, Sentence, edge_count, edges_of, listed}
 use Rattle.rules.specs.Reading.{Handed}
-use Rattle.rules.specs.SheetFields.{edgesPlace, nodeRoom}
-use Rattle.rules.specs.Sheets.{nodes, sentenceSheet}
-use Rattle.rules.specs.Survey.{surveyOf}
-use Rattle.rules.specs.Index.{beginning, beginnings, indexSize}
-use Rattle.rules.specs.SentenceFrom.{sentenceFrom}
-use Rattle.rules.specs.Meaning.{nodeNumber, meantSentence}
-use Rattle.rules.specs.Tidy.{sentenceText}
+use Rattle.rules.specs.SheetFields.{edges_place, node_room}
+use Rattle.rules.specs.Sheets.{nodes, sentence_sheet}
+use Rattle.rules.specs.Survey.{survey_of}
+use Rattle.rules.specs.Index.{beginning, beginnings, index_size}
+use Rattle.rules.specs.SentenceFrom.{sentence_from}
+use Rattle.rules.specs.Meaning.{node_number, meant_sentence}
+use Rattle.rules.specs.Tidy.{sentence_text}
 use Rattle.rules.specs.Layout.{SentenceLaid}
-use Rattle.rules.proofs.EachElement.{each-then, each_both, each_of, each_map}
-use Rattle.rules.proofs.Sorting.{any-sorted}
-use Rattle.rules.proofs.NoGap.{listed-member}
-use Rattle.rules.proofs.SentencesKept.{edges-append}
+use Rattle.rules.proofs.EachElement.{each_then, each_both, each_of, each_map}
+use Rattle.rules.proofs.Sorting.{any_sorted}
+use Rattle.rules.proofs.NoGap.{listed_member}
+use Rattle.rules.proofs.SentencesKept.{edges_append}
 use Rattle.rules.proofs.FieldsOnSheet.{no_field}
 use Rattle.rules.proofs.LaidOut.{laid_out}
-use Rattle.rules.proofs.FromThere.{from-there}
-use Rattle.sentence_sheet.specs.FlatEdges.{edgeWidth, edgesAmong, flatEdges}
+use Rattle.rules.proofs.FromThere.{from_there}
+use Rattle.sentence_sheet.specs.FlatEdges.{edge_width, edges_among, flat_edges}
 use Rattle.sentences.specs.UsedRoom.{Unused, UsedOnly}
-use Rattle.sentences.proofs.Growing.{listed-apart, flat-behind}
+use Rattle.sentences.proofs.Growing.{listed_apart, flat_behind}
 use Rattle.sentence_text.specs.Printable.{Printable}
-use Rattle.sentence_text.proofs.EdgesReadBack.{length-flat}
-use Rattle.sentence_text.proofs.HandedPrintable.{handed-printable}
-use Rattle.writing.specs.TextParts.{sentenceLong}
+use Rattle.sentence_text.proofs.EdgesReadBack.{length_flat}
+use Rattle.sentence_text.proofs.HandedPrintable.{handed_printable}
+use Rattle.writing.specs.TextParts.{sentence_long}
 use Rattle.writing.specs.Ready.{ReadyToPrint, Found, Entry}
-use Rattle.writing.proofs.TextLengths.{handed-short}
+use Rattle.writing.proofs.TextLengths.{handed_short}
 
 -- ---- numbers that no node has
 
 abbrev Outside : ℕ → ℕ → ℕ → Type 0
 Outside n from count = (n < from) ⊎ (from + count ≤ n)
 
-not-counted : (n from count : ℕ) → Outside n from count → member n (counting from count) ≡ false
-not-counted n from zero o = refl
-not-counted n from (suc count) o =
-    rw (ne_eqb n from (λ e. away o e)) (not-counted n (suc from) count (further o))
+not_counted : (n from count : ℕ) → Outside n from count → member n (counting from count) ≡ false
+not_counted n from zero o = refl
+not_counted n from (suc count) o =
+    rw (ne_eqb n from (λ e. away o e)) (not_counted n (suc from) count (further o))
   where
     away : Outside n from (suc count) → n ≡ from → ⊥
     away (inl h) e = omega (arith, h, e)
@@ -58,63 +58,63 @@ not-counted n from (suc count) o =
     further (inr h) = inr (omega (arith, h))
 
 -- nodes with the numbers that are counted
-not_listed : (ns : List Node) (n from count : ℕ) → map nodeNumber ns ≡ counting from count → Outside n from count → listed ns n ≡ false
-not_listed ns n from count e o = listed-member ns n ∙ ap (member n) e ∙ not-counted n from count o
+not_listed : (ns : List Node) (n from count : ℕ) → map node_number ns ≡ counting from count → Outside n from count → listed ns n ≡ false
+not_listed ns n from count e o = listed_member ns n ∙ ap (member n) e ∙ not_counted n from count o
 
 -- ---- what a sentence left unused
 
 module _ (file : List ℕ) (s : Sentence) (p : Printable file s) (laid : SentenceLaid s) where
   abbrev sheet : List ℕ
-  sheet = sentenceSheet s
+  sheet = sentence_sheet s
 
   no_node : (k : ℕ) → Outside k 0 (length s.words) → Outside k 500 (length s.phrases) → listed (nodes s) k ≡ false
   no_node k a b =
-      listed-apart s.words s.phrases k (not_listed s.words k 0 (length s.words) p.in_order a)
-      (sym (any-sorted nodeNumber (λ (q : Node). eqb k q.number) s.phrases)
-      ∙ not_listed (sorted nodeNumber s.phrases) k 500 (length s.phrases) p.no_gap b)
+      listed_apart s.words s.phrases k (not_listed s.words k 0 (length s.words) p.in_order a)
+      (sym (any_sorted node_number (λ (q : Node). eqb k q.number) s.phrases)
+      ∙ not_listed (sorted node_number s.phrases) k 500 (length s.phrases) p.no_gap b)
 
-  unused : (k : ℕ) → k < nodeRoom → listed (nodes s) k ≡ false → Unused sheet k
+  unused : (k : ℕ) → k < node_room → listed (nodes s) k ≡ false → Unused sheet k
   unused k h e field l = no_field s field k l h e
 
-  edge-count : get_or sheet edgesPlace 0 ≡ edge_count (nodes s)
-  unfolding sentenceSheet
-  edge-count = sym (edges-append s.words s.phrases)
+  edge_count_lem : get_or sheet edges_place 0 ≡ edge_count (nodes s)
+  unfolding sentence_sheet
+  edge_count_lem = sym (edges_append s.words s.phrases)
 
-  few : edge_count (nodes s) ≤ edgeLimit
-  few = omega (arith, p.few-edges, edges-append s.words s.phrases)
+  few : edge_count (nodes s) ≤ edge_limit
+  few = omega (arith, p.few_edges, edges_append s.words s.phrases)
 
-  used-only : UsedOnly sheet (flatEdges (edgesAmong (nodes s)))
-  used-only =
+  used_only : UsedOnly sheet (flat_edges (edges_among (nodes s)))
+  used_only =
       record {
-        sheet-size = laid.size;
-        edges-size = length-flat (nodes s) few;
+        sheet_size = laid.size;
+        edges_size = length_flat (nodes s) few;
         words = omega (arith, laid.words, p.few_words);
-        phrases = omega (arith, laid.phrases, p.few-phrases);
-        few = omega (arith, edge-count, few);
+        phrases = omega (arith, laid.phrases, p.few_phrases);
+        few = omega (arith, edge_count_lem, few);
         no_word = λ k a b. unused k (omega (arith, b)) (no_node k (inr (omega (arith, a, laid.words))) (inl b));
-        no-phrase = λ k a b. unused k b (no_node k (inr (omega (arith, a, p.few_words))) (inr (omega (arith, a, laid.phrases))));
-        no_edge = λ k a. flat-behind (nodes s) k (omega (arith, a, edge-count));
+        no_phrase = λ k a b. unused k b (no_node k (inr (omega (arith, a, p.few_words))) (inr (omega (arith, a, laid.phrases))));
+        no_edge = λ k a. flat_behind (nodes s) k (omega (arith, a, edge_count_lem));
       }
 
 -- ---- every sentence handed out
 
 abbrev There : List ℕ → Handed → Type 0
-There file h = sentenceFrom file h.sentence.start ≡ some h.sentence
+There file h = sentence_from file h.sentence.start ≡ some h.sentence
 
 module _ (file : List ℕ) where
   abbrev handed : List Handed
-  handed = (surveyOf file).handed
+  handed = (survey_of file).handed
 
   abbrev IsShort : Handed → Type 0
-  IsShort h = length (sentenceText (meantSentence h.sentence)) ≤ sentenceLong
+  IsShort h = length (sentence_text (meant_sentence h.sentence)) ≤ sentence_long
 
-  each-ready : Each (λ (h : Handed). ReadyToPrint file h.sentence) handed
-  each-ready =
-      let printable = handed-printable file in
-      let few = each-then (λ (h : Handed). Printable file h.sentence) (λ (h : Handed). length h.sentence.phrases ≤ 500) (λ h p. p.few-phrases) handed printable in
-      each-then (λ (h : Handed). Printable file h.sentence × (SentenceLaid h.sentence × IsShort h)) (λ (h : Handed). ReadyToPrint file h.sentence)
-      (λ h a. record { printable = a.0; used = used-only file h.sentence a.0 a.1.0; short = a.1.1 })
-      handed (each_both _ _ handed printable (each_both _ _ handed (laid_out file).sentences (handed-short file few)))
+  each_ready : Each (λ (h : Handed). ReadyToPrint file h.sentence) handed
+  each_ready =
+      let printable = handed_printable file in
+      let few = each_then (λ (h : Handed). Printable file h.sentence) (λ (h : Handed). length h.sentence.phrases ≤ 500) (λ h p. p.few_phrases) handed printable in
+      each_then (λ (h : Handed). Printable file h.sentence × (SentenceLaid h.sentence × IsShort h)) (λ (h : Handed). ReadyToPrint file h.sentence)
+      (λ h a. record { printable = a.0; used = used_only file h.sentence a.0 a.1.0; short = a.1.1 })
+      handed (each_both _ _ handed printable (each_both _ _ handed (laid_out file).sentences (handed_short file few)))
 
   entry_of : (n : ℕ) (hs : List Handed) → Each (λ (h : Handed). There file h × ReadyToPrint file h.sentence) hs → Entry file (beginning hs n)
   entry_of n [] a = tt
@@ -124,8 +124,8 @@ module _ (file : List ℕ) where
       by true more = record { sentence = h.sentence; its = a.0.0; ready = a.0.1 }
       by false more = more
 
-  pub entries-ready : Each (Entry file) (beginnings 0 indexSize handed)
+  pub entries_ready : Each (Entry file) (beginnings 0 index_size handed)
   unfolding beginnings
-  entries-ready =
-      each_map (beginning handed) (Entry file) (counting 0 indexSize)
-      (each_of (λ (n : ℕ). Entry file (beginning handed n)) (λ n. entry_of n handed (each_both (There file) _ handed (from-there file) each-ready)) (counting 0 indexSize))
+  entries_ready =
+      each_map (beginning handed) (Entry file) (counting 0 index_size)
+      (each_of (λ (n : ℕ). Entry file (beginning handed n)) (λ n. entry_of n handed (each_both (There file) _ handed (from_there file) each_ready)) (counting 0 index_size))

@@ -10,66 +10,66 @@ use lib.Dec.{eqb}
 use Rattle.rules.specs.Lists.{pick, bytes, joined, counting, sorted, Each}
 use Rattle.rules.specs.Sentences.{Sentence}
 use Rattle.rules.specs.Reading.{Handed}
-use Rattle.rules.specs.Survey.{Survey, surveyOf}
-use Rattle.rules.specs.Index.{beginning, beginnings, indexSize}
-use Rattle.rules.specs.SentenceFrom.{sentenceFrom}
-use Rattle.rules.specs.Meaning.{Meaning, sentenceNumberOf, meantSentence, meantSentences, meantTables, meaningOf}
-use Rattle.rules.specs.Same.{handedNumber}
-use Rattle.rules.specs.Tidy.{sentenceText, digitsOf, keywordLine, tablesText, tidyText}
-use Rattle.rules.specs.Writing.{tidyOf}
-use Rattle.rules.proofs.Elements.{map-map}
+use Rattle.rules.specs.Survey.{Survey, survey_of}
+use Rattle.rules.specs.Index.{beginning, beginnings, index_size}
+use Rattle.rules.specs.SentenceFrom.{sentence_from}
+use Rattle.rules.specs.Meaning.{Meaning, sentence_number_of, meant_sentence, meant_sentences, meant_tables, meaning_of}
+use Rattle.rules.specs.Same.{handed_number}
+use Rattle.rules.specs.Tidy.{sentence_text, digits_of, keyword_line, tables_text, tidy_text}
+use Rattle.rules.specs.Writing.{tidy_of}
+use Rattle.rules.proofs.Elements.{map_map}
 use Rattle.rules.proofs.EachElement.{each_of}
-use Rattle.rules.proofs.Sorting.{map-sorted}
-use Rattle.rules.proofs.HandedKept.{handed-kept}
-use Rattle.rules.proofs.NumbersDiffer.{numbers-differ}
-use Rattle.rules.proofs.FromThere.{from-there}
-use Rattle.rules.proofs.KeptReading.{accepted-kept}
-use Rattle.writing.specs.TextParts.{formatText, foundText, textFrom, sentencesText, partsText}
-use Rattle.writing.proofs.ByNumber.{numbered, sorted-numbered}
+use Rattle.rules.proofs.Sorting.{map_sorted}
+use Rattle.rules.proofs.HandedKept.{handed_kept}
+use Rattle.rules.proofs.NumbersDiffer.{numbers_differ}
+use Rattle.rules.proofs.FromThere.{from_there}
+use Rattle.rules.proofs.KeptReading.{accepted_kept}
+use Rattle.writing.specs.TextParts.{format_text, found_text, text_from, sentences_text, parts_text}
+use Rattle.writing.proofs.ByNumber.{numbered, sorted_numbered}
 
 abbrev meant : Handed → Sentence
-meant h = meantSentence h.sentence
+meant h = meant_sentence h.sentence
 
 abbrev printed : Handed → List ℕ
-printed h = sentenceText (meant h)
+printed h = sentence_text (meant h)
 
 module _ (file : List ℕ) where
   -- what is printed of a number begins where the number's sentence does
-  numbered-from : (n : ℕ) (hs : List Handed) → Each (λ (h : Handed). sentenceFrom file h.sentence.start ≡ some h.sentence) hs
-      → numbered handedNumber printed hs n ≡ textFrom file (beginning hs n)
-  unfolding textFrom foundText
-  numbered-from n [] a = refl
-  numbered-from n (h ∷ hs) a = by (eqb n h.sentence.heading.number) (numbered-from n hs a.1)
+  numbered_from : (n : ℕ) (hs : List Handed) → Each (λ (h : Handed). sentence_from file h.sentence.start ≡ some h.sentence) hs
+      → numbered handed_number printed hs n ≡ text_from file (beginning hs n)
+  unfolding text_from found_text
+  numbered_from n [] a = refl
+  numbered_from n (h ∷ hs) a = by (eqb n h.sentence.heading.number) (numbered_from n hs a.1)
     where
-      by : (t : Bool) → numbered handedNumber printed hs n ≡ textFrom file (beginning hs n)
-          → pick t (printed h) (numbered handedNumber printed hs n) ≡ textFrom file (pick t (suc h.sentence.start) (beginning hs n))
-      by true more = sym (ap foundText a.0)
+      by : (t : Bool) → numbered handed_number printed hs n ≡ text_from file (beginning hs n)
+          → pick t (printed h) (numbered handed_number printed hs n) ≡ text_from file (pick t (suc h.sentence.start) (beginning hs n))
+      by true more = sym (ap found_text a.0)
       by false more = more
 
   abbrev handed : List Handed
-  handed = (surveyOf file).handed
+  handed = (survey_of file).handed
 
-  all-numbered : (ns : List ℕ) → map (numbered handedNumber printed handed) ns ≡ map (textFrom file) (map (beginning handed) ns)
-  all-numbered [] = refl
-  all-numbered (n ∷ ns) = ap₂ ◌∷◌ (numbered-from n handed (from-there file)) (all-numbered ns)
+  all_numbered : (ns : List ℕ) → map (numbered handed_number printed handed) ns ≡ map (text_from file) (map (beginning handed) ns)
+  all_numbered [] = refl
+  all_numbered (n ∷ ns) = ap₂ ◌∷◌ (numbered_from n handed (from_there file)) (all_numbered ns)
 
-  numbers-high : Each (λ (h : Handed). handedNumber h < indexSize) handed
-  numbers-high = handed-kept (λ (v : Survey) (s : Sentence). s.heading.number < 65536) (λ v s k. omega (arith, k.part.heading.number.1)) file
+  numbers_high : Each (λ (h : Handed). handed_number h < index_size) handed
+  numbers_high = handed_kept (λ (v : Survey) (s : Sentence). s.heading.number < 65536) (λ v s k. omega (arith, k.part.heading.number.1)) file
 
-  pub sentences-by-number : joined (map sentenceText (meantSentences handed)) ≡ sentencesText file (beginnings 0 indexSize handed)
-  unfolding sentencesText beginnings
-  sentences-by-number =
-      ap (λ (ss : List Sentence). joined (map sentenceText ss)) (sym (map-sorted handedNumber sentenceNumberOf meant (λ h. refl) handed))
-      ∙ ap joined (map-map sentenceText meant (sorted handedNumber handed))
-      ∙ sorted-numbered handedNumber printed 0 indexSize handed (numbers-differ file).sentences (each_of _ (λ h. omega arith) handed) numbers-high
-      ∙ ap joined (all-numbered (counting 0 indexSize))
+  pub sentences_by_number : joined (map sentence_text (meant_sentences handed)) ≡ sentences_text file (beginnings 0 index_size handed)
+  unfolding sentences_text beginnings
+  sentences_by_number =
+      ap (λ (ss : List Sentence). joined (map sentence_text ss)) (sym (map_sorted handed_number sentence_number_of meant (λ h. refl) handed))
+      ∙ ap joined (map_map sentence_text meant (sorted handed_number handed))
+      ∙ sorted_numbered handed_number printed 0 index_size handed (numbers_differ file).sentences (each_of _ (λ h. omega arith) handed) numbers_high
+      ∙ ap joined (all_numbered (counting 0 index_size))
 
-  format-three : (surveyOf file).refusal ≡ 0 → (surveyOf file).format ≡ 3
-  unfolding meaningOf
-  format-three e = let k = accepted-kept file e in ap (λ (m : Meaning). m.format) k.meaning ∙ k.kept.preamble.format
+  format_three : (survey_of file).refusal ≡ 0 → (survey_of file).format ≡ 3
+  unfolding meaning_of
+  format_three e = let k = accepted_kept file e in ap (λ (m : Meaning). m.format) k.meaning ∙ k.kept.preamble.format
 
-  pub tidy-by-parts : (surveyOf file).refusal ≡ 0 → tidyOf file ≡ partsText file (surveyOf file).tables (beginnings 0 indexSize handed)
-  unfolding tidyOf tidyText meaningOf partsText
-  tidy-by-parts e =
-      ap (λ (n : ℕ). keywordLine (bytes "#FORMAT" ∷ digitsOf n ∷ []) ++ tablesText 0 (meantTables (surveyOf file).tables) ++ joined (map sentenceText (meantSentences handed))) (format-three e)
-      ∙ ap (λ (l : List ℕ). formatText ++ tablesText 0 (meantTables (surveyOf file).tables) ++ l) sentences-by-number
+  pub tidy_by_parts : (survey_of file).refusal ≡ 0 → tidy_of file ≡ parts_text file (survey_of file).tables (beginnings 0 index_size handed)
+  unfolding tidy_of tidy_text meaning_of parts_text
+  tidy_by_parts e =
+      ap (λ (n : ℕ). keyword_line (bytes "#FORMAT" ∷ digits_of n ∷ []) ++ tables_text 0 (meant_tables (survey_of file).tables) ++ joined (map sentence_text (meant_sentences handed))) (format_three e)
+      ∙ ap (λ (l : List ℕ). format_text ++ tables_text 0 (meant_tables (survey_of file).tables) ++ l) sentences_by_number

@@ -5,35 +5,35 @@ use mathlib.Core.Path.{◌≡◌}
 use mathlib.Core.Option.{Option, none, some}
 use mathlib.Core.List.{List}
 use lib.ListN.{get_or}
-use Rattle.rules.specs.Numbers.{rowLimit}
+use Rattle.rules.specs.Numbers.{row_limit}
 use Rattle.rules.specs.Tables.{Row, Tables, table}
-use Rattle.rules.specs.Sheets.{tableCount, count, tableSheet}
-use Rattle.rules.specs.Survey.{surveyOf}
+use Rattle.rules.specs.Sheets.{table_count, count, table_sheet}
+use Rattle.rules.specs.Survey.{survey_of}
 use Rattle.table_sheet.specs.Standing.{TableHasRoom}
 use Rattle.rules.proofs.Rooms.{each_at}
-use Rattle.table_sheet.proofs.OpenSheets.{length-table-sheet, count-of-table}
-use Rattle.citations.proofs.SurveyedTables.{have-room, sheet-tabled}
+use Rattle.table_sheet.proofs.OpenSheets.{length_table_sheet, count_of_table}
+use Rattle.citations.proofs.SurveyedTables.{have_room, sheet_tabled}
 use Rattle.table_text.specs.WholeSheets.{WholeSheet}
 
 -- ---- room
 
-count-bound : (t : Option (List Row)) → TableHasRoom t → count t ≤ suc rowLimit
-count-bound none h = omega arith
-count-bound (some rs) h = omega (arith, h)
+count_bound : (t : Option (List Row)) → TableHasRoom t → count t ≤ suc row_limit
+count_bound none h = omega arith
+count_bound (some rs) h = omega (arith, h)
 
 -- ---- any file
 
 module _ (file : List ℕ) where
   abbrev ts : Tables
-  ts = (surveyOf file).tables
+  ts = (survey_of file).tables
 
-  count-is : (n : ℕ) → n < tableCount → get_or (tableSheet ts) n 0 ≡ count (table n ts)
-  count-is n h = count-of-table ts n (omega (arith, (have-room file).seven))
+  count_is : (n : ℕ) → n < table_count → get_or (table_sheet ts) n 0 ≡ count (table n ts)
+  count_is n h = count_of_table ts n (omega (arith, (have_room file).seven))
 
-  pub tables-told : WholeSheet file (tableSheet ts)
-  tables-told =
+  pub tables_told : WholeSheet file (table_sheet ts)
+  tables_told =
       record {
-        size = length-table-sheet ts (have-room file);
-        counts = λ n h. rw (count-is n h) (count-bound (table n ts) (each_at TableHasRoom ts n none (have-room file).room (omega (arith, (have-room file).seven))));
-        inside = (sheet-tabled file).inside;
+        size = length_table_sheet ts (have_room file);
+        counts = λ n h. rw (count_is n h) (count_bound (table n ts) (each_at TableHasRoom ts n none (have_room file).room (omega (arith, (have_room file).seven))));
+        inside = (sheet_tabled file).inside;
       }

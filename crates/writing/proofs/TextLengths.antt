@@ -10,64 +10,64 @@ use Rattle.rules.specs.Bytes.{newline, ignored}
 use Rattle.rules.specs.Tables.{Tables}
 use Rattle.rules.specs.Sentences.{Node, Heading, Sentence}
 use Rattle.rules.specs.Reading.{Handed}
-use Rattle.rules.specs.Survey.{Survey, surveyOf}
-use Rattle.rules.specs.Meaning.{bareNode, nodeNumber, meantTables, meantSentence}
-use Rattle.rules.specs.Tidy.{space, digitsOf, keywordLine, nodeLine, headingLine, sentenceText}
-use Rattle.rules.proofs.EachElement.{each-then, each_both}
-use Rattle.rules.proofs.Sorting.{length-sorted}
-use Rattle.rules.proofs.PrintedLines.{parted-printed, parted-plain}
+use Rattle.rules.specs.Survey.{Survey, survey_of}
+use Rattle.rules.specs.Meaning.{bare_node, node_number, meant_tables, meant_sentence}
+use Rattle.rules.specs.Tidy.{space, digits_of, keyword_line, node_line, heading_line, sentence_text}
+use Rattle.rules.proofs.EachElement.{each_then, each_both}
+use Rattle.rules.proofs.Sorting.{length_sorted}
+use Rattle.rules.proofs.PrintedLines.{parted_printed, parted_plain}
 use Rattle.rules.proofs.LineFit.{LineFit}
-use Rattle.rules.proofs.KeywordLines.{keyed, keyed-number-fit}
-use Rattle.rules.proofs.Headings.{headingColumns, printedHeading, HeadingKept}
-use Rattle.rules.proofs.NodesKept.{printedNode, WordKept, PhraseKept}
-use Rattle.rules.proofs.NodesBack.{node-printed}
-use Rattle.rules.proofs.SentencesKept.{bareSentence, byNumber, SentenceKept, sentence-sorted, meant-by-number}
-use Rattle.rules.proofs.HandedKept.{handed-kept}
-use Rattle.writing.specs.TextParts.{lineMost, sentenceLong}
+use Rattle.rules.proofs.KeywordLines.{keyed, keyed_number_fit}
+use Rattle.rules.proofs.Headings.{heading_columns, printed_heading, HeadingKept}
+use Rattle.rules.proofs.NodesKept.{printed_node, WordKept, PhraseKept}
+use Rattle.rules.proofs.NodesBack.{node_printed}
+use Rattle.rules.proofs.SentencesKept.{bare_sentence, by_number, SentenceKept, sentence_sorted, meant_by_number}
+use Rattle.rules.proofs.HandedKept.{handed_kept}
+use Rattle.writing.specs.TextParts.{line_most, sentence_long}
 
 -- ---- lines
 
-ended-short : (l : List ℕ) → LineFit l → length (l ++ (newline ∷ [])) ≤ lineMost
-ended-short l f = omega (arith, length-append l (newline ∷ []), f.short)
+ended_short : (l : List ℕ) → LineFit l → length (l ++ (newline ∷ [])) ≤ line_most
+ended_short l f = omega (arith, length-append l (newline ∷ []), f.short)
 
-node-short : (n : Node) → LineFit (printedNode n) → length (nodeLine n) ≤ lineMost
-node-short n f = subst (λ (l : List ℕ). length l ≤ lineMost) (sym (node-printed n)) (ended-short (printedNode n) f)
+node_short : (n : Node) → LineFit (printed_node n) → length (node_line n) ≤ line_most
+node_short n f = subst (λ (l : List ℕ). length l ≤ line_most) (sym (node_printed n)) (ended_short (printed_node n) f)
 
-heading-short : (s : Sentence) (ts : Tables) → HeadingKept ts s.heading → length (headingLine s) ≤ lineMost
-heading-short s ts k =
-    subst (λ (l : List ℕ). length l ≤ lineMost) (sym (parted-printed space (bytes "#BOS") (headingColumns s.heading) s.heading.comment))
-    (ended-short (printedHeading s.heading) k.fit)
+heading_short : (s : Sentence) (ts : Tables) → HeadingKept ts s.heading → length (heading_line s) ≤ line_most
+heading_short s ts k =
+    subst (λ (l : List ℕ). length l ≤ line_most) (sym (parted_printed space (bytes "#BOS") (heading_columns s.heading) s.heading.comment))
+    (ended_short (printed_heading s.heading) k.fit)
 
-eos-seen : ignored (bytes "#EOS") ≡ false
+eos_seen : ignored (bytes "#EOS") ≡ false
 unfolding ignored
-eos-seen = refl
+eos_seen = refl
 
-end_short : (n : ℕ) → n ≤ 65535 → length (keywordLine (bytes "#EOS" ∷ digitsOf n ∷ [])) ≤ lineMost
+end_short : (n : ℕ) → n ≤ 65535 → length (keyword_line (bytes "#EOS" ∷ digits_of n ∷ [])) ≤ line_most
 end_short n h =
-    subst (λ (l : List ℕ). length l ≤ lineMost) (sym (parted-plain space (bytes "#EOS") (digitsOf n ∷ [])))
-    (ended-short (keyed (bytes "#EOS") (digitsOf n)) (keyed-number-fit (bytes "#EOS") n refl eos-seen refl (omega arith) (omega (arith, h))))
+    subst (λ (l : List ℕ). length l ≤ line_most) (sym (parted_plain space (bytes "#EOS") (digits_of n ∷ [])))
+    (ended_short (keyed (bytes "#EOS") (digits_of n)) (keyed_number_fit (bytes "#EOS") n refl eos_seen refl (omega arith) (omega (arith, h))))
 
-nodes-short : (ns : List Node) → Each (λ (n : Node). length (nodeLine n) ≤ lineMost) ns → length (joined (map nodeLine ns)) ≤ lineMost * length ns
-nodes-short [] a = omega arith
-nodes-short (n ∷ ns) a = omega (arith, length-append (nodeLine n) (joined (map nodeLine ns)), a.0, nodes-short ns a.1)
+nodes_short : (ns : List Node) → Each (λ (n : Node). length (node_line n) ≤ line_most) ns → length (joined (map node_line ns)) ≤ line_most * length ns
+nodes_short [] a = omega arith
+nodes_short (n ∷ ns) a = omega (arith, length-append (node_line n) (joined (map node_line ns)), a.0, nodes_short ns a.1)
 
 -- ---- a sentence
 
-kept-short : (format : ℕ) (ts : Tables) (s : Sentence) → SentenceKept format ts s → length s.phrases ≤ 500 → length (sentenceText s) ≤ sentenceLong
-kept-short format ts s k few =
+kept_short : (format : ℕ) (ts : Tables) (s : Sentence) → SentenceKept format ts s → length s.phrases ≤ 500 → length (sentence_text s) ≤ sentence_long
+kept_short format ts s k few =
     let part = k.part in
-    let a = headingLine s in
-    let b = joined (map nodeLine s.words) in
-    let c = joined (map nodeLine s.phrases) in
-    let d = keywordLine (bytes "#EOS" ∷ digitsOf s.heading.number ∷ []) in
-    let words = nodes-short s.words (each-then (WordKept format ts) (λ (n : Node). length (nodeLine n) ≤ lineMost) (λ n w. node-short n w.node.fit) s.words part.words) in
-    let phrases = nodes-short s.phrases (each-then (PhraseKept format ts) (λ (n : Node). length (nodeLine n) ≤ lineMost) (λ n w. node-short n w.node.fit) s.phrases part.phrases) in
+    let a = heading_line s in
+    let b = joined (map node_line s.words) in
+    let c = joined (map node_line s.phrases) in
+    let d = keyword_line (bytes "#EOS" ∷ digits_of s.heading.number ∷ []) in
+    let words = nodes_short s.words (each_then (WordKept format ts) (λ (n : Node). length (node_line n) ≤ line_most) (λ n w. node_short n w.node.fit) s.words part.words) in
+    let phrases = nodes_short s.phrases (each_then (PhraseKept format ts) (λ (n : Node). length (node_line n) ≤ line_most) (λ n w. node_short n w.node.fit) s.phrases part.phrases) in
     omega (
       arith,
       length-append (a ++ b ++ c) d,
       length-append (a ++ b) c,
       length-append a b,
-      heading-short s ts part.heading,
+      heading_short s ts part.heading,
       words,
       phrases,
       end_short s.heading.number part.heading.number.1,
@@ -77,17 +77,17 @@ kept-short format ts s k few =
 
 -- ---- any file
 
-pub handed-short : (file : List ℕ) → Each (λ (h : Handed). length h.sentence.phrases ≤ 500) (surveyOf file).handed
-    → Each (λ (h : Handed). length (sentenceText (meantSentence h.sentence)) ≤ sentenceLong) (surveyOf file).handed
-handed-short file few =
-    each-then (λ (h : Handed). (length h.sentence.phrases ≤ 500) × (length h.sentence.phrases ≤ 500 → length (sentenceText (meantSentence h.sentence)) ≤ sentenceLong))
-    (λ (h : Handed). length (sentenceText (meantSentence h.sentence)) ≤ sentenceLong) (λ h a. a.1 a.0) (surveyOf file).handed
-    (each_both _ _ (surveyOf file).handed few
-    (handed-kept (λ (v : Survey) (s : Sentence). length s.phrases ≤ 500 → length (sentenceText (meantSentence s)) ≤ sentenceLong) of-kept file))
+pub handed_short : (file : List ℕ) → Each (λ (h : Handed). length h.sentence.phrases ≤ 500) (survey_of file).handed
+    → Each (λ (h : Handed). length (sentence_text (meant_sentence h.sentence)) ≤ sentence_long) (survey_of file).handed
+handed_short file few =
+    each_then (λ (h : Handed). (length h.sentence.phrases ≤ 500) × (length h.sentence.phrases ≤ 500 → length (sentence_text (meant_sentence h.sentence)) ≤ sentence_long))
+    (λ (h : Handed). length (sentence_text (meant_sentence h.sentence)) ≤ sentence_long) (λ h a. a.1 a.0) (survey_of file).handed
+    (each_both _ _ (survey_of file).handed few
+    (handed_kept (λ (v : Survey) (s : Sentence). length s.phrases ≤ 500 → length (sentence_text (meant_sentence s)) ≤ sentence_long) of_kept file))
   where
-    of-kept : (v : Survey) (s : Sentence) → SentenceKept v.format (meantTables v.tables) (bareSentence s) → length s.phrases ≤ 500 → length (sentenceText (meantSentence s)) ≤ sentenceLong
-    of-kept v s k few =
-        let ps = map bareNode s.phrases in
-        let count : length (sorted nodeNumber ps) ≡ length s.phrases = length-sorted nodeNumber ps ∙ length-map s.phrases bareNode in
-        subst (λ (t : Sentence). length (sentenceText t) ≤ sentenceLong) (sym (meant-by-number s))
-        (kept-short v.format (meantTables v.tables) (byNumber (bareSentence s)) (sentence-sorted v.format (meantTables v.tables) (bareSentence s) k) (omega (arith, count, few)))
+    of_kept : (v : Survey) (s : Sentence) → SentenceKept v.format (meant_tables v.tables) (bare_sentence s) → length s.phrases ≤ 500 → length (sentence_text (meant_sentence s)) ≤ sentence_long
+    of_kept v s k few =
+        let ps = map bare_node s.phrases in
+        let count : length (sorted node_number ps) ≡ length s.phrases = length_sorted node_number ps ∙ length-map s.phrases bare_node in
+        subst (λ (t : Sentence). length (sentence_text t) ≤ sentence_long) (sym (meant_by_number s))
+        (kept_short v.format (meant_tables v.tables) (by_number (bare_sentence s)) (sentence_sorted v.format (meant_tables v.tables) (bare_sentence s) k) (omega (arith, count, few)))

@@ -2,10 +2,10 @@
 -- records, and 1 for a list of another length. Then what is answered and written by a text that is known.
 use Rattle.std.specs.Prelude.{ℕ, ◌≡◌, Bool, ◌&&◌, List, length, leb, eqb}
 use Rattle.rules.specs.Lists.{pick}
-use Rattle.rules.specs.Numbers.{fileLimit, edgeLimit}
+use Rattle.rules.specs.Numbers.{file_limit, edge_limit}
 use Rattle.rules.specs.Writing as rules
-use Rattle.rules.specs.Layout.{flatList}
-use Rattle.opening.specs.FlatLists.{edgeRecords, flatSize}
+use Rattle.rules.specs.Layout.{flat_list}
+use Rattle.opening.specs.FlatLists.{edge_records, flat_size}
 use Rattle.writing.specs.declared.Written.{Written}
 
 -- ---- with lent buffers
@@ -19,12 +19,12 @@ pub record WrittenFlat : Type 0 where
   pub output : List ℕ
 
 abbrev pub flattened : rules.WritingOutcome → WrittenFlat
-flattened o = record { answer = o.answer; tables = o.tables; seen = o.seen; sheet = o.sheet; edges = flatList o.edges; output = o.output }
+flattened o = record { answer = o.answer; tables = o.tables; seen = o.seen; sheet = o.sheet; edges = flat_list o.edges; output = o.output }
 
-unfoldable pub afterWritingFlat : List ℕ → List ℕ → List ℕ → List ℕ → List ℕ → List ℕ → WrittenFlat
-afterWritingFlat file tables seen sheet edges output =
-    pick (eqb (length edges) flatSize)
-    (flattened (rules.afterWriting file tables seen sheet (edgeRecords edgeLimit edges) output))
+unfoldable pub after_writing_flat : List ℕ → List ℕ → List ℕ → List ℕ → List ℕ → List ℕ → WrittenFlat
+after_writing_flat file tables seen sheet edges output =
+    pick (eqb (length edges) flat_size)
+    (flattened (rules.after_writing file tables seen sheet (edge_records edge_limit edges) output))
     (record { answer = record { refusal = 1; place = 0; written = 0 }; tables = tables; seen = seen; sheet = sheet; edges = edges; output = output })
 
 abbrev pub answer_of : Written → rules.Written
@@ -36,15 +36,15 @@ outcome r tables seen sheet edges output =
 
 -- ---- by a text
 
-abbrev pub hasRoom : List ℕ → List ℕ → Bool
-hasRoom text output = leb (length text) (length output) && leb (length text) fileLimit
+abbrev pub has_room : List ℕ → List ℕ → Bool
+has_room text output = leb (length text) (length output) && leb (length text) file_limit
 
-abbrev pub answerBy : List ℕ → List ℕ → List ℕ → rules.Written
-answerBy file text output =
-    pick (hasRoom text output)
+abbrev pub answer_by : List ℕ → List ℕ → List ℕ → rules.Written
+answer_by file text output =
+    pick (has_room text output)
     (record { refusal = 0; place = length file; written = length text })
     (record { refusal = 25; place = length file; written = 0 })
 
 pub record WrittenBy (file text output : List ℕ) (r : Written) (after : List ℕ) : Type 0 where
-  pub answer : answer_of r ≡ answerBy file text output
-  pub output-is : after ≡ pick (hasRoom text output) (rules.writtenOver text output) output
+  pub answer : answer_of r ≡ answer_by file text output
+  pub output_is : after ≡ pick (has_room text output) (rules.written_over text output) output

@@ -2,46 +2,46 @@
 use Rattle.std.specs.Prelude.{ℕ, zero, suc, ◌+◌, ◌*◌, length, List, [], ◌++◌, map}
 use Rattle.std.proofs.Math.Option.{Option, none, some}
 use Rattle.rules.specs.Lists.{bytes, joined}
-use Rattle.rules.specs.Numbers.{lineLimit}
+use Rattle.rules.specs.Numbers.{line_limit}
 use Rattle.rules.specs.Sentences.{Sentence}
-use Rattle.rules.specs.Index.{indexSize}
-use Rattle.rules.specs.SentenceFrom.{sentenceFrom}
-use Rattle.rules.specs.Meaning.{meantSentence, meantTables}
+use Rattle.rules.specs.Index.{index_size}
+use Rattle.rules.specs.SentenceFrom.{sentence_from}
+use Rattle.rules.specs.Meaning.{meant_sentence, meant_tables}
 use Rattle.rules.specs.Tables.{Tables}
-use Rattle.rules.specs.Tidy.{tablesText, sentenceText}
-use Rattle.table_text.specs.TablesShown.{tablesMost}
+use Rattle.rules.specs.Tidy.{tables_text, sentence_text}
+use Rattle.table_text.specs.TablesShown.{tables_most}
 
-abbrev pub formatText : List ℕ
-formatText = bytes "#FORMAT 3\n"
+abbrev pub format_text : List ℕ
+format_text = bytes "#FORMAT 3\n"
 
 -- nothing where there is no sentence
-unfoldable pub foundText : Option Sentence → List ℕ
-foundText none = []
-foundText (some s) = sentenceText (meantSentence s)
+unfoldable pub found_text : Option Sentence → List ℕ
+found_text none = []
+found_text (some s) = sentence_text (meant_sentence s)
 
 -- by one more than the place where the sentence begins, or 0 for none
-unfoldable pub textFrom : List ℕ → ℕ → List ℕ
-textFrom file zero = []
-textFrom file (suc place) = foundText (sentenceFrom file place)
+unfoldable pub text_from : List ℕ → ℕ → List ℕ
+text_from file zero = []
+text_from file (suc place) = found_text (sentence_from file place)
 
-unfoldable pub sentencesText : List ℕ → List ℕ → List ℕ
-sentencesText file begins = joined (map (textFrom file) begins)
+unfoldable pub sentences_text : List ℕ → List ℕ → List ℕ
+sentences_text file begins = joined (map (text_from file) begins)
 
-unfoldable pub partsText : List ℕ → Tables → List ℕ → List ℕ
-partsText file tables begins = formatText ++ tablesText 0 (meantTables tables) ++ sentencesText file begins
+unfoldable pub parts_text : List ℕ → Tables → List ℕ → List ℕ
+parts_text file tables begins = format_text ++ tables_text 0 (meant_tables tables) ++ sentences_text file begins
 
 -- ---- the most bytes that are printed
 
 -- a line and its newline
-abbrev pub lineMost : ℕ
-lineMost = suc lineLimit
+abbrev pub line_most : ℕ
+line_most = suc line_limit
 
 -- #BOS, 500 words, 500 phrases, #EOS
-abbrev pub sentenceLong : ℕ
-sentenceLong = lineMost * 1002
+abbrev pub sentence_long : ℕ
+sentence_long = line_most * 1002
 
-abbrev pub sentencesMost : ℕ
-sentencesMost = sentenceLong * indexSize
+abbrev pub sentences_most : ℕ
+sentences_most = sentence_long * index_size
 
-abbrev pub fileMost : ℕ
-fileMost = length formatText + tablesMost + sentencesMost
+abbrev pub file_most : ℕ
+file_most = length format_text + tables_most + sentences_most

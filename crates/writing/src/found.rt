@@ -1,16 +1,16 @@
 // The sentences of a file by their numbers, each read where an index says that it begins, printed and cleared.
 ghost use Rattle.std.specs.Prelude.{◌≡◌, ◌+◌, ◌*◌, ◌≤◌, length, replicate};
 ghost use Rattle.rules.specs.Lists.{Each};
-ghost use Rattle.rules.specs.Bytes.{classTable};
-ghost use Rattle.rules.specs.Numbers.{fileLimit, edgeLimit};
-ghost use Rattle.rules.specs.Index.{indexSize};
-ghost use Rattle.rules.specs.SheetFields.{nodeRoom};
-ghost use Rattle.rules.specs.Sheets.{sentenceSheetSize};
-ghost use Rattle.sentence_sheet.specs.FlatEdges.{edgeWidth};
+ghost use Rattle.rules.specs.Bytes.{class_table};
+ghost use Rattle.rules.specs.Numbers.{file_limit, edge_limit};
+ghost use Rattle.rules.specs.Index.{index_size};
+ghost use Rattle.rules.specs.SheetFields.{node_room};
+ghost use Rattle.rules.specs.Sheets.{sentence_sheet_size};
+ghost use Rattle.sentence_sheet.specs.FlatEdges.{edge_width};
 ghost use Rattle.sentences.specs.Keeping.{MarkedUpTo};
 ghost use Rattle.printing.specs.Over.{farthest, Put};
-ghost use Rattle.sentence_text.specs.Readable.{sentenceMost};
-ghost use Rattle.writing.specs.TextParts.{textFrom, sentencesText, sentenceLong, sentencesMost};
+ghost use Rattle.sentence_text.specs.Readable.{sentence_most};
+ghost use Rattle.writing.specs.TextParts.{text_from, sentences_text, sentence_long, sentences_most};
 ghost use Rattle.writing.specs.Ready.{Entry};
 
 use columns::listing::Places;
@@ -33,8 +33,8 @@ fn print_begun(
     out: &mut [u8],
     at: usize,
 ) -> usize
-    requires { (classes.now ≡ classTable) × (length file.now ≤ fileLimit) × Entry file.now begin × (sheet.old ≡ replicate sentenceSheetSize 0) × (edges.old ≡ replicate (edgeLimit * edgeWidth) 0) × (firsts.old ≡ replicate nodeRoom 0) × (at + sentenceMost ≤ farthest) × (handed ≤ fileLimit) × MarkedUpTo handed marks.old }
-    ensures { Put sentenceLong (textFrom file.now begin) at out.old result out.new × (sheet.new ≡ replicate sentenceSheetSize 0) × (edges.new ≡ replicate (edgeLimit * edgeWidth) 0) × (firsts.new ≡ replicate nodeRoom 0) × MarkedUpTo (handed + 1) marks.new }
+    requires { (classes.now ≡ class_table) × (length file.now ≤ file_limit) × Entry file.now begin × (sheet.old ≡ replicate sentence_sheet_size 0) × (edges.old ≡ replicate (edge_limit * edge_width) 0) × (firsts.old ≡ replicate node_room 0) × (at + sentence_most ≤ farthest) × (handed ≤ file_limit) × MarkedUpTo handed marks.old }
+    ensures { Put sentence_long (text_from file.now begin) at out.old result out.new × (sheet.new ≡ replicate sentence_sheet_size 0) × (edges.new ≡ replicate (edge_limit * edge_width) 0) × (firsts.new ≡ replicate node_room 0) × MarkedUpTo (handed + 1) marks.new }
 {
     if begin == 0 {
         return at;
@@ -56,8 +56,8 @@ pub fn print_sentences(
     out: &mut [u8],
     at: usize,
 ) -> usize
-    requires { (length file.now ≤ fileLimit) × Each (Entry file.now) begins.now × (length begins.now ≤ indexSize) × (sheet.old ≡ replicate sentenceSheetSize 0) × (edges.old ≡ replicate (edgeLimit * edgeWidth) 0) × (at + (sentencesMost + sentenceMost) ≤ farthest) }
-    ensures { Put sentencesMost (sentencesText file.now begins.now) at out.old result out.new × (sheet.new ≡ replicate sentenceSheetSize 0) × (edges.new ≡ replicate (edgeLimit * edgeWidth) 0) }
+    requires { (length file.now ≤ file_limit) × Each (Entry file.now) begins.now × (length begins.now ≤ index_size) × (sheet.old ≡ replicate sentence_sheet_size 0) × (edges.old ≡ replicate (edge_limit * edge_width) 0) × (at + (sentences_most + sentence_most) ≤ farthest) }
+    ensures { Put sentences_most (sentences_text file.now begins.now) at out.old result out.new × (sheet.new ≡ replicate sentence_sheet_size 0) × (edges.new ≡ replicate (edge_limit * edge_width) 0) }
 {
     let classes = classes::byte_classes();
     let hints = [0u8; table_sheet::HINTS];

@@ -3,17 +3,17 @@ mod found;
 
 ghost use Rattle.std.specs.Prelude.{◌≡◌, ◌+◌, ◌*◌, ◌≤◌, length, replicate};
 ghost use Rattle.rules.specs.Lists.{Each};
-ghost use Rattle.rules.specs.Numbers.{fileLimit, rowLimit, edgeLimit};
-ghost use Rattle.rules.specs.Index.{indexSize};
-ghost use Rattle.rules.specs.Sheets.{sentenceSheetSize};
-ghost use Rattle.table_sheet.specs.SheetRows.{tablesIn};
-ghost use Rattle.sentence_sheet.specs.FlatEdges.{edgeWidth};
-ghost use Rattle.opening.specs.Promise.{allFlatFit};
+ghost use Rattle.rules.specs.Numbers.{file_limit, row_limit, edge_limit};
+ghost use Rattle.rules.specs.Index.{index_size};
+ghost use Rattle.rules.specs.Sheets.{sentence_sheet_size};
+ghost use Rattle.table_sheet.specs.SheetRows.{tables_in};
+ghost use Rattle.sentence_sheet.specs.FlatEdges.{edge_width};
+ghost use Rattle.opening.specs.Promise.{all_flat_fit};
 ghost use Rattle.printing.specs.Over.{Put};
 ghost use Rattle.table_text.specs.WholeSheets.{WholeSheet};
-ghost use Rattle.writing.specs.TextParts.{partsText, fileMost};
+ghost use Rattle.writing.specs.TextParts.{parts_text, file_most};
 ghost use Rattle.writing.specs.Ready.{Entry};
-ghost use Rattle.writing.specs.Promise.{outcome, afterWritingFlat, WrittenBy};
+ghost use Rattle.writing.specs.Promise.{outcome, after_writing_flat, WrittenBy};
 
 use found::print_sentences;
 use steps::refusals;
@@ -30,7 +30,7 @@ pub struct Written {
 }
 
 fn buffers_fit(tables: &[u32], seen: &[u8], sheet: &[u32], edges: &[u32]) -> bool
-    ensures { result ≡ allFlatFit tables.now seen.now sheet.now edges.now }
+    ensures { result ≡ all_flat_fit tables.now seen.now sheet.now edges.now }
 {
     if !survey::sheets_fit(tables, seen) {
         return false;
@@ -47,8 +47,8 @@ fn print_file(
     edges: &mut [u32],
     out: &mut [u8],
 ) -> usize
-    requires { (length file.now ≤ fileLimit) × WholeSheet file.now tables.now × Each (Entry file.now) begins.now × (length begins.now ≤ indexSize) × (sheet.old ≡ replicate sentenceSheetSize 0) × (edges.old ≡ replicate (edgeLimit * edgeWidth) 0) }
-    ensures { Put fileMost (partsText file.now (tablesIn file.now tables.now) begins.now) 0 out.old result out.new × (sheet.new ≡ replicate sentenceSheetSize 0) × (edges.new ≡ replicate (edgeLimit * edgeWidth) 0) }
+    requires { (length file.now ≤ file_limit) × WholeSheet file.now tables.now × Each (Entry file.now) begins.now × (length begins.now ≤ index_size) × (sheet.old ≡ replicate sentence_sheet_size 0) × (edges.old ≡ replicate (edge_limit * edge_width) 0) }
+    ensures { Put file_most (parts_text file.now (tables_in file.now tables.now) begins.now) 0 out.old result out.new × (sheet.new ≡ replicate sentence_sheet_size 0) × (edges.new ≡ replicate (edge_limit * edge_width) 0) }
 {
     let headed = printing::put_text(b"#FORMAT 3\n", out, 0);
     let tabled = table_text::print_tables(file, tables, out, headed);
@@ -64,8 +64,8 @@ fn write_measured(
     sheet: &mut [u32],
     edges: &mut [u32],
 ) -> Written
-    requires { (length file.now ≤ fileLimit) × WholeSheet file.now tables.now × Each (Entry file.now) begins.now × (length begins.now ≤ indexSize) × (sheet.old ≡ replicate sentenceSheetSize 0) × (edges.old ≡ replicate (edgeLimit * edgeWidth) 0) }
-    ensures { WrittenBy file.now (partsText file.now (tablesIn file.now tables.now) begins.now) output.old result output.new × (sheet.new ≡ replicate sentenceSheetSize 0) × (edges.new ≡ replicate (edgeLimit * edgeWidth) 0) }
+    requires { (length file.now ≤ file_limit) × WholeSheet file.now tables.now × Each (Entry file.now) begins.now × (length begins.now ≤ index_size) × (sheet.old ≡ replicate sentence_sheet_size 0) × (edges.old ≡ replicate (edge_limit * edge_width) 0) }
+    ensures { WrittenBy file.now (parts_text file.now (tables_in file.now tables.now) begins.now) output.old result output.new × (sheet.new ≡ replicate sentence_sheet_size 0) × (edges.new ≡ replicate (edge_limit * edge_width) 0) }
 {
     let place = file.len() as u32;
     let mut nowhere = [0u8; 0];
@@ -101,8 +101,8 @@ fn write_read(
     sheet: &mut [u32],
     edges: &mut [u32],
 ) -> Written
-    requires { (length file.now ≤ fileLimit) × WholeSheet file.now tables.now × Each (Entry file.now) begins.now × (length begins.now ≤ indexSize) × (sheet.old ≡ replicate sentenceSheetSize 0) × (edges.old ≡ replicate (edgeLimit * edgeWidth) 0) × (length (partsText file.now (tablesIn file.now tables.now) begins.now) ≤ length file.now + 2 * rowLimit) }
-    ensures { WrittenBy file.now (partsText file.now (tablesIn file.now tables.now) begins.now) output.old result output.new × (sheet.new ≡ replicate sentenceSheetSize 0) × (edges.new ≡ replicate (edgeLimit * edgeWidth) 0) }
+    requires { (length file.now ≤ file_limit) × WholeSheet file.now tables.now × Each (Entry file.now) begins.now × (length begins.now ≤ index_size) × (sheet.old ≡ replicate sentence_sheet_size 0) × (edges.old ≡ replicate (edge_limit * edge_width) 0) × (length (parts_text file.now (tables_in file.now tables.now) begins.now) ≤ length file.now + 2 * row_limit) }
+    ensures { WrittenBy file.now (parts_text file.now (tables_in file.now tables.now) begins.now) output.old result output.new × (sheet.new ≡ replicate sentence_sheet_size 0) × (edges.new ≡ replicate (edge_limit * edge_width) 0) }
 {
     let most = file.len() + TIDY_ROOM;
     if most > output.len() {
@@ -128,7 +128,7 @@ pub fn write_flat(
     sheet: &mut [u32],
     edges: &mut [u32],
 ) -> Written
-    ensures { outcome result tables.new seen.new sheet.new edges.new output.new ≡ afterWritingFlat file.now tables.old seen.old sheet.old edges.old output.old }
+    ensures { outcome result tables.new seen.new sheet.new edges.new output.new ≡ after_writing_flat file.now tables.old seen.old sheet.old edges.old output.old }
 {
     if !buffers_fit(tables, seen, sheet, edges) {
         return Written {

@@ -1,13 +1,13 @@
 // The demands, of writings and of surveys of what they write: each the promise of a function that calls them and is proved from
 // their contracts alone. Nothing is required of what is lent.
 ghost use Rattle.std.specs.Prelude.{◌≡◌, ◌≢◌, List, ℕ, length, take};
-ghost use Rattle.rules.specs.Survey.{surveyOf};
-ghost use Rattle.rules.specs.Writing.{tidyOf};
+ghost use Rattle.rules.specs.Survey.{survey_of};
+ghost use Rattle.rules.specs.Writing.{tidy_of};
 ghost use Rattle.rules.specs.LentBuffers.{SheetsSized, WithinLimit};
 ghost use Rattle.demands.specs.Surveying.{surveying, Readable, Promised};
 ghost use Rattle.opened_demands.specs.Calls.{AllFlatSized};
 ghost use Rattle.written_demands.specs.Tidying.{TidyAlike};
-ghost use Rattle.written_demands.specs.Writings.{textLeft, ReadBack, SameWritten};
+ghost use Rattle.written_demands.specs.Writings.{text_left, ReadBack, SameWritten};
 ghost use Rattle.written_demands.specs.WrittenRules.{WrittenAsCalled};
 
 use survey::Surveyed;
@@ -15,7 +15,7 @@ use writing::Written;
 
 // Demand 2: the tidy text of an accepted file is accepted, and has the same tables and sentences.
 pub fn tidy(text: &[u8], sheet: &mut [u32], seen: &mut [u8]) -> Surveyed
-    ensures alike { (f : List ℕ) → (surveyOf f).refusal ≡ 0 → text.now ≡ tidyOf f → Readable text.now sheet.old seen.old
+    ensures alike { (f : List ℕ) → (survey_of f).refusal ≡ 0 → text.now ≡ tidy_of f → Readable text.now sheet.old seen.old
         → TidyAlike f (surveying text.now sheet.old seen.old result sheet.new seen.new) }
     ensures whole { Promised (surveying text.now sheet.old seen.old result sheet.new seen.new) }
 {
@@ -42,11 +42,11 @@ pub fn rewritten(
 ) -> ReadAgain
     ensures back { result.written.refusal ≡ 0 → SheetsSized tables2.old seen2.old
         → ReadBack file.now output.old
-        (textLeft result.written tables.new seen.new sheet.new edges.new output.new)
+        (text_left result.written tables.new seen.new sheet.new edges.new output.new)
         (surveying (take result.written.length output.new) tables2.old seen2.old result.again tables2.new seen2.new) }
     ensures refused { result.written.refusal ≢ 0 → output.new ≡ output.old }
     ensures whole { WrittenAsCalled file.now tables.old seen.old sheet.old edges.old output.old
-        (textLeft result.written tables.new seen.new sheet.new edges.new output.new) }
+        (text_left result.written tables.new seen.new sheet.new edges.new output.new) }
     ensures again { Promised (surveying (take result.written.length output.new) tables2.old seen2.old result.again tables2.new seen2.new) }
 {
     let written = writing::write_flat(file, output, tables, seen, sheet, edges);
@@ -78,13 +78,13 @@ pub fn written_twice(
 ) -> Two
     ensures only { output.old ≡ output2.old → tables.old ≡ tables2.old → seen.old ≡ seen2.old
         → sheet.old ≡ sheet2.old → edges.old ≡ edges2.old
-        → textLeft result.first tables.new seen.new sheet.new edges.new output.new
-        ≡ textLeft result.second tables2.new seen2.new sheet2.new edges2.new output2.new }
+        → text_left result.first tables.new seen.new sheet.new edges.new output.new
+        ≡ text_left result.second tables2.new seen2.new sheet2.new edges2.new output2.new }
     ensures fresh { WithinLimit file.now → AllFlatSized tables.old seen.old sheet.old edges.old
         → AllFlatSized tables2.old seen2.old sheet2.old edges2.old → length output.old ≡ length output2.old
         → SameWritten output.old output2.old
-        (textLeft result.first tables.new seen.new sheet.new edges.new output.new)
-        (textLeft result.second tables2.new seen2.new sheet2.new edges2.new output2.new) }
+        (text_left result.first tables.new seen.new sheet.new edges.new output.new)
+        (text_left result.second tables2.new seen2.new sheet2.new edges2.new output2.new) }
 {
     let first = writing::write_flat(file, output, tables, seen, sheet, edges);
     let second = writing::write_flat(file, output2, tables2, seen2, sheet2, edges2);

@@ -1,6 +1,6 @@
 -- `borders::index_across` meets its contract: both outcomes are what the contracts of index and hraunlik_index say, which is one.
-use Rattle.indexed_demands.proofs.Entries.{indexed-only}
-use Rattle.borders.proofs.Told.{indexed-alike}
+use Rattle.indexed_demands.proofs.Entries.{indexed_only}
+use Rattle.borders.proofs.Told.{indexed_alike}
 use Rattle.borders.proofs.index_across.Statement.{statement}
 use Rattle.borders.proofs.index_across.Tie as tie
 
@@ -12,8 +12,8 @@ first c = (second c).before.before.before.before.before.before.before.before.bef
 
 returns : tie.Need-returns
 returns c t s e =
-    indexed-alike _ _ _ _ c.both.ensures.0 c.both.ensures.1 _ _ _ _ _ _
-    (indexed-only _ _ _ _ _ _ _ _ _ (first c).index.ensures (second c).hraunlik-index.ensures t s e)
+    indexed_alike _ _ _ _ c.both.ensures.0 c.both.ensures.1 _ _ _ _ _ _
+    (indexed_only _ _ _ _ _ _ _ _ _ (first c).index.ensures (second c).hraunlik-index.ensures t s e)
 
 pub index-across-spec : {M : Type 1} → statement M
 index-across-spec =

@@ -1,6 +1,6 @@
 -- `borders::open_at_across` meets its contract: both outcomes are what the contracts of open_flat_at and hraunlik_open_at say, which is one.
 use mathlib.Core.Path.{ap}
-use Rattle.opened_demands.proofs.Outcomes.{asThere, opened-at-only}
+use Rattle.opened_demands.proofs.Outcomes.{as_there, opened_at_only}
 use Rattle.borders.proofs.open_at_across.Statement.{statement}
 use Rattle.borders.proofs.open_at_across.Tie as tie
 
@@ -11,7 +11,7 @@ abbrev first : tie.After-slice-known8 → tie.After-open-flat-at
 first c = (second c).before.before.before.before.before.before.before
 
 returns : tie.Need-returns
-returns c h e = opened-at-only _ _ _ _ _ _ _ _ (ap asThere (first c).open-flat-at.ensures.0) (ap asThere (second c).hraunlik-open-at.ensures) h e
+returns c h e = opened_at_only _ _ _ _ _ _ _ _ (ap as_there (first c).open-flat-at.ensures.0) (ap as_there (second c).hraunlik-open-at.ensures) h e
 
 pub open-at-across-spec : {M : Type 1} → statement M
 open-at-across-spec =

@@ -1,6 +1,6 @@
 -- `borders::write_across` meets its contract: both outcomes are what the contracts of write_flat and hraunlik_write say, which is one.
 use mathlib.Core.Path.{ap}
-use Rattle.written_demands.proofs.Alike.{asText, written-only}
+use Rattle.written_demands.proofs.Alike.{as_text, written_only}
 use Rattle.borders.proofs.write_across.Statement.{statement}
 use Rattle.borders.proofs.write_across.Tie as tie
 
@@ -11,7 +11,7 @@ abbrev first : tie.After-slice-known20 → tie.After-write-flat
 first c = (second c).before.before.before.before.before.before.before.before.before.before.before.before.before.before.before.before.before.before
 
 returns : tie.Need-returns
-returns c o t s h e = written-only _ _ _ _ _ _ _ _ _ _ _ _ _ (ap asText (first c).write-flat.ensures) (ap asText (second c).hraunlik-write.ensures) o t s h e
+returns c o t s h e = written_only _ _ _ _ _ _ _ _ _ _ _ _ _ (ap as_text (first c).write-flat.ensures) (ap as_text (second c).hraunlik-write.ensures) o t s h e
 
 pub write-across-spec : {M : Type 1} → statement M
 write-across-spec =

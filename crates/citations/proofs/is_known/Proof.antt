@@ -7,12 +7,12 @@ use mathlib.Core.List.{List}
 use lib.ListN.{get_or}
 use Rattle.rules.specs.Texts.{Text}
 use Rattle.rules.specs.Tables.{Tables}
-use Rattle.rules.specs.Sheets.{rowPlace}
-use Rattle.table_sheet.specs.SheetRows.{rows_from, tablesIn}
-use Rattle.table_sheet.specs.LookUps.{tagAmong}
+use Rattle.rules.specs.Sheets.{row_place}
+use Rattle.table_sheet.specs.SheetRows.{rows_from, tables_in}
+use Rattle.table_sheet.specs.LookUps.{tag_among}
 use Rattle.table_sheet.specs.Standing.{Inside}
-use Rattle.table_sheet.proofs.LookUps.{tag-found}
-use Rattle.citations.proofs.TablesThere.{table-absent, table-there, rows-in-sheet, known-dashes, known-unknown, known-absent, known-there}
+use Rattle.table_sheet.proofs.LookUps.{tag_found}
+use Rattle.citations.proofs.TablesThere.{table_absent, table_there, rows_in_sheet, known_dashes, known_unknown, known_absent, known_there}
 use Rattle.citations.proofs.is_known.Statement.{statement}
 use Rattle.citations.proofs.is_known.Tie as tie
 
@@ -34,7 +34,7 @@ abbrev sheet : tie.Start → List ℕ
 sheet s = s.args.sheet.now
 
 abbrev tables : tie.Start → Tables
-tables s = tablesIn (file s) (sheet s)
+tables s = tables_in (file s) (sheet s)
 
 abbrev tag : tie.Start → ℕ → Text
 tag s start = record { start = start; bytes = s.args.tag.now }
@@ -45,24 +45,24 @@ cast-count c = omega (arith, c.shared-slice-known4.given (entry c).args.table)
 returns : tie.Need-returns
 returns c start =
     let s = entry c.before in
-    sym (known-absent (tables s) s.args.table (tag s start) (table-absent (file s) (sheet s) s.args.table s.pre.1 c.if1.true))
+    sym (known_absent (tables s) s.args.table (tag s start) (table_absent (file s) (sheet s) s.args.table s.pre.1 c.if1.true))
 
 returns-2 : tie.Need-returns-2
 returns-2 c start =
     let s = entry (there c.before).before in
-    sym (known-dashes (tables s) s.args.table (tag s start) (sym c.before.is-twice.ensures ∙ c.if2.true))
+    sym (known_dashes (tables s) s.args.table (tag s start) (sym c.before.is-twice.ensures ∙ c.if2.true))
 
 returns-3 : tie.Need-returns-3
 returns-3 c start =
     let s = entry (there c.before.before.before).before in
-    sym (known-unknown (tables s) s.args.table (tag s start) (sym c.before.is-unknown.ensures ∙ c.if3.true))
+    sym (known_unknown (tables s) s.args.table (tag s start) (sym c.before.is-unknown.ensures ∙ c.if3.true))
 
 find-tag-requires : tie.Need-find-tag-requires
 find-tag-requires c κs =
     let found = there (other c.before) in
     let s = entry found.before in
     let n = s.args.table in
-    let room = rows-in-sheet (file s) (sheet s) n s.pre.1 s.pre.0.counted found.if1.left in (
+    let room = rows_in_sheet (file s) (sheet s) n s.pre.1 s.pre.0.counted found.if1.left in (
       s.pre.1,
       rw c.row-place.ensures room,
       subst (λ (p : ℕ). Inside (file s) (sheet s) p (get_or (sheet s) n 0 - 1)) (sym c.row-place.ensures) (s.pre.0.inside n s.pre.1),
@@ -78,10 +78,10 @@ returns-4 c start =
     let rows = get_or (sheet s) n 0 - 1 in
     let bytes = s.args.tag.now in
     c.is_row.ensures
-    ∙ tag-found bytes (rows_from (file s) (sheet s) looked.row-place.result rows) c.before.find-tag.result c.before.find-tag.ensures
-    ∙ ap (λ (p : ℕ). tagAmong bytes (rows_from (file s) (sheet s) p rows)) looked.row-place.ensures
-    ∙ sym (known-there (tables s) n (tag s start) (rows_from (file s) (sheet s) (rowPlace n 0) rows)
-    (table-there (file s) (sheet s) n s.pre.1 (there twice).if1.left)
+    ∙ tag_found bytes (rows_from (file s) (sheet s) looked.row-place.result rows) c.before.find-tag.result c.before.find-tag.ensures
+    ∙ ap (λ (p : ℕ). tag_among bytes (rows_from (file s) (sheet s) p rows)) looked.row-place.ensures
+    ∙ sym (known_there (tables s) n (tag s start) (rows_from (file s) (sheet s) (row_place n 0) rows)
+    (table_there (file s) (sheet s) n s.pre.1 (there twice).if1.left)
     (sym twice.is-twice.ensures ∙ neither.before.before.if2.false)
     (sym neither.before.is-unknown.ensures ∙ neither.if3.false))
 

@@ -2,7 +2,7 @@
 
 use borrow.Author.Rules.{rules}
 use mathlib.Core.Path.{sym}
-use Rattle.citations.proofs.TablesThere.{present-in}
+use Rattle.citations.proofs.TablesThere.{present_in}
 use Rattle.citations.proofs.is_present.Statement.{statement}
 use Rattle.citations.proofs.is_present.Tie as tie
 
@@ -13,7 +13,7 @@ shared-slice-read-result : tie.Need-shared-slice-read-result
 shared-slice-read-result c = search rules
 
 returns : tie.Need-returns
-returns c file = sym (present-in file c.before.args.sheet.now c.before.args.table c.before.requires.1)
+returns c file = sym (present_in file c.before.args.sheet.now c.before.args.table c.before.requires.1)
 
 pub is-present-spec : {M : Type 1} → statement M
 is-present-spec = tie.close (tie.spec mul-result shared-slice-read-result returns)

@@ -1,13 +1,13 @@
 -- `citations::is_unknown` meets its contract: a text of another length is another; else it is compared with the reserved one.
 use Rattle.rules.specs.Tables.{unknown}
-use Rattle.rules.proofs.Same.{same-length-false}
+use Rattle.rules.proofs.Same.{same_length_false}
 use borrow.Author.Rules.{rules}
 use mathlib.Core.Path.{sym}
 use Rattle.citations.proofs.is_unknown.Statement.{statement}
 use Rattle.citations.proofs.is_unknown.Tie as tie
 
 returns : tie.Need-returns
-returns c = sym (same-length-false c.before.before.args.tag.now unknown c.if1.true)
+returns c = sym (same_length_false c.before.before.args.tag.now unknown c.if1.true)
 
 slice-aggregate-same-text : tie.Need-slice-aggregate-same-text
 slice-aggregate-same-text c = search rules

@@ -5,8 +5,8 @@ use mathlib.Core.Path.{ap, ◌∙◌}
 use mathlib.Core.List.{List}
 use lib.Dec.{eqb}
 use lib.ListN.{get_or}
-use Rattle.rules.specs.Bytes.{whiteClass}
-use Rattle.rules.proofs.Classes.{class-at, class-white}
+use Rattle.rules.specs.Bytes.{white_class}
+use Rattle.rules.proofs.Classes.{class_at, class_white}
 use Rattle.columns.proofs.is_white.Statement.{statement}
 use Rattle.columns.proofs.is_white.Tie as tie
 
@@ -16,7 +16,7 @@ element-copy-out-result c = search rules
 returns : tie.Need-returns
 returns c =
     let b = c.before.args.b in
-    ap (λ (t : List ℕ). eqb (get_or t b 0) whiteClass) c.before.requires ∙ ap (λ (n : ℕ). eqb n whiteClass) (class-at b (search rules)) ∙ class-white b (search rules)
+    ap (λ (t : List ℕ). eqb (get_or t b 0) white_class) c.before.requires ∙ ap (λ (n : ℕ). eqb n white_class) (class_at b (search rules)) ∙ class_white b (search rules)
 
 pub is-white-spec : {M : Type 1} → statement M
 is-white-spec = tie.close (tie.spec element-copy-out-result returns)

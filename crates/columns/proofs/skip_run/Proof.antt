@@ -6,13 +6,13 @@ use mathlib.Core.Path.{◌≡◌, sym, ap, ◌∙◌}
 use mathlib.Core.Bool.{Bool, not}
 use mathlib.Core.List.{List}
 use lib.ListN.{length, drop, get_or}
-use Rattle.columns.specs.Leading.{runLength, inRun}
-use Rattle.columns.proofs.Leading.{leading-stop, leading-more, leading_end, in-run}
+use Rattle.columns.specs.Leading.{run_length, in_run}
+use Rattle.columns.proofs.Leading.{leading_stop, leading_more, leading_end, in_run_lem}
 use Rattle.columns.proofs.skip_run.Statement.{statement}
 use Rattle.columns.proofs.skip_run.Tie as tie
 
 abbrev invariant-loop : tie.invariant-loop
-invariant-loop head at in-column classes end₀ end = at + runLength (inRun in-column) (drop at head) ≡ end + runLength (inRun in-column) (drop end head)
+invariant-loop head at in-column classes end₀ end = at + run_length (in_run in-column) (drop at head) ≡ end + run_length (in_run in-column) (drop end head)
 
 abbrev decreases-loop : tie.decreases-loop
 decreases-loop head at in-column classes end₀ end = length head - end
@@ -27,7 +27,7 @@ abbrev column : Turn → Bool
 column t = t.before.before.before.args.in-column
 
 abbrev run : Turn → ℕ → Bool
-run t = inRun (column t)
+run t = in_run (column t)
 
 abbrev end : Turn → ℕ
 end t = t.before.loop.end
@@ -44,7 +44,7 @@ is-white-requires c κs = search rules
 returns : tie.Need-returns invariant-loop decreases-loop
 returns c =
     let t = c.before.before.before in
-    sym (t.before.loop.invariant ∙ leading-stop (run t) (head t) (end t) t.loop-test.true (in-run (column t) (get_or (head t) (end t) 0) c.before.is_white.ensures ∙ ap not c.if1.true))
+    sym (t.before.loop.invariant ∙ leading_stop (run t) (head t) (end t) t.loop-test.true (in_run_lem (column t) (get_or (head t) (end t) 0) c.before.is_white.ensures ∙ ap not c.if1.true))
 
 add-end : tie.Need-overflow-add-end invariant-loop decreases-loop
 add-end c = search rules
@@ -55,12 +55,12 @@ loop-less c = search rules
 loop-again : tie.Need-loop-preserved invariant-loop decreases-loop
 loop-again c =
     let t = c.before.before.before in
-    t.before.loop.invariant ∙ leading-more (run t) (head t) (end t) t.loop-test.true (in-run (column t) (get_or (head t) (end t) 0) c.before.is_white.ensures ∙ ap not c.if1.false)
+    t.before.loop.invariant ∙ leading_more (run t) (head t) (end t) t.loop-test.true (in_run_lem (column t) (get_or (head t) (end t) 0) c.before.is_white.ensures ∙ ap not c.if1.false)
 
 returns-2 : tie.Need-returns-2 invariant-loop decreases-loop
 returns-2 c =
     let l = c.before in
-    sym (l.loop.invariant ∙ leading_end (inRun l.before.before.args.in-column) l.before.before.args.head.now l.loop.end c.loop-test.false)
+    sym (l.loop.invariant ∙ leading_end (in_run l.before.before.args.in-column) l.before.before.args.head.now l.loop.end c.loop-test.false)
 
 pub skip-run-spec : {M : Type 1} → statement M
 skip-run-spec =

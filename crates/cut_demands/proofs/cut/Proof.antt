@@ -4,7 +4,7 @@ use mathlib.Core.Path.{sym}
 use mathlib.Core.List.{[], append-nil}
 use lib.ListN.{take}
 use lib.Seq.{length-take-le}
-use Rattle.cut_demands.proofs.CutSurveyed.{cut-by-survey, length_part, promised-part}
+use Rattle.cut_demands.proofs.CutSurveyed.{cut_by_survey, length_part, promised_part}
 use Rattle.cut_demands.proofs.cut.Statement.{statement}
 use Rattle.cut_demands.proofs.cut.Tie as tie
 
@@ -24,7 +24,7 @@ returns : tie.Need-returns
 returns c =
     let s = c.before.before.before.before in
     let a = s.before.before.before.before.before.before.before.before.args in (
-      λ h k. cut-by-survey a.file.now a.n [] h k.short _ s.survey.ensures (sym (append-nil (take a.n a.file.now)))
+      λ h k. cut_by_survey a.file.now a.n [] h k.short _ s.survey.ensures (sym (append-nil (take a.n a.file.now)))
           (record { sized = k.sized; short = length_part a.n a.file.now k.short }),
       s.survey.ensures,
     )
@@ -45,7 +45,7 @@ returns-2 c =
     let e = s.before.before.before in
     let a = e.before.before.before.before.args in (
       λ h k. absurd (omega (arith, h, e.if1.false)),
-      promised-part a.file.now a.n a.sheet.now a.seen.now s.survey2.result s.survey2.new.1.0 s.survey2.new.1.1.0 (omega (arith, e.if1.false)) s.survey2.ensures,
+      promised_part a.file.now a.n a.sheet.now a.seen.now s.survey2.result s.survey2.new.1.0 s.survey2.new.1.1.0 (omega (arith, e.if1.false)) s.survey2.ensures,
     )
 
 pub cut_spec : {M : Type 1} → statement M

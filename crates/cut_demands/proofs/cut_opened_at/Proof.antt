@@ -1,8 +1,8 @@
 -- `cut_demands::cut_opened_at` meets its contract: the rule of openings at a place after a cut, by what the opening's contract says.
 use mathlib.Core.Path.{ap}
-use Rattle.opened_demands.proofs.Outcomes.{asThere}
+use Rattle.opened_demands.proofs.Outcomes.{as_there}
 use Rattle.opened_demands.proofs.AsRules.{at_place}
-use Rattle.cut_demands.proofs.CutOpenedAt.{cut-alike-at}
+use Rattle.cut_demands.proofs.CutOpenedAt.{cut_alike_at}
 use Rattle.cut_demands.proofs.cut_opened_at.Statement.{statement}
 use Rattle.cut_demands.proofs.cut_opened_at.Tie as tie
 
@@ -14,9 +14,9 @@ first c = (second c).before.before.before.before.before.before.before
 
 returns : tie.Need-returns
 returns c =
-    let p = ap asThere (first c).open-flat-at.ensures.0 in
-    let q = ap asThere (second c).open-flat-at2.ensures.0 in
-    (λ n x front h back whole e fits its place sized sized2. cut-alike-at _ whole front h back its n _ _ sized _ _ sized2 x _ _ e fits place _ _ p q, (at_place _ _ _ _ _ p, at_place _ _ _ _ _ q))
+    let p = ap as_there (first c).open-flat-at.ensures.0 in
+    let q = ap as_there (second c).open-flat-at2.ensures.0 in
+    (λ n x front h back whole e fits its place sized sized2. cut_alike_at _ whole front h back its n _ _ sized _ _ sized2 x _ _ e fits place _ _ p q, (at_place _ _ _ _ _ p, at_place _ _ _ _ _ q))
 
 pub cut-opened-at-spec : {M : Type 1} → statement M
 cut-opened-at-spec =

@@ -7,9 +7,9 @@ use Prim.Native.Nat.{◌≤◌}
 use mathlib.Core.Bool.{true}
 use lib.ListN.{length}
 use lib.Seq.{length-take-le, take_all}
-use Rattle.rules.specs.Survey.{sheetsFit}
+use Rattle.rules.specs.Survey.{sheets_fit}
 use Rattle.demands.specs.Surveying.{Surveying, surveying, Promised}
-use Rattle.cut_demands.proofs.CutSurveyed.{sound-by-survey, length_part, still-sized, promised-part}
+use Rattle.cut_demands.proofs.CutSurveyed.{sound_by_survey, length_part, still_sized, promised_part}
 use Rattle.cut_demands.proofs.sound_part.Statement.{statement}
 use Rattle.cut_demands.proofs.sound_part.Tie as tie
 
@@ -24,9 +24,9 @@ first s =
 met : (s : tie.After-survey) → Promised (first s)
 met s = s.survey.ensures
 
-sized-still : (s : tie.After-survey) → sheetsFit (start s).args.sheet.now (start s).args.seen.now ≡ true → sheetsFit s.survey.new.1.0 s.survey.new.1.1.0 ≡ true
+sized-still : (s : tie.After-survey) → sheets_fit (start s).args.sheet.now (start s).args.seen.now ≡ true → sheets_fit s.survey.new.1.0 s.survey.new.1.1.0 ≡ true
 sized-still s k =
-    still-sized (start s).args.sheet.now (start s).args.seen.now s.survey.new.1.0 s.survey.new.1.1.0 s.survey.auto.1.0 s.survey.auto.1.1.0 k
+    still_sized (start s).args.sheet.now (start s).args.seen.now s.survey.new.1.0 s.survey.new.1.1.0 s.survey.auto.1.0 s.survey.auto.1.1.0 k
 
 survey-requires : tie.Need-survey-requires
 survey-requires c κs = tt
@@ -52,7 +52,7 @@ returns c =
     let s = t.before.before.before.before.before.before.before.before.before.before in
     let a = (start s).args in (
       λ k.
-          sound-by-survey (first s) (surveying _ _ _ t.survey2.result t.survey2.new.1.0 t.survey2.new.1.1.0) (met s) t.survey2.ensures refl k
+          sound_by_survey (first s) (surveying _ _ _ t.survey2.result t.survey2.new.1.0 t.survey2.new.1.1.0) (met s) t.survey2.ensures refl k
           (record { sized = sized-still s k.sized; short = length_part s.survey.result.sound_end a.file.now k.short }),
       (s.survey.new.1.0, s.survey.new.1.1.0, met s, t.survey2.ensures),
     )
@@ -75,13 +75,13 @@ returns-2 c =
     let end = s.survey.result.sound_end in
     let past : length a.file.now ≤ end = omega (arith, e.if1.false) in (
       λ k.
-          sound-by-survey (first s) (surveying _ _ _ t.survey3.result t.survey3.new.1.0 t.survey3.new.1.1.0) (met s) t.survey3.ensures (sym (take_all end a.file.now past)) k
+          sound_by_survey (first s) (surveying _ _ _ t.survey3.result t.survey3.new.1.0 t.survey3.new.1.1.0) (met s) t.survey3.ensures (sym (take_all end a.file.now past)) k
           (record { sized = sized-still s k.sized; short = k.short }),
       (
         s.survey.new.1.0,
         s.survey.new.1.1.0,
         met s,
-        promised-part a.file.now end s.survey.new.1.0 s.survey.new.1.1.0 t.survey3.result t.survey3.new.1.0 t.survey3.new.1.1.0 past t.survey3.ensures,
+        promised_part a.file.now end s.survey.new.1.0 s.survey.new.1.1.0 t.survey3.result t.survey3.new.1.0 t.survey3.new.1.1.0 past t.survey3.ensures,
       ),
     )
 

@@ -2,7 +2,7 @@
 use mathlib.Core.Path.{refl}
 use borrow.Author.Tests.{eqb-true, eq-eqb}
 use Rattle.demands.specs.Surveying.{Surveying, surveying, Promised}
-use Rattle.demands.proofs.Accepted.{accepted-by-survey, accepted-as-written}
+use Rattle.demands.proofs.Accepted.{accepted_by_survey, accepted_as_written}
 use Rattle.demands.proofs.accepts.Statement.{statement}
 use Rattle.demands.proofs.accepts.Tie as tie
 
@@ -28,9 +28,9 @@ returns c =
     let s = c.before.before.before.before.before in
     let refusal = s.survey.result.refusal in (
       λ k.
-          let exactly = accepted-by-survey (call s) (met s) k in
+          let exactly = accepted_by_survey (call s) (met s) k in
           (λ t. exactly.0 (eqb-true refusal 0 t), λ f. eq-eqb refusal 0 (exactly.1 f)),
-      (λ t. accepted-as-written (call s) (met s) (eqb-true refusal 0 t), (s.survey.result, refl, met s)),
+      (λ t. accepted_as_written (call s) (met s) (eqb-true refusal 0 t), (s.survey.result, refl, met s)),
     )
 
 pub accepts-spec : {M : Type 1} → statement M

@@ -50,9 +50,9 @@ use denote.Triple.Table.{entered, cited}
 use denote.Triple.Walked.{says, needs, Stays, stay_slice, stay_none, walk_of, AllGo, Goes-slice, Goes-none, Walks, ends_at, walked, walk_Meets}
 use denote.Exit.{yes}
 use Rattle.edges.specs.declared.Edge.{Edge}
-use Rattle.edges.specs.Edges.{edgeAt, firstEdges}
+use Rattle.edges.specs.Edges.{edge_at, first_edges}
 use Rattle.edges.proofs.Pieces.{tail}
-use Rattle.edges.proofs.Filled.{filled, filled-length, filled-from}
+use Rattle.edges.proofs.Filled.{filled, filled_length, filled_from}
 use Rattle.edges.specs.contracts.Edge as T
 use Rattle.edges.proofs.Edge.TheLaws as T'
 use Rattle.edges.specs.contracts.edge_at as g
@@ -125,11 +125,11 @@ module _ {M : Type 1} {𝓤 : Ura M} (𝓛 : Logic 𝓤) (mem : Memory → SProp
       nothing ! $ owned ! usize (Is usize) (uint_Makes 𝓛 w64) i _ (refl, lt_of_lt_of_le l (omega arith)) $ fjoin ! $ move ! (1 ∷ 0 ∷ []) $ fjoin ! $
       move ! (2 ∷ 0 ∷ []) $ use2 𝓛 (raw ((EdgeAt 𝓛 mem run).pre (to i))) (asked i l) $ frame ! $ done !
 
-  said : (i : ℕ) (r : Edge) → ent 𝓤 (ensured 𝓛 g.ended (g.clauses 𝓛 mem run) (κ₁, tt) (x₁, (i, tt)) tt r) (fact 𝓤 (r ≡ edgeAt fs i))
-  said i r = ex_e 𝓤 _ (λ ws. snd∗ 𝓤 (sem 𝓛 (lasts g.ended (κ₁, tt) (x₁, (i, tt)) ws)) (fact 𝓤 (r ≡ edgeAt fs i)))
+  said : (i : ℕ) (r : Edge) → ent 𝓤 (ensured 𝓛 g.ended (g.clauses 𝓛 mem run) (κ₁, tt) (x₁, (i, tt)) tt r) (fact 𝓤 (r ≡ edge_at fs i))
+  said i r = ex_e 𝓤 _ (λ ws. snd∗ 𝓤 (sem 𝓛 (lasts g.ended (κ₁, tt) (x₁, (i, tt)) ws)) (fact 𝓤 (r ≡ edge_at fs i)))
 
   -- ---- the exit
-  exits : Room T.the_row n → count < 2 ^ 64 → (zs : List Edge) → length zs ≡ n → zs ≡ firstEdges fs count ++ without count ys
+  exits : Room T.the_row n → count < 2 ^ 64 → (zs : List Edge) → length zs ≡ n → zs ≡ first_edges fs count ++ without count ys
       → ent 𝓤 (⋆ 𝓛 (‵ (fobs γ ((coded_holeys T.the_row).code (heres T.the_row zs))) ∷ ‵ (fbor κ₀ (Held T.the_row (length zs) b o γ)) ∷ ‵ (flft κ₀ q₀) ∷ (‵ (flft κ₁ q₁) ⊛ ‵ ftrue) ∷ ‵ Own ∷ [])) (Post vunit)
   exits room fits zs e full =
       qed 𝓛 (‵ (fobs γ ((coded_holeys T.the_row).code (heres T.the_row zs))) ∷ ‵ (fbor κ₀ (Held T.the_row (length zs) b o γ)) ∷ ‵ (flft κ₀ q₀) ∷ (‵ (flft κ₁ q₁) ⊛ ‵ ftrue) ∷ ‵ Own ∷ []) ∵
@@ -187,17 +187,17 @@ module _ {M : Type 1} {𝓤 : Ura M} (𝓛 : Logic 𝓤) (mem : Memory → SProp
         -- [what the callee asks; Own; the row; the open borrow; obs; auth; _8; …; _7; …; _6; …; _5; …; _4; …; _3; …; _2; …; _1; …; _0; …]
         calls_at ! (fm_of 𝓤 H 𝓛.laws 𝓣) (EdgeAt 𝓛 mem run) known (to i.0) (and_then ! (load ! (from ! (stop !)) (look ! 18 refl)) (and_then ! (load ! (from ! (stop !)) (look ! 14 refl)) (no_more !))) (λ u.
         use1 𝓛 (later (some (λ (r : Edge). ((‵ (flft κ₁ q₁) ⊛ ‵ ftrue) ⊛ ‵ ((T.the_row).own_val r (u ∷ []))) ⊛ raw (ensured 𝓛 g.ended (g.clauses 𝓛 mem run) (κ₁, tt) (x₁, (i.0, tt)) tt r)))) (id⊢ 𝓤 _) $ await ! tt $ pick ! (λ r.
-        split ! $ move ! (1 ∷ []) $ use1 𝓛 (raw (fact 𝓤 (r ≡ edgeAt fs i.0))) (said i.0 r) $ heard ! (r ≡ edgeAt fs i.0) (λ e. split ! $ move ! (1 ∷ []) $
-        rewrite ! 0 (λ (r' : Edge). ‵ ((T.the_row).own_val r' (u ∷ []))) e refl $ peeks ! T.the_row (Is T.the_row) (shows 𝓛 T.the_row) (edgeAt fs i.0) (u ∷ []) (λ is.
+        split ! $ move ! (1 ∷ []) $ use1 𝓛 (raw (fact 𝓤 (r ≡ edge_at fs i.0))) (said i.0 r) $ heard ! (r ≡ edge_at fs i.0) (λ e. split ! $ move ! (1 ∷ []) $
+        rewrite ! 0 (λ (r' : Edge). ‵ ((T.the_row).own_val r' (u ∷ []))) e refl $ peeks ! T.the_row (Is T.the_row) (shows 𝓛 T.the_row) (edge_at fs i.0) (u ∷ []) (λ is.
         -- [the record's; the token; Own; the row; the open borrow; obs; auth; _8; …; _7; …; _6; …; _5; …; _4; …; _3; …; _2; …; _1; …; _0; …]
-        land ! (from ! (stop !)) (init ! 11 refl ((LL.lawful T.the_type T'.the_laws 𝓛).typed (edgeAt fs i.0) _ is).0) $
+        land ! (from ! (stop !)) (init ! 11 refl ((LL.lawful T.the_type T'.the_laws 𝓛).typed (edge_at fs i.0) _ is).0) $
         assigns ! (bin ! (load ! (from ! (stop !)) (look ! 15 refl)) (lit ! tt) (record { fits = place-fits i.0 n (listed less) room.1 })) (from ! (stop !)) (init ! 9 refl (tt, record { fits = place-fits i.0 n (listed less) room.1 })) $
         assigns ! (bin ! (load ! (from ! (fld ! refl (stop !))) (look_in ! 21 (sub ! 0 refl (whole !)))) (load ! (from ! (stop !)) (look ! 9 refl)) tt) (from ! (stop !)) (init ! 7 refl (tt, tt)) $
         rewrite ! 7 (λ (z : ℕ). ‵ (fat full_share ty_ptr l₈ 0 (vptr b z))) (sym (place_is 16 o i.0)) refl $
-        move ! (3 ∷ []) $ elem_out ! T.the_row (Is T.the_row) (shows 𝓛 T.the_row) (LL.vals T.the_type T'.the_laws) (LL.tells T.the_type T'.the_laws) full_share (filled fs ys i.0) i.0 (edgeAt fs i.0) b o (inside less) (λ _.
+        move ! (3 ∷ []) $ elem_out ! T.the_row (Is T.the_row) (shows 𝓛 T.the_row) (LL.vals T.the_type T'.the_laws) (LL.tells T.the_type T'.the_laws) full_share (filled fs ys i.0) i.0 (edge_at fs i.0) b o (inside less) (λ _.
         -- [edges[k]; what it owns; the others; the record's; the token; Own; the open borrow; obs; auth; _8; …; _7; …; _6; …; …]
-        assigns ! (of_opd ! (load ! (from ! (stop !)) (look ! 13 refl))) (from ! (hop ! (look ! 9 refl) (stop !))) (store_raw ! 0 refl ((LL.lawful T.the_type T'.the_laws 𝓛).typed (edgeAt fs i.0) _ is).0) $
-        move ! (1 ∷ []) $ drop ! $ move ! (0 ∷ 2 ∷ []) $ elem_put ! T.the_row full_share (filled fs ys i.0) i.0 (edgeAt fs i.0) (u ∷ []) b o (inside less) $
+        assigns ! (of_opd ! (load ! (from ! (stop !)) (look ! 13 refl))) (from ! (hop ! (look ! 9 refl) (stop !))) (store_raw ! 0 refl ((LL.lawful T.the_type T'.the_laws 𝓛).typed (edge_at fs i.0) _ is).0) $
+        move ! (1 ∷ []) $ drop ! $ move ! (0 ∷ 2 ∷ []) $ elem_put ! T.the_row full_share (filled fs ys i.0) i.0 (edge_at fs i.0) (u ∷ []) b o (inside less) $
         -- [the row; the token; Own; the open borrow; obs; auth; _8; …; _7; …; _6; …; _5; …; _4; …; _3; …; _2; …; _1; …; _0; …]
         assigns_last ! (bin ! (load ! (from ! (stop !)) (look ! 14 refl)) (lit ! tt) (record { fits = fits (next less) })) (from ! (stop !)) (store ! 14 refl (tt, record { fits = fits (next less) })) $
         forget ! 6 refl $ forget ! 8 refl $ forget ! 10 refl $ forget ! 12 refl $
@@ -205,13 +205,13 @@ module _ {M : Type 1} {𝓤 : Ura M} (𝓛 : Logic 𝓤) (mem : Memory → SProp
         again ! Nearer At i (next less) (add-one-dec count i.0 (within less))))))))
         (λ over. jumps ! $ exec ! C Λ En Mir.t-3 (at_ret En Post) $
         assigns ! (of_opd ! (unit_lit !)) (from ! (stop !)) (init ! 22 refl (tt, tt)) $
-        closes_slice ! tt T.the_row ys (filled fs ys i.0) (filled-length fs ys i.0) b o $
+        closes_slice ! tt T.the_row ys (filled fs ys i.0) (filled_length fs ys i.0) b o $
         -- [obs; the borrow; κ₀'s token; κ₁'s; Own; _8; …; _7; …; _6; …; _5; …; _4; …; _3; …; _2; …; _1; …; _0; …]
         returns ! (look ! 21 refl) $ forget ! 11 refl $ forget ! 13 refl $ forget ! 15 refl $ forget ! 17 refl $ forget ! 19 refl $ forget ! 21 refl $
         move ! (21 ∷ 22 ∷ []) $ free1 ! $ move ! (19 ∷ 20 ∷ []) $ free1 ! $ move ! (17 ∷ 18 ∷ []) $ free1 ! $ move ! (15 ∷ 16 ∷ []) $ free1 ! $ move ! (13 ∷ 14 ∷ []) $ free1 ! $ move ! (11 ∷ 12 ∷ []) $ free1 ! $
         move ! (9 ∷ 10 ∷ []) $ free1 ! $ move ! (7 ∷ 8 ∷ []) $ free1 ! $ move ! (5 ∷ 6 ∷ []) $ free1 ! $ free0 ! $
-        by ! (exits room (lt_of_le_of_lt few (omega arith)) (filled fs ys i.0) (filled-length fs ys i.0)
-        (ap (filled fs ys) (le_antisymm i.1 (nltb→le i.0 count over)) ∙ filled-from fs ys count within-list)))
+        by ! (exits room (lt_of_le_of_lt few (omega arith)) (filled fs ys i.0) (filled_length fs ys i.0)
+        (ap (filled fs ys) (le_antisymm i.1 (nltb→le i.0 count over)) ∙ filled_from fs ys count within-list)))
       where
         fits : (j : Upto) → j.0 < 2 ^ 64
         fits j = lt_of_le_of_lt j.1 (lt_of_le_of_lt few (omega arith))
@@ -223,7 +223,7 @@ module _ {M : Type 1} {𝓤 : Ura M} (𝓛 : Logic 𝓤) (mem : Memory → SProp
         listed less = lt_of_lt_of_le (within less) within-list
 
         inside : Holds (ltb i.0 count) → i.0 < length (filled fs ys i.0)
-        inside less = subst (λ (k : ℕ). i.0 < k) (sym (filled-length fs ys i.0)) (listed less)
+        inside less = subst (λ (k : ℕ). i.0 < k) (sym (filled_length fs ys i.0)) (listed less)
 
         next : Holds (ltb i.0 count) → Upto
         next less = (i.0 + 1, add-one-le (within less))

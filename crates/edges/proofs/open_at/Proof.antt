@@ -46,13 +46,13 @@ use denote.Triple.Table.{entered, cited}
 use denote.Triple.Walked.{says, Stays, gave_slice, stay_none, walk_of, AllGo, Goes-gave_slice, Goes-none, Walks, ends_at, walked, walk_Meets}
 use denote.Exit.{yes}
 use Rattle.edges.specs.declared.Edge.{Edge}
-use Rattle.edges.specs.Edges.{firstEdges, filledBy}
-use Rattle.rules.specs.Opening.{afterOpeningAt}
+use Rattle.edges.specs.Edges.{first_edges, filled_by}
+use Rattle.rules.specs.Opening.{after_opening_at}
 use Rattle.opening.specs.Promise as flat
-use Rattle.edges.specs.Promise.{asRecords, outcomeAt}
-use Rattle.edges.proofs.LocalArray.{Cell, val_of, array-in, array-out}
-use Rattle.edges.proofs.Records.{filled_within, few-filled}
-use Rattle.edges.proofs.Promised.{other-length-open-at, listed-open-at}
+use Rattle.edges.specs.Promise.{as_records, outcome_at}
+use Rattle.edges.proofs.LocalArray.{Cell, val_of, array_in, array_out}
+use Rattle.edges.proofs.Records.{filled_within, few_filled}
+use Rattle.edges.proofs.Promised.{other_length_open_at, listed_open_at}
 use Rattle.edges.specs.contracts.Edge as T
 use Rattle.edges.specs.contracts.plain_lists.open_numbers_at as g
 use Rattle.edges.proofs.plain_lists.open_numbers_at.Symbol as g-def
@@ -137,7 +137,7 @@ module _ {M : Type 1} {𝓤 : Ura M} (𝓛 : Logic 𝓤) (mem : Memory → SProp
   refuses ne =
       qed 𝓛 ((‵ (flft κ₀ q₀) ⊛ ‵ (flft κ₁ q₁) ⊛ ‵ (flft κ₂ q₂) ⊛ ‵ ftrue) ∷ ‵ (owns (FileT κ₀ ∷ u32 ∷ MutSlice (named 1) κ₁ u32 ∷ MutSlice (named 2) κ₂ T.the_row ∷ []) a at) ∷ []) ∵
       suffices ! _ (ends_at 𝓛 f.ended stayed (f.clauses 𝓛 mem run) (((κ₀, (κ₁, (κ₂, tt))), (q₀, (q₁, (q₂, tt))), tt, a, at), tt) (vint w32 1) 1 (tt, (tt, (sheetᵣ.now, (ys, tt)))) (tt, (tt, (refl, (refl, tt))))) $
-      says ! (other-length-open-at _ _ _ ys ne) $
+      says ! (other_length_open_at _ _ _ ys ne) $
       frame ! $
       fsplit ! $
       move ! (1 ∷ []) $
@@ -170,7 +170,7 @@ module _ {M : Type 1} {𝓤 : Ura M} (𝓛 : Logic 𝓤) (mem : Memory → SProp
       frame ! $
       owned ! u32 (Is u32) (uint_Makes 𝓛 w32) 1 _ (refl, lit< tt) $ done !
 
-  exits : place < 2 ^ 32 → (r : ℕ) (u : Val) (sheet' : List ℕ) (zs : List Edge) → length sheet' ≡ length sheetᵣ.now → length zs ≡ length ys → outcomeAt r sheet' zs ≡ afterOpeningAt fileᵣ.now place sheetᵣ.now (asRecords ys)
+  exits : place < 2 ^ 32 → (r : ℕ) (u : Val) (sheet' : List ℕ) (zs : List Edge) → length sheet' ≡ length sheetᵣ.now → length zs ≡ length ys → outcome_at r sheet' zs ≡ after_opening_at fileᵣ.now place sheetᵣ.now (as_records ys)
       → ent 𝓤 (⋆ 𝓛 (‵ (flft κ₀ q₀) ∷ ‵ (flft κ₁ q₁) ∷ ‵ (flft κ₂ q₂) ∷ ‵ File ∷ ‵ (finally u32 sheetᵣ.name sheet') ∷ ‵ (finally T.the_row (γ) zs) ∷ ‵ (u32.own_val r (u ∷ [])) ∷ [])) (Post u)
   exits bound r u sheet' zs l-sheet l-edges e =
       qed 𝓛 (‵ (flft κ₀ q₀) ∷ ‵ (flft κ₁ q₁) ∷ ‵ (flft κ₂ q₂) ∷ ‵ File ∷ ‵ (finally u32 sheetᵣ.name sheet') ∷ ‵ (finally T.the_row (γ) zs) ∷ ‵ (u32.own_val r (u ∷ [])) ∷ []) ∵
@@ -266,7 +266,7 @@ module _ {M : Type 1} {𝓤 : Ura M} (𝓛 : Logic 𝓤) (mem : Memory → SProp
         assigns ! (agg ! (and_then ! (load ! (from ! (stop !)) (look ! 13 refl)) (and_then ! (load ! (from ! (fld ! refl (stop !))) (look_in ! 27 (sub ! 1 refl (whole !)))) (no_more !)))) (from ! (stop !)) (init ! 11 refl (tt, (tt, (record { fits = room-sheet.0 }, tt)))) $
         assigns ! (addr ! (from ! (stop !))) (from ! (stop !)) (init ! 9 refl (tt, tt)) $
         move ! (23 ∷ 0 ∷ []) $
-        use2 𝓛 (‵ (part_at R full_share zeros l₅ 0)) (array-in 𝓛 2048 zeros (array_val (replicate 2048 (vint w32 0))) l₅) $
+        use2 𝓛 (‵ (part_at R full_share zeros l₅ 0)) (array_in 𝓛 2048 zeros (array_val (replicate 2048 (vint w32 0))) l₅) $
         lft_new ! tt (λ α.
         move ! (1 ∷ []) $
         use1 𝓛 (later (some (λ (δ : GName). ‵ ((MutRef (named 2) (α ∷ []) R).own_val (xm l₅ δ zeros) (pm l₅ ∷ [])) ⊛ ‵ (flent (α ∷ []) (Body (mem_of R) l₅ 0 δ))))) (lends_ref 𝓛 R (named 2) (α ∷ []) zeros l₅ 0) $ await ! tt $
@@ -317,11 +317,11 @@ module _ {M : Type 1} {𝓤 : Ura M} (𝓛 : Logic 𝓤) (mem : Memory → SProp
         pick ! (λ r.
         split ! $
         move ! (1 ∷ []) $
-        use1 𝓛 (some (λ (ws : Unit {0} × (Unit {0} × (List ℕ × (List ℕ × Unit {0})))). ‵ (lasts g.ended (κ₀, (κ₁, (α ∷ [], tt))) (fileᵣ, (place, (sheetᵣ, ((xm l₅ δ zeros), tt)))) ws) ⊛ raw (fact 𝓤 ((flat.outcomeAt r ws.1.1.0 ws.1.1.1.0 ≡ flat.afterOpeningFlatAt fileᵣ.now place sheetᵣ.now zeros) × (length ws.1.1.1.0 ≡ length zeros))))) (id⊢ 𝓤 _) $
+        use1 𝓛 (some (λ (ws : Unit {0} × (Unit {0} × (List ℕ × (List ℕ × Unit {0})))). ‵ (lasts g.ended (κ₀, (κ₁, (α ∷ [], tt))) (fileᵣ, (place, (sheetᵣ, ((xm l₅ δ zeros), tt)))) ws) ⊛ raw (fact 𝓤 ((flat.outcome_at r ws.1.1.0 ws.1.1.1.0 ≡ flat.after_opening_flat_at fileᵣ.now place sheetᵣ.now zeros) × (length ws.1.1.1.0 ≡ length zeros))))) (id⊢ 𝓤 _) $
         pick ! (λ ws.
         split ! $
         move ! (1 ∷ []) $
-        heard ! ((flat.outcomeAt r ws.1.1.0 ws.1.1.1.0 ≡ flat.afterOpeningFlatAt fileᵣ.now place sheetᵣ.now zeros) × (length ws.1.1.1.0 ≡ length zeros)) (λ e.
+        heard ! ((flat.outcome_at r ws.1.1.0 ws.1.1.1.0 ≡ flat.after_opening_flat_at fileᵣ.now place sheetᵣ.now zeros) × (length ws.1.1.1.0 ≡ length zeros)) (λ e.
         fsplit ! $
         drop ! $
         fsplit ! $
@@ -360,11 +360,11 @@ module _ {M : Type 1} {𝓤 : Ura M} (𝓛 : Logic 𝓤) (mem : Memory → SProp
         pick ! (λ k.
         split ! $
         move ! (1 ∷ []) $
-        use1 𝓛 (some (λ (vs : Unit {0} × Unit {0}). ‵ (lasts c.ended tt (r, tt) vs) ⊛ raw (fact 𝓤 (k ≡ filledBy r)))) (id⊢ 𝓤 _) $
+        use1 𝓛 (some (λ (vs : Unit {0} × Unit {0}). ‵ (lasts c.ended tt (r, tt) vs) ⊛ raw (fact 𝓤 (k ≡ filled_by r)))) (id⊢ 𝓤 _) $
         pick ! (λ vs.
         split ! $
         move ! (1 ∷ []) $
-        heard ! (k ≡ filledBy r) (λ ck.
+        heard ! (k ≡ filled_by r) (λ ck.
         drop ! $
         split ! $
         drop ! $
@@ -392,17 +392,17 @@ module _ {M : Type 1} {𝓤 : Ura M} (𝓛 : Logic 𝓤) (mem : Memory → SProp
         move ! (8 ∷ 0 ∷ []) $
         fjoin ! $
         move ! (1 ∷ 0 ∷ []) $
-        use2 𝓛 (raw ((Fill 𝓛 mem run).pre (to_fill l₅ β ε ws.1.1.1.0 k uk))) (goes-fill l₅ β ε ws.1.1.1.0 k uk (filled_within k r n ck is512) (few-filled k r ck)) $
+        use2 𝓛 (raw ((Fill 𝓛 mem run).pre (to_fill l₅ β ε ws.1.1.1.0 k uk))) (goes-fill l₅ β ε ws.1.1.1.0 k uk (filled_within k r n ck is512) (few_filled k r ck)) $
         calls_at ! fm (Fill 𝓛 mem run) known-fill (to_fill l₅ β ε ws.1.1.1.0 k uk) (and_then ! (load ! (from ! (stop !)) (look ! 9 refl)) (and_then ! (load ! (from ! (stop !)) (look ! 7 refl)) (and_then ! (load ! (from ! (stop !)) (look ! 25 refl)) (no_more !)))) (λ w.
         use1 𝓛 (later (some (λ (v : Unit {0}). ((‵ (flft κ₂ q₂) ⊛ ‵ (flft (β ∷ []) full_share) ⊛ ‵ ftrue) ⊛ ‵ (unit.own_val v (w ∷ []))) ⊛ raw (ensured 𝓛 h.ended (h.clauses 𝓛 mem run) (κ₂, (β ∷ [], tt)) (edgesᵣ, (xm l₅ ε ws.1.1.1.0, (k, tt))) tt v)))) (id⊢ 𝓤 _) $ await ! tt $
         pick ! (λ v.
         split ! $
         move ! (1 ∷ []) $
-        use1 𝓛 (some (λ (zs : List Edge × (Unit {0} × (Unit {0} × Unit {0}))). ‵ (lasts h.ended (κ₂, (β ∷ [], tt)) (edgesᵣ, (xm l₅ ε ws.1.1.1.0, (k, tt))) zs) ⊛ raw (fact 𝓤 (zs.0 ≡ firstEdges ws.1.1.1.0 k ++ without k ys)))) (id⊢ 𝓤 _) $
+        use1 𝓛 (some (λ (zs : List Edge × (Unit {0} × (Unit {0} × Unit {0}))). ‵ (lasts h.ended (κ₂, (β ∷ [], tt)) (edgesᵣ, (xm l₅ ε ws.1.1.1.0, (k, tt))) zs) ⊛ raw (fact 𝓤 (zs.0 ≡ first_edges ws.1.1.1.0 k ++ without k ys)))) (id⊢ 𝓤 _) $
         pick ! (λ zs.
         split ! $
         move ! (1 ∷ []) $
-        heard ! (zs.0 ≡ firstEdges ws.1.1.1.0 k ++ without k ys) (λ full.
+        heard ! (zs.0 ≡ first_edges ws.1.1.1.0 k ++ without k ys) (λ full.
         fsplit ! $
         move ! (1 ∷ []) $
         drop ! $
@@ -424,13 +424,13 @@ module _ {M : Type 1} {𝓤 : Ura M} (𝓛 : Logic 𝓤) (mem : Memory → SProp
         land ! (from ! (stop !)) (init ! 15 refl ((Nothing-Lawful 𝓛).typed v _ is₂).0) $
         drop ! $
         assigns ! (of_opd ! (load ! (from ! (stop !)) (look ! 28 refl))) (from ! (stop !)) (init ! 39 refl ((uint_Lawful 𝓛 w32).typed r _ is₁).0) $
-        use1 𝓛 (‵ (Cell 2048 l₅ (val_of ws.1.1.1.0)) ⊛ ‵ (R.own ws.1.1.1.0 (val_of ws.1.1.1.0 ∷ []))) (array-out 𝓛 2048 ws.1.1.1.0 l₅) $
+        use1 𝓛 (‵ (Cell 2048 l₅ (val_of ws.1.1.1.0)) ⊛ ‵ (R.own ws.1.1.1.0 (val_of ws.1.1.1.0 ∷ []))) (array_out 𝓛 2048 ws.1.1.1.0 l₅) $
         split ! $
         returns ! (look ! 40 refl) $
         forget ! 0 refl $ forget ! 9 refl $ forget ! 11 refl $ forget ! 13 refl $ forget ! 15 refl $ forget ! 17 refl $ forget ! 19 refl $ forget ! 21 refl $ forget ! 23 refl $ forget ! 25 refl $ forget ! 27 refl $ forget ! 29 refl $ forget ! 32 refl $ forget ! 34 refl $ forget ! 36 refl $ forget ! 38 refl $ forget ! 40 refl $
         move ! (40 ∷ 41 ∷ []) $ free1 ! $ move ! (38 ∷ 39 ∷ []) $ free1 ! $ move ! (36 ∷ 37 ∷ []) $ free1 ! $ move ! (34 ∷ 35 ∷ []) $ free1 ! $ move ! (32 ∷ 33 ∷ []) $ free1 ! $ move ! (0 ∷ 31 ∷ []) $ free1 ! $ move ! (28 ∷ 29 ∷ []) $ free1 ! $ move ! (26 ∷ 27 ∷ []) $ free1 ! $ move ! (24 ∷ 25 ∷ []) $ free1 ! $ move ! (22 ∷ 23 ∷ []) $ free1 ! $ move ! (20 ∷ 21 ∷ []) $ free1 ! $ move ! (18 ∷ 19 ∷ []) $ free1 ! $ move ! (16 ∷ 17 ∷ []) $ free1 ! $ move ! (14 ∷ 15 ∷ []) $ free1 ! $ move ! (12 ∷ 13 ∷ []) $ free1 ! $ move ! (10 ∷ 11 ∷ []) $ free1 ! $ move ! (8 ∷ 9 ∷ []) $ free1 ! $ free0 ! $
         keep ! (5 ∷ 4 ∷ 1 ∷ 7 ∷ 6 ∷ 2 ∷ 3 ∷ []) $
-        by ! (exits bound r u ws.1.1.0 zs.0 l-sheet l-edges (listed-open-at _ _ _ ys r k ws.1.1.0 ws.1.1.1.0 zs.0 is512 e ck full))))))))))))))))))))))))))))))))))))))))))
+        by ! (exits bound r u ws.1.1.0 zs.0 l-sheet l-edges (listed_open_at _ _ _ ys r k ws.1.1.0 ws.1.1.1.0 zs.0 is512 e ck full))))))))))))))))))))))))))))))))))))))))))
 
 module _ {M : Type 1} {𝓤 : Ura M} (𝓛 : Logic 𝓤) (mem : Memory → SProp 𝓤) (run : Routine → Fun 𝓤) (𝓣 : Tables 𝓤 𝓛.H)
     (known-numbers : Triple 𝓤 (𝓣.C #edges·numbers) (Numbers 𝓛 mem run)) (known-count : Triple 𝓤 (𝓣.C #edges·count) (Count 𝓛 mem run))

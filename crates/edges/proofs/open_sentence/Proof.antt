@@ -46,13 +46,13 @@ use denote.Triple.Table.{entered, cited}
 use denote.Triple.Walked.{says, Stays, gave_slice, stay_none, walk_of, AllGo, Goes-gave_slice, Goes-none, Walks, ends_at, walked, walk_Meets}
 use denote.Exit.{yes}
 use Rattle.edges.specs.declared.Edge.{Edge}
-use Rattle.edges.specs.Edges.{firstEdges, filledBy}
-use Rattle.rules.specs.Opening.{afterOpening}
+use Rattle.edges.specs.Edges.{first_edges, filled_by}
+use Rattle.rules.specs.Opening.{after_opening}
 use Rattle.opening.specs.Promise as flat
-use Rattle.edges.specs.Promise.{asRecords, outcome}
-use Rattle.edges.proofs.LocalArray.{Cell, val_of, array-in, array-out}
-use Rattle.edges.proofs.Records.{filled_within, few-filled}
-use Rattle.edges.proofs.Promised.{other-length-open-sentence, listed-open-sentence}
+use Rattle.edges.specs.Promise.{as_records, outcome}
+use Rattle.edges.proofs.LocalArray.{Cell, val_of, array_in, array_out}
+use Rattle.edges.proofs.Records.{filled_within, few_filled}
+use Rattle.edges.proofs.Promised.{other_length_open_sentence, listed_open_sentence}
 use Rattle.edges.specs.contracts.Edge as T
 use Rattle.edges.specs.contracts.plain_lists.open_numbers as g
 use Rattle.edges.proofs.plain_lists.open_numbers.Symbol as g-def
@@ -143,7 +143,7 @@ module _ {M : Type 1} {𝓤 : Ura M} (𝓛 : Logic 𝓤) (mem : Memory → SProp
   refuses ne =
       qed 𝓛 ((‵ (flft κ₀ q₀) ⊛ ‵ (flft κ₁ q₁) ⊛ ‵ (flft κ₂ q₂) ⊛ ‵ (flft κ₃ q₃) ⊛ ‵ (flft κ₄ q₄) ⊛ ‵ ftrue) ∷ ‵ (owns (FileT κ₀ ∷ u32 ∷ MutSlice (named 1) κ₁ u32 ∷ MutSlice (named 2) κ₂ u8 ∷ MutSlice (named 3) κ₃ u32 ∷ MutSlice (named 4) κ₄ T.the_row ∷ []) a at) ∷ []) ∵
       suffices ! _ (ends_at 𝓛 f.ended stayed (f.clauses 𝓛 mem run) (((κ₀, (κ₁, (κ₂, (κ₃, (κ₄, tt))))), (q₀, (q₁, (q₂, (q₃, (q₄, tt))))), tt, a, at), tt) (vint w32 1) 1 (tt, (tt, (tablesᵣ.now, (seenᵣ.now, (sheetᵣ.now, (ys, tt)))))) (tt, (tt, (refl, (refl, (refl, (refl, tt))))))) $
-      says ! (other-length-open-sentence _ _ _ _ _ ys ne) $
+      says ! (other_length_open_sentence _ _ _ _ _ ys ne) $
       frame ! $
       fsplit ! $
       move ! (1 ∷ []) $
@@ -198,7 +198,7 @@ module _ {M : Type 1} {𝓤 : Ura M} (𝓛 : Logic 𝓤) (mem : Memory → SProp
       frame ! $
       owned ! u32 (Is u32) (uint_Makes 𝓛 w32) 1 _ (refl, lit< tt) $ done !
 
-  exits : number < 2 ^ 32 → (r : ℕ) (u : Val) (tables' : List ℕ) (seen' : List ℕ) (sheet' : List ℕ) (zs : List Edge) → length tables' ≡ length tablesᵣ.now → length seen' ≡ length seenᵣ.now → length sheet' ≡ length sheetᵣ.now → length zs ≡ length ys → outcome r tables' seen' sheet' zs ≡ afterOpening fileᵣ.now number tablesᵣ.now seenᵣ.now sheetᵣ.now (asRecords ys)
+  exits : number < 2 ^ 32 → (r : ℕ) (u : Val) (tables' : List ℕ) (seen' : List ℕ) (sheet' : List ℕ) (zs : List Edge) → length tables' ≡ length tablesᵣ.now → length seen' ≡ length seenᵣ.now → length sheet' ≡ length sheetᵣ.now → length zs ≡ length ys → outcome r tables' seen' sheet' zs ≡ after_opening fileᵣ.now number tablesᵣ.now seenᵣ.now sheetᵣ.now (as_records ys)
       → ent 𝓤 (⋆ 𝓛 (‵ (flft κ₀ q₀) ∷ ‵ (flft κ₁ q₁) ∷ ‵ (flft κ₂ q₂) ∷ ‵ (flft κ₃ q₃) ∷ ‵ (flft κ₄ q₄) ∷ ‵ File ∷ ‵ (finally u32 tablesᵣ.name tables') ∷ ‵ (finally u8 seenᵣ.name seen') ∷ ‵ (finally u32 sheetᵣ.name sheet') ∷ ‵ (finally T.the_row (γ) zs) ∷ ‵ (u32.own_val r (u ∷ [])) ∷ [])) (Post u)
   exits bound r u tables' seen' sheet' zs l-tables l-seen l-sheet l-edges e =
       qed 𝓛 (‵ (flft κ₀ q₀) ∷ ‵ (flft κ₁ q₁) ∷ ‵ (flft κ₂ q₂) ∷ ‵ (flft κ₃ q₃) ∷ ‵ (flft κ₄ q₄) ∷ ‵ File ∷ ‵ (finally u32 tablesᵣ.name tables') ∷ ‵ (finally u8 seenᵣ.name seen') ∷ ‵ (finally u32 sheetᵣ.name sheet') ∷ ‵ (finally T.the_row (γ) zs) ∷ ‵ (u32.own_val r (u ∷ [])) ∷ []) ∵
@@ -306,7 +306,7 @@ module _ {M : Type 1} {𝓤 : Ura M} (𝓛 : Logic 𝓤) (mem : Memory → SProp
         assigns ! (agg ! (and_then ! (load ! (from ! (stop !)) (look ! 13 refl)) (and_then ! (load ! (from ! (fld ! refl (stop !))) (look_in ! 35 (sub ! 1 refl (whole !)))) (no_more !)))) (from ! (stop !)) (init ! 11 refl (tt, (tt, (record { fits = room-sheet.0 }, tt)))) $
         assigns ! (addr ! (from ! (stop !))) (from ! (stop !)) (init ! 9 refl (tt, tt)) $
         move ! (31 ∷ 0 ∷ []) $
-        use2 𝓛 (‵ (part_at R full_share zeros l₇ 0)) (array-in 𝓛 2048 zeros (array_val (replicate 2048 (vint w32 0))) l₇) $
+        use2 𝓛 (‵ (part_at R full_share zeros l₇ 0)) (array_in 𝓛 2048 zeros (array_val (replicate 2048 (vint w32 0))) l₇) $
         lft_new ! tt (λ α.
         move ! (1 ∷ []) $
         use1 𝓛 (later (some (λ (δ : GName). ‵ ((MutRef (named 4) (α ∷ []) R).own_val (xm l₇ δ zeros) (pm l₇ ∷ [])) ⊛ ‵ (flent (α ∷ []) (Body (mem_of R) l₇ 0 δ))))) (lends_ref 𝓛 R (named 4) (α ∷ []) zeros l₇ 0) $ await ! tt $
@@ -373,11 +373,11 @@ module _ {M : Type 1} {𝓤 : Ura M} (𝓛 : Logic 𝓤) (mem : Memory → SProp
         pick ! (λ r.
         split ! $
         move ! (1 ∷ []) $
-        use1 𝓛 (some (λ (ws : Unit {0} × (Unit {0} × (List ℕ × (List ℕ × (List ℕ × (List ℕ × Unit {0})))))). ‵ (lasts g.ended (κ₀, (κ₁, (κ₂, (κ₃, (α ∷ [], tt))))) (fileᵣ, (number, (tablesᵣ, (seenᵣ, (sheetᵣ, ((xm l₇ δ zeros), tt)))))) ws) ⊛ raw (fact 𝓤 ((flat.outcome r ws.1.1.0 ws.1.1.1.0 ws.1.1.1.1.0 ws.1.1.1.1.1.0 ≡ flat.afterOpeningFlat fileᵣ.now number tablesᵣ.now seenᵣ.now sheetᵣ.now zeros) × (length ws.1.1.1.1.1.0 ≡ length zeros))))) (id⊢ 𝓤 _) $
+        use1 𝓛 (some (λ (ws : Unit {0} × (Unit {0} × (List ℕ × (List ℕ × (List ℕ × (List ℕ × Unit {0})))))). ‵ (lasts g.ended (κ₀, (κ₁, (κ₂, (κ₃, (α ∷ [], tt))))) (fileᵣ, (number, (tablesᵣ, (seenᵣ, (sheetᵣ, ((xm l₇ δ zeros), tt)))))) ws) ⊛ raw (fact 𝓤 ((flat.outcome r ws.1.1.0 ws.1.1.1.0 ws.1.1.1.1.0 ws.1.1.1.1.1.0 ≡ flat.after_opening_flat fileᵣ.now number tablesᵣ.now seenᵣ.now sheetᵣ.now zeros) × (length ws.1.1.1.1.1.0 ≡ length zeros))))) (id⊢ 𝓤 _) $
         pick ! (λ ws.
         split ! $
         move ! (1 ∷ []) $
-        heard ! ((flat.outcome r ws.1.1.0 ws.1.1.1.0 ws.1.1.1.1.0 ws.1.1.1.1.1.0 ≡ flat.afterOpeningFlat fileᵣ.now number tablesᵣ.now seenᵣ.now sheetᵣ.now zeros) × (length ws.1.1.1.1.1.0 ≡ length zeros)) (λ e.
+        heard ! ((flat.outcome r ws.1.1.0 ws.1.1.1.0 ws.1.1.1.1.0 ws.1.1.1.1.1.0 ≡ flat.after_opening_flat fileᵣ.now number tablesᵣ.now seenᵣ.now sheetᵣ.now zeros) × (length ws.1.1.1.1.1.0 ≡ length zeros)) (λ e.
         fsplit ! $
         drop ! $
         fsplit ! $
@@ -430,11 +430,11 @@ module _ {M : Type 1} {𝓤 : Ura M} (𝓛 : Logic 𝓤) (mem : Memory → SProp
         pick ! (λ k.
         split ! $
         move ! (1 ∷ []) $
-        use1 𝓛 (some (λ (vs : Unit {0} × Unit {0}). ‵ (lasts c.ended tt (r, tt) vs) ⊛ raw (fact 𝓤 (k ≡ filledBy r)))) (id⊢ 𝓤 _) $
+        use1 𝓛 (some (λ (vs : Unit {0} × Unit {0}). ‵ (lasts c.ended tt (r, tt) vs) ⊛ raw (fact 𝓤 (k ≡ filled_by r)))) (id⊢ 𝓤 _) $
         pick ! (λ vs.
         split ! $
         move ! (1 ∷ []) $
-        heard ! (k ≡ filledBy r) (λ ck.
+        heard ! (k ≡ filled_by r) (λ ck.
         drop ! $
         split ! $
         drop ! $
@@ -462,17 +462,17 @@ module _ {M : Type 1} {𝓤 : Ura M} (𝓛 : Logic 𝓤) (mem : Memory → SProp
         move ! (12 ∷ 0 ∷ []) $
         fjoin ! $
         move ! (1 ∷ 0 ∷ []) $
-        use2 𝓛 (raw ((Fill 𝓛 mem run).pre (to_fill l₇ β ε ws.1.1.1.1.1.0 k uk))) (goes-fill l₇ β ε ws.1.1.1.1.1.0 k uk (filled_within k r n ck is512) (few-filled k r ck)) $
+        use2 𝓛 (raw ((Fill 𝓛 mem run).pre (to_fill l₇ β ε ws.1.1.1.1.1.0 k uk))) (goes-fill l₇ β ε ws.1.1.1.1.1.0 k uk (filled_within k r n ck is512) (few_filled k r ck)) $
         calls_at ! fm (Fill 𝓛 mem run) known-fill (to_fill l₇ β ε ws.1.1.1.1.1.0 k uk) (and_then ! (load ! (from ! (stop !)) (look ! 13 refl)) (and_then ! (load ! (from ! (stop !)) (look ! 11 refl)) (and_then ! (load ! (from ! (stop !)) (look ! 37 refl)) (no_more !)))) (λ w.
         use1 𝓛 (later (some (λ (v : Unit {0}). ((‵ (flft κ₄ q₄) ⊛ ‵ (flft (β ∷ []) full_share) ⊛ ‵ ftrue) ⊛ ‵ (unit.own_val v (w ∷ []))) ⊛ raw (ensured 𝓛 h.ended (h.clauses 𝓛 mem run) (κ₄, (β ∷ [], tt)) (edgesᵣ, (xm l₇ ε ws.1.1.1.1.1.0, (k, tt))) tt v)))) (id⊢ 𝓤 _) $ await ! tt $
         pick ! (λ v.
         split ! $
         move ! (1 ∷ []) $
-        use1 𝓛 (some (λ (zs : List Edge × (Unit {0} × (Unit {0} × Unit {0}))). ‵ (lasts h.ended (κ₄, (β ∷ [], tt)) (edgesᵣ, (xm l₇ ε ws.1.1.1.1.1.0, (k, tt))) zs) ⊛ raw (fact 𝓤 (zs.0 ≡ firstEdges ws.1.1.1.1.1.0 k ++ without k ys)))) (id⊢ 𝓤 _) $
+        use1 𝓛 (some (λ (zs : List Edge × (Unit {0} × (Unit {0} × Unit {0}))). ‵ (lasts h.ended (κ₄, (β ∷ [], tt)) (edgesᵣ, (xm l₇ ε ws.1.1.1.1.1.0, (k, tt))) zs) ⊛ raw (fact 𝓤 (zs.0 ≡ first_edges ws.1.1.1.1.1.0 k ++ without k ys)))) (id⊢ 𝓤 _) $
         pick ! (λ zs.
         split ! $
         move ! (1 ∷ []) $
-        heard ! (zs.0 ≡ firstEdges ws.1.1.1.1.1.0 k ++ without k ys) (λ full.
+        heard ! (zs.0 ≡ first_edges ws.1.1.1.1.1.0 k ++ without k ys) (λ full.
         fsplit ! $
         move ! (1 ∷ []) $
         drop ! $
@@ -494,13 +494,13 @@ module _ {M : Type 1} {𝓤 : Ura M} (𝓛 : Logic 𝓤) (mem : Memory → SProp
         land ! (from ! (stop !)) (init ! 19 refl ((Nothing-Lawful 𝓛).typed v _ is₂).0) $
         drop ! $
         assigns ! (of_opd ! (load ! (from ! (stop !)) (look ! 40 refl))) (from ! (stop !)) (init ! 55 refl ((uint_Lawful 𝓛 w32).typed r _ is₁).0) $
-        use1 𝓛 (‵ (Cell 2048 l₇ (val_of ws.1.1.1.1.1.0)) ⊛ ‵ (R.own ws.1.1.1.1.1.0 (val_of ws.1.1.1.1.1.0 ∷ []))) (array-out 𝓛 2048 ws.1.1.1.1.1.0 l₇) $
+        use1 𝓛 (‵ (Cell 2048 l₇ (val_of ws.1.1.1.1.1.0)) ⊛ ‵ (R.own ws.1.1.1.1.1.0 (val_of ws.1.1.1.1.1.0 ∷ []))) (array_out 𝓛 2048 ws.1.1.1.1.1.0 l₇) $
         split ! $
         returns ! (look ! 56 refl) $
         forget ! 0 refl $ forget ! 13 refl $ forget ! 15 refl $ forget ! 17 refl $ forget ! 19 refl $ forget ! 21 refl $ forget ! 23 refl $ forget ! 25 refl $ forget ! 27 refl $ forget ! 29 refl $ forget ! 31 refl $ forget ! 33 refl $ forget ! 35 refl $ forget ! 37 refl $ forget ! 39 refl $ forget ! 41 refl $ forget ! 44 refl $ forget ! 46 refl $ forget ! 48 refl $ forget ! 50 refl $ forget ! 52 refl $ forget ! 54 refl $ forget ! 56 refl $
         move ! (56 ∷ 57 ∷ []) $ free1 ! $ move ! (54 ∷ 55 ∷ []) $ free1 ! $ move ! (52 ∷ 53 ∷ []) $ free1 ! $ move ! (50 ∷ 51 ∷ []) $ free1 ! $ move ! (48 ∷ 49 ∷ []) $ free1 ! $ move ! (46 ∷ 47 ∷ []) $ free1 ! $ move ! (44 ∷ 45 ∷ []) $ free1 ! $ move ! (0 ∷ 43 ∷ []) $ free1 ! $ move ! (40 ∷ 41 ∷ []) $ free1 ! $ move ! (38 ∷ 39 ∷ []) $ free1 ! $ move ! (36 ∷ 37 ∷ []) $ free1 ! $ move ! (34 ∷ 35 ∷ []) $ free1 ! $ move ! (32 ∷ 33 ∷ []) $ free1 ! $ move ! (30 ∷ 31 ∷ []) $ free1 ! $ move ! (28 ∷ 29 ∷ []) $ free1 ! $ move ! (26 ∷ 27 ∷ []) $ free1 ! $ move ! (24 ∷ 25 ∷ []) $ free1 ! $ move ! (22 ∷ 23 ∷ []) $ free1 ! $ move ! (20 ∷ 21 ∷ []) $ free1 ! $ move ! (18 ∷ 19 ∷ []) $ free1 ! $ move ! (16 ∷ 17 ∷ []) $ free1 ! $ move ! (14 ∷ 15 ∷ []) $ free1 ! $ move ! (12 ∷ 13 ∷ []) $ free1 ! $ free0 ! $
         keep ! (7 ∷ 6 ∷ 5 ∷ 4 ∷ 1 ∷ 11 ∷ 10 ∷ 9 ∷ 8 ∷ 2 ∷ 3 ∷ []) $
-        by ! (exits bound r u ws.1.1.0 ws.1.1.1.0 ws.1.1.1.1.0 zs.0 l-tables l-seen l-sheet l-edges (listed-open-sentence _ _ _ _ _ ys r k ws.1.1.0 ws.1.1.1.0 ws.1.1.1.1.0 ws.1.1.1.1.1.0 zs.0 is512 e ck full))))))))))))))))))))))))))))))))))))))))))))))))))
+        by ! (exits bound r u ws.1.1.0 ws.1.1.1.0 ws.1.1.1.1.0 zs.0 l-tables l-seen l-sheet l-edges (listed_open_sentence _ _ _ _ _ ys r k ws.1.1.0 ws.1.1.1.0 ws.1.1.1.1.0 ws.1.1.1.1.1.0 zs.0 is512 e ck full))))))))))))))))))))))))))))))))))))))))))))))))))
 
 module _ {M : Type 1} {𝓤 : Ura M} (𝓛 : Logic 𝓤) (mem : Memory → SProp 𝓤) (run : Routine → Fun 𝓤) (𝓣 : Tables 𝓤 𝓛.H)
     (known-numbers : Triple 𝓤 (𝓣.C #edges·numbers) (Numbers 𝓛 mem run)) (known-count : Triple 𝓤 (𝓣.C #edges·count) (Count 𝓛 mem run))

@@ -46,17 +46,17 @@ use denote.Triple.Table.{entered, cited}
 use denote.Triple.Walked.{says, Stays, gave_slice, stay_none, walk_of, AllGo, Goes-gave_slice, Goes-none, Walks, ends_at, walked, walk_Meets}
 use denote.Exit.{yes}
 use Rattle.edges.specs.declared.Edge.{Edge}
-use Rattle.edges.specs.Edges.{firstEdges, filledBy}
+use Rattle.edges.specs.Edges.{first_edges, filled_by}
 use denote.Struct.Laws as LL
 use Rattle.writing.specs.declared.Written.{Written}
 use Rattle.writing.specs.contracts.Written as S
 use Rattle.writing.proofs.Written.TheLaws as S'
-use Rattle.rules.specs.Writing.{afterWriting}
+use Rattle.rules.specs.Writing.{after_writing}
 use Rattle.writing.specs.Promise as flat
-use Rattle.edges.specs.Promise.{asRecords, writtenOutcome}
-use Rattle.edges.proofs.LocalArray.{Cell, val_of, array-in, array-out}
-use Rattle.edges.proofs.Records.{filled_within, few-filled}
-use Rattle.edges.proofs.WritingPromised.{other-length-write-text, listed-write-text}
+use Rattle.edges.specs.Promise.{as_records, written_outcome}
+use Rattle.edges.proofs.LocalArray.{Cell, val_of, array_in, array_out}
+use Rattle.edges.proofs.Records.{filled_within, few_filled}
+use Rattle.edges.proofs.WritingPromised.{other_length_write_text, listed_write_text}
 use Rattle.edges.specs.contracts.Edge as T
 use Rattle.edges.specs.contracts.plain_lists.write_numbers as g
 use Rattle.edges.proofs.plain_lists.write_numbers.Symbol as g-def
@@ -157,7 +157,7 @@ module _ {M : Type 1} {𝓤 : Ura M} (𝓛 : Logic 𝓤) (mem : Memory → SProp
   refuses ne =
       qed 𝓛 ((‵ (flft κ₀ q₀) ⊛ ‵ (flft κ₁ q₁) ⊛ ‵ (flft κ₂ q₂) ⊛ ‵ (flft κ₃ q₃) ⊛ ‵ (flft κ₄ q₄) ⊛ ‵ (flft κ₅ q₅) ⊛ ‵ ftrue) ∷ ‵ (owns (FileT κ₀ ∷ MutSlice (named 1) κ₁ u8 ∷ MutSlice (named 2) κ₂ u32 ∷ MutSlice (named 3) κ₃ u8 ∷ MutSlice (named 4) κ₄ u32 ∷ MutSlice (named 5) κ₅ T.the_row ∷ []) a at) ∷ []) ∵
       suffices ! _ (ends_at 𝓛 f.ended stayed (f.clauses 𝓛 mem run) (((κ₀, (κ₁, (κ₂, (κ₃, (κ₄, (κ₅, tt)))))), (q₀, (q₁, (q₂, (q₃, (q₄, (q₅, tt)))))), tt, a, at), tt) (answered wrong_size) wrong_size (tt, (outputᵣ.now, (tablesᵣ.now, (seenᵣ.now, (sheetᵣ.now, (ys, tt)))))) (tt, (refl, (refl, (refl, (refl, (refl, tt))))))) $
-      says ! (other-length-write-text _ _ _ _ _ ys ne) $
+      says ! (other_length_write_text _ _ _ _ _ ys ne) $
       frame ! $
       fsplit ! $
       move ! (1 ∷ []) $
@@ -219,7 +219,7 @@ module _ {M : Type 1} {𝓤 : Ura M} (𝓛 : Logic 𝓤) (mem : Memory → SProp
       frame ! $
       owned ! S.the_row (Is S.the_row) (LL.makes S.the_type S'.the_plain 𝓛) wrong_size _ (LL.owes S.the_type S'.the_laws wrong_size ((refl, lit< tt), ((refl, lit< tt), ((refl, lit< tt), tt)))) $ done !
 
-  exits : (r : Written) (u : Val) (output' : List ℕ) (tables' : List ℕ) (seen' : List ℕ) (sheet' : List ℕ) (zs : List Edge) → length output' ≡ length outputᵣ.now → length tables' ≡ length tablesᵣ.now → length seen' ≡ length seenᵣ.now → length sheet' ≡ length sheetᵣ.now → length zs ≡ length ys → writtenOutcome r tables' seen' sheet' zs output' ≡ afterWriting fileᵣ.now tablesᵣ.now seenᵣ.now sheetᵣ.now (asRecords ys) outputᵣ.now
+  exits : (r : Written) (u : Val) (output' : List ℕ) (tables' : List ℕ) (seen' : List ℕ) (sheet' : List ℕ) (zs : List Edge) → length output' ≡ length outputᵣ.now → length tables' ≡ length tablesᵣ.now → length seen' ≡ length seenᵣ.now → length sheet' ≡ length sheetᵣ.now → length zs ≡ length ys → written_outcome r tables' seen' sheet' zs output' ≡ after_writing fileᵣ.now tablesᵣ.now seenᵣ.now sheetᵣ.now (as_records ys) outputᵣ.now
       → ent 𝓤 (⋆ 𝓛 (‵ (flft κ₀ q₀) ∷ ‵ (flft κ₁ q₁) ∷ ‵ (flft κ₂ q₂) ∷ ‵ (flft κ₃ q₃) ∷ ‵ (flft κ₄ q₄) ∷ ‵ (flft κ₅ q₅) ∷ ‵ File ∷ ‵ (finally u8 outputᵣ.name output') ∷ ‵ (finally u32 tablesᵣ.name tables') ∷ ‵ (finally u8 seenᵣ.name seen') ∷ ‵ (finally u32 sheetᵣ.name sheet') ∷ ‵ (finally T.the_row (γ) zs) ∷ ‵ ((S.the_row).own_val r (u ∷ [])) ∷ [])) (Post u)
   exits r u output' tables' seen' sheet' zs l-output l-tables l-seen l-sheet l-edges e =
       qed 𝓛 (‵ (flft κ₀ q₀) ∷ ‵ (flft κ₁ q₁) ∷ ‵ (flft κ₂ q₂) ∷ ‵ (flft κ₃ q₃) ∷ ‵ (flft κ₄ q₄) ∷ ‵ (flft κ₅ q₅) ∷ ‵ File ∷ ‵ (finally u8 outputᵣ.name output') ∷ ‵ (finally u32 tablesᵣ.name tables') ∷ ‵ (finally u8 seenᵣ.name seen') ∷ ‵ (finally u32 sheetᵣ.name sheet') ∷ ‵ (finally T.the_row (γ) zs) ∷ ‵ ((S.the_row).own_val r (u ∷ [])) ∷ []) ∵
@@ -331,7 +331,7 @@ module _ {M : Type 1} {𝓤 : Ura M} (𝓛 : Logic 𝓤) (mem : Memory → SProp
         assigns ! (agg ! (and_then ! (load ! (from ! (stop !)) (look ! 13 refl)) (and_then ! (load ! (from ! (fld ! refl (stop !))) (look_in ! 39 (sub ! 1 refl (whole !)))) (no_more !)))) (from ! (stop !)) (init ! 11 refl (tt, (tt, (record { fits = room-sheet.0 }, tt)))) $
         assigns ! (addr ! (from ! (stop !))) (from ! (stop !)) (init ! 9 refl (tt, tt)) $
         move ! (35 ∷ 0 ∷ []) $
-        use2 𝓛 (‵ (part_at R full_share zeros l₇ 0)) (array-in 𝓛 2048 zeros (array_val (replicate 2048 (vint w32 0))) l₇) $
+        use2 𝓛 (‵ (part_at R full_share zeros l₇ 0)) (array_in 𝓛 2048 zeros (array_val (replicate 2048 (vint w32 0))) l₇) $
         lft_new ! tt (λ α.
         move ! (1 ∷ []) $
         use1 𝓛 (later (some (λ (δ : GName). ‵ ((MutRef (named 5) (α ∷ []) R).own_val (xm l₇ δ zeros) (pm l₇ ∷ [])) ⊛ ‵ (flent (α ∷ []) (Body (mem_of R) l₇ 0 δ))))) (lends_ref 𝓛 R (named 5) (α ∷ []) zeros l₇ 0) $ await ! tt $
@@ -402,11 +402,11 @@ module _ {M : Type 1} {𝓤 : Ura M} (𝓛 : Logic 𝓤) (mem : Memory → SProp
         pick ! (λ r.
         split ! $
         move ! (1 ∷ []) $
-        use1 𝓛 (some (λ (ws : Unit {0} × (List ℕ × (List ℕ × (List ℕ × (List ℕ × (List ℕ × Unit {0})))))). ‵ (lasts g.ended (κ₀, (κ₁, (κ₂, (κ₃, (κ₄, (α ∷ [], tt)))))) (fileᵣ, (outputᵣ, (tablesᵣ, (seenᵣ, (sheetᵣ, ((xm l₇ δ zeros), tt)))))) ws) ⊛ raw (fact 𝓤 ((flat.outcome r ws.1.1.0 ws.1.1.1.0 ws.1.1.1.1.0 ws.1.1.1.1.1.0 ws.1.0 ≡ flat.afterWritingFlat fileᵣ.now tablesᵣ.now seenᵣ.now sheetᵣ.now zeros outputᵣ.now) × (length ws.1.1.1.1.1.0 ≡ length zeros))))) (id⊢ 𝓤 _) $
+        use1 𝓛 (some (λ (ws : Unit {0} × (List ℕ × (List ℕ × (List ℕ × (List ℕ × (List ℕ × Unit {0})))))). ‵ (lasts g.ended (κ₀, (κ₁, (κ₂, (κ₃, (κ₄, (α ∷ [], tt)))))) (fileᵣ, (outputᵣ, (tablesᵣ, (seenᵣ, (sheetᵣ, ((xm l₇ δ zeros), tt)))))) ws) ⊛ raw (fact 𝓤 ((flat.outcome r ws.1.1.0 ws.1.1.1.0 ws.1.1.1.1.0 ws.1.1.1.1.1.0 ws.1.0 ≡ flat.after_writing_flat fileᵣ.now tablesᵣ.now seenᵣ.now sheetᵣ.now zeros outputᵣ.now) × (length ws.1.1.1.1.1.0 ≡ length zeros))))) (id⊢ 𝓤 _) $
         pick ! (λ ws.
         split ! $
         move ! (1 ∷ []) $
-        heard ! ((flat.outcome r ws.1.1.0 ws.1.1.1.0 ws.1.1.1.1.0 ws.1.1.1.1.1.0 ws.1.0 ≡ flat.afterWritingFlat fileᵣ.now tablesᵣ.now seenᵣ.now sheetᵣ.now zeros outputᵣ.now) × (length ws.1.1.1.1.1.0 ≡ length zeros)) (λ e.
+        heard ! ((flat.outcome r ws.1.1.0 ws.1.1.1.0 ws.1.1.1.1.0 ws.1.1.1.1.1.0 ws.1.0 ≡ flat.after_writing_flat fileᵣ.now tablesᵣ.now seenᵣ.now sheetᵣ.now zeros outputᵣ.now) × (length ws.1.1.1.1.1.0 ≡ length zeros)) (λ e.
         fsplit ! $
         drop ! $
         fsplit ! $
@@ -467,11 +467,11 @@ module _ {M : Type 1} {𝓤 : Ura M} (𝓛 : Logic 𝓤) (mem : Memory → SProp
         pick ! (λ k.
         split ! $
         move ! (1 ∷ []) $
-        use1 𝓛 (some (λ (vs : Unit {0} × Unit {0}). ‵ (lasts c.ended tt (r.refusal, tt) vs) ⊛ raw (fact 𝓤 (k ≡ filledBy r.refusal)))) (id⊢ 𝓤 _) $
+        use1 𝓛 (some (λ (vs : Unit {0} × Unit {0}). ‵ (lasts c.ended tt (r.refusal, tt) vs) ⊛ raw (fact 𝓤 (k ≡ filled_by r.refusal)))) (id⊢ 𝓤 _) $
         pick ! (λ vs.
         split ! $
         move ! (1 ∷ []) $
-        heard ! (k ≡ filledBy r.refusal) (λ ck.
+        heard ! (k ≡ filled_by r.refusal) (λ ck.
         drop ! $
         split ! $
         drop ! $
@@ -499,17 +499,17 @@ module _ {M : Type 1} {𝓤 : Ura M} (𝓛 : Logic 𝓤) (mem : Memory → SProp
         move ! (14 ∷ 0 ∷ []) $
         fjoin ! $
         move ! (1 ∷ 0 ∷ []) $
-        use2 𝓛 (raw ((Fill 𝓛 mem run).pre (to_fill l₇ β ε ws.1.1.1.1.1.0 k uk))) (goes-fill l₇ β ε ws.1.1.1.1.1.0 k uk (filled_within k r.refusal n ck is512) (few-filled k r.refusal ck)) $
+        use2 𝓛 (raw ((Fill 𝓛 mem run).pre (to_fill l₇ β ε ws.1.1.1.1.1.0 k uk))) (goes-fill l₇ β ε ws.1.1.1.1.1.0 k uk (filled_within k r.refusal n ck is512) (few_filled k r.refusal ck)) $
         calls_at ! fm (Fill 𝓛 mem run) known-fill (to_fill l₇ β ε ws.1.1.1.1.1.0 k uk) (and_then ! (load ! (from ! (stop !)) (look ! 15 refl)) (and_then ! (load ! (from ! (stop !)) (look ! 13 refl)) (and_then ! (load ! (from ! (stop !)) (look ! 43 refl)) (no_more !)))) (λ w.
         use1 𝓛 (later (some (λ (v : Unit {0}). ((‵ (flft κ₅ q₅) ⊛ ‵ (flft (β ∷ []) full_share) ⊛ ‵ ftrue) ⊛ ‵ (unit.own_val v (w ∷ []))) ⊛ raw (ensured 𝓛 h.ended (h.clauses 𝓛 mem run) (κ₅, (β ∷ [], tt)) (edgesᵣ, (xm l₇ ε ws.1.1.1.1.1.0, (k, tt))) tt v)))) (id⊢ 𝓤 _) $ await ! tt $
         pick ! (λ v.
         split ! $
         move ! (1 ∷ []) $
-        use1 𝓛 (some (λ (zs : List Edge × (Unit {0} × (Unit {0} × Unit {0}))). ‵ (lasts h.ended (κ₅, (β ∷ [], tt)) (edgesᵣ, (xm l₇ ε ws.1.1.1.1.1.0, (k, tt))) zs) ⊛ raw (fact 𝓤 (zs.0 ≡ firstEdges ws.1.1.1.1.1.0 k ++ without k ys)))) (id⊢ 𝓤 _) $
+        use1 𝓛 (some (λ (zs : List Edge × (Unit {0} × (Unit {0} × Unit {0}))). ‵ (lasts h.ended (κ₅, (β ∷ [], tt)) (edgesᵣ, (xm l₇ ε ws.1.1.1.1.1.0, (k, tt))) zs) ⊛ raw (fact 𝓤 (zs.0 ≡ first_edges ws.1.1.1.1.1.0 k ++ without k ys)))) (id⊢ 𝓤 _) $
         pick ! (λ zs.
         split ! $
         move ! (1 ∷ []) $
-        heard ! (zs.0 ≡ firstEdges ws.1.1.1.1.1.0 k ++ without k ys) (λ full.
+        heard ! (zs.0 ≡ first_edges ws.1.1.1.1.1.0 k ++ without k ys) (λ full.
         fsplit ! $
         move ! (1 ∷ []) $
         drop ! $
@@ -531,13 +531,13 @@ module _ {M : Type 1} {𝓤 : Ura M} (𝓛 : Logic 𝓤) (mem : Memory → SProp
         land ! (from ! (stop !)) (init ! 21 refl ((Nothing-Lawful 𝓛).typed v _ is₂).0) $
         drop ! $
         assigns ! (of_opd ! (load ! (from ! (stop !)) (look ! 46 refl))) (from ! (stop !)) (init ! 61 refl ((LL.lawful S.the_type S'.the_laws 𝓛).typed r _ (subst (Is S.the_row r) told is₁)).0) $
-        use1 𝓛 (‵ (Cell 2048 l₇ (val_of ws.1.1.1.1.1.0)) ⊛ ‵ (R.own ws.1.1.1.1.1.0 (val_of ws.1.1.1.1.1.0 ∷ []))) (array-out 𝓛 2048 ws.1.1.1.1.1.0 l₇) $
+        use1 𝓛 (‵ (Cell 2048 l₇ (val_of ws.1.1.1.1.1.0)) ⊛ ‵ (R.own ws.1.1.1.1.1.0 (val_of ws.1.1.1.1.1.0 ∷ []))) (array_out 𝓛 2048 ws.1.1.1.1.1.0 l₇) $
         split ! $
         returns ! (look ! 62 refl) $
         forget ! 0 refl $ forget ! 15 refl $ forget ! 17 refl $ forget ! 19 refl $ forget ! 21 refl $ forget ! 23 refl $ forget ! 25 refl $ forget ! 27 refl $ forget ! 29 refl $ forget ! 31 refl $ forget ! 33 refl $ forget ! 35 refl $ forget ! 37 refl $ forget ! 39 refl $ forget ! 41 refl $ forget ! 43 refl $ forget ! 45 refl $ forget ! 47 refl $ forget ! 50 refl $ forget ! 52 refl $ forget ! 54 refl $ forget ! 56 refl $ forget ! 58 refl $ forget ! 60 refl $ forget ! 62 refl $
         move ! (62 ∷ 63 ∷ []) $ free1 ! $ move ! (60 ∷ 61 ∷ []) $ free1 ! $ move ! (58 ∷ 59 ∷ []) $ free1 ! $ move ! (56 ∷ 57 ∷ []) $ free1 ! $ move ! (54 ∷ 55 ∷ []) $ free1 ! $ move ! (52 ∷ 53 ∷ []) $ free1 ! $ move ! (50 ∷ 51 ∷ []) $ free1 ! $ move ! (0 ∷ 49 ∷ []) $ free1 ! $ move ! (46 ∷ 47 ∷ []) $ free1 ! $ move ! (44 ∷ 45 ∷ []) $ free1 ! $ move ! (42 ∷ 43 ∷ []) $ free1 ! $ move ! (40 ∷ 41 ∷ []) $ free1 ! $ move ! (38 ∷ 39 ∷ []) $ free1 ! $ move ! (36 ∷ 37 ∷ []) $ free1 ! $ move ! (34 ∷ 35 ∷ []) $ free1 ! $ move ! (32 ∷ 33 ∷ []) $ free1 ! $ move ! (30 ∷ 31 ∷ []) $ free1 ! $ move ! (28 ∷ 29 ∷ []) $ free1 ! $ move ! (26 ∷ 27 ∷ []) $ free1 ! $ move ! (24 ∷ 25 ∷ []) $ free1 ! $ move ! (22 ∷ 23 ∷ []) $ free1 ! $ move ! (20 ∷ 21 ∷ []) $ free1 ! $ move ! (18 ∷ 19 ∷ []) $ free1 ! $ move ! (16 ∷ 17 ∷ []) $ free1 ! $ move ! (14 ∷ 15 ∷ []) $ free1 ! $ free0 ! $
         keep ! (8 ∷ 7 ∷ 6 ∷ 5 ∷ 4 ∷ 1 ∷ 13 ∷ 12 ∷ 11 ∷ 10 ∷ 9 ∷ 2 ∷ 3 ∷ []) $
-        by ! (exits r (answered r) ws.1.0 ws.1.1.0 ws.1.1.1.0 ws.1.1.1.1.0 zs.0 l-output l-tables l-seen l-sheet l-edges (listed-write-text _ _ _ _ _ ys r k ws.1.0 ws.1.1.0 ws.1.1.1.0 ws.1.1.1.1.0 ws.1.1.1.1.1.0 zs.0 is512 e ck full)))))))))))))))))))))))))))))))))))))))))))))))))))))
+        by ! (exits r (answered r) ws.1.0 ws.1.1.0 ws.1.1.1.0 ws.1.1.1.1.0 zs.0 l-output l-tables l-seen l-sheet l-edges (listed_write_text _ _ _ _ _ ys r k ws.1.0 ws.1.1.0 ws.1.1.1.0 ws.1.1.1.1.0 ws.1.1.1.1.1.0 zs.0 is512 e ck full)))))))))))))))))))))))))))))))))))))))))))))))))))))
 
 module _ {M : Type 1} {𝓤 : Ura M} (𝓛 : Logic 𝓤) (mem : Memory → SProp 𝓤) (run : Routine → Fun 𝓤) (𝓣 : Tables 𝓤 𝓛.H)
     (known-numbers : Triple 𝓤 (𝓣.C #edges·numbers) (Numbers 𝓛 mem run)) (known-count : Triple 𝓤 (𝓣.C #edges·count) (Count 𝓛 mem run))

@@ -1,5 +1,5 @@
 -- `explained_demands::explained_twice` meets its contract: both outcomes are what the contract of explain says, which is one.
-use Rattle.explained_demands.proofs.Outcomes.{part-only, part-fresh}
+use Rattle.explained_demands.proofs.Outcomes.{part_only, part_fresh}
 use Rattle.explained_demands.proofs.explained_twice.Statement.{statement}
 use Rattle.explained_demands.proofs.explained_twice.Tie as tie
 
@@ -14,8 +14,8 @@ returns c =
     let p = (first c).explain.ensures in
     let q = (second c).explain2.ensures in
     let r = c.same_text.ensures in (
-      λ t s. part-only _ _ _ _ _ _ _ _ _ _ _ _ _ _ _ _ _ r p q t s,
-      λ w v k l. part-fresh _ _ _ _ _ _ _ _ _ _ _ _ _ _ _ _ _ r p q w v k l,
+      λ t s. part_only _ _ _ _ _ _ _ _ _ _ _ _ _ _ _ _ _ r p q t s,
+      λ w v k l. part_fresh _ _ _ _ _ _ _ _ _ _ _ _ _ _ _ _ _ r p q w v k l,
     )
 
 pub explained-twice-spec : {M : Type 1} → statement M

@@ -1,5 +1,5 @@
 -- `explained_demands::placed_twice` meets its contract: both outcomes are what the contract of explain_place says, which is one.
-use Rattle.explained_demands.proofs.Outcomes.{placed-only, placed-fresh}
+use Rattle.explained_demands.proofs.Outcomes.{placed_only, placed_fresh}
 use Rattle.explained_demands.proofs.placed_twice.Statement.{statement}
 use Rattle.explained_demands.proofs.placed_twice.Tie as tie
 
@@ -13,7 +13,7 @@ returns : tie.Need-returns
 returns c =
     let p = (first c).explain-place.ensures in
     let q = (second c).explain-place2.ensures in
-    (λ t s. placed-only _ _ _ _ _ _ _ _ _ _ p q t s, λ w v k l. placed-fresh _ _ _ _ _ _ _ _ _ _ p q w v k l)
+    (λ t s. placed_only _ _ _ _ _ _ _ _ _ _ p q t s, λ w v k l. placed_fresh _ _ _ _ _ _ _ _ _ _ p q w v k l)
 
 pub placed-twice-spec : {M : Type 1} → statement M
 placed-twice-spec =

@@ -9,8 +9,8 @@ use Rattle.rules.specs.Tables.{Row}
 use Rattle.table_sheet.specs.SheetRows.{rows_from}
 use Rattle.table_sheet.specs.LookUps.{TagFound}
 use Rattle.table_sheet.specs.declared.Found.TheVariants as found
-use Rattle.tables.proofs.RowsSoFar.{rows-counted}
-use Rattle.explaining.proofs.Described.{row_told, reserved-told, missing-told}
+use Rattle.tables.proofs.RowsSoFar.{rows_counted}
+use Rattle.explaining.proofs.Described.{row_told, reserved_told, missing_told}
 use Rattle.explaining.proofs.describe.Statement.{statement}
 use Rattle.explaining.proofs.describe.Tie as tie
 
@@ -42,7 +42,7 @@ module _ (f : tie.After-found) where
   has-tag = subst (TagFound (tag its) (rs its)) f.found.given.1 f.before.before.seek-tag.ensures
 
   among : row < its.args.rows
-  among = subst (λ (n : ℕ). row < n) (rows-counted (file its) (sheet its) its.args.place its.args.rows) has-tag.0
+  among = subst (λ (n : ℕ). row < n) (rows_counted (file its) (sheet its) its.args.place its.args.rows) has-tag.0
 
   inside : its.args.place + 6 * row + 6 ≤ length (sheet its)
   inside = omega (arith, among, its.pre.0)
@@ -87,14 +87,14 @@ returns-2 c =
     let d = c.before.before in
     let e = d.before in
     let s = start e.before.before in
-    reserved-told (file s) (sheet s) s.args.place s.args.rows (tag s) s.args.of (missing e) (sym d.is-reserved.ensures ∙ c.before.if1.true) _ c.granted2.ensures
+    reserved_told (file s) (sheet s) s.args.place s.args.rows (tag s) s.args.of (missing e) (sym d.is-reserved.ensures ∙ c.before.if1.true) _ c.granted2.ensures
 
 returns-3 : tie.Need-returns-3
 returns-3 c =
     let d = c.before.before in
     let e = d.before in
     let s = start e.before.before in
-    missing-told (file s) (sheet s) s.args.place s.args.rows (tag s) s.args.of (missing e) (sym d.is-reserved.ensures ∙ c.before.if1.false) _ c.refused.ensures
+    missing_told (file s) (sheet s) s.args.place s.args.rows (tag s) s.args.of (missing e) (sym d.is-reserved.ensures ∙ c.before.if1.false) _ c.refused.ensures
 
 pub describe-spec : {M : Type 1} → statement M
 describe-spec =

@@ -4,8 +4,8 @@ use borrow.Author.Tests.{not-true, not-false, lt-leb, le-leb}
 use mathlib.Core.Path.{◌≡◌, sym, ◌∙◌}
 use mathlib.Core.Bool.{true}
 use lib.ListN.{length}
-use Rattle.rules.specs.Survey.{sheetsFit}
-use Rattle.explaining.proofs.Lent.{unsized, too_long, too-long-list, explained-whole}
+use Rattle.rules.specs.Survey.{sheets_fit}
+use Rattle.explaining.proofs.Lent.{unsized, too_long, too_long_list, explained_whole}
 use Rattle.explaining.proofs.explain_place.Statement.{statement}
 use Rattle.explaining.proofs.explain_place.Tie as tie
 
@@ -13,7 +13,7 @@ abbrev start : tie.After-sheets-fit → tie.Start
 start d = d.before.before.before.before.before.before.before.before
 
 -- the two sheets have their sizes
-sized : (e : tie.Else1) → sheetsFit (start e.before).args.sheet.now (start e.before).args.seen.now ≡ true
+sized : (e : tie.Else1) → sheets_fit (start e.before).args.sheet.now (start e.before).args.seen.now ≡ true
 sized e = sym e.before.sheets-fit.ensures ∙ not-false e.before.sheets-fit.result e.if1.false
 
 returns : tie.Need-returns
@@ -35,7 +35,7 @@ returns-3 c =
     let f = c.before.before in
     let e = f.before in
     let x = (start e.before).args in
-    too-long-list x.file.now x.list.now x.table x.tag.now x.sheet.now x.seen.now _ (sized e)
+    too_long_list x.file.now x.list.now x.table x.tag.now x.sheet.now x.seen.now _ (sized e)
     (le-leb (length x.file.now) 268435456 f.if2.false) (lt-leb (length x.list.now) 268435456 c.before.if3.true) c.refused3.ensures
 
 explain-read-requires : tie.Need-explain-read-requires
@@ -52,7 +52,7 @@ returns-4 c =
     let f = g.before in
     let e = f.before in
     let x = (start e.before).args in
-    explained-whole x.file.now x.list.now x.table x.tag.now x.sheet.now x.seen.now _ (sized e)
+    explained_whole x.file.now x.list.now x.table x.tag.now x.sheet.now x.seen.now _ (sized e)
     (le-leb (length x.file.now) 268435456 f.if2.false) (le-leb (length x.list.now) 268435456 g.if3.false) k.explain-read.ensures
     k.explain-read.new.1.1.1.1.0 k.explain-read.new.1.1.1.1.1.0 _ _
     k.explain-read.auto.1.1.1.1.0 k.explain-read.auto.1.1.1.1.1.0 first.clear.ensures second.clear2.ensures

@@ -3,11 +3,11 @@ use borrow.Author.Rules.{rules}
 use native.Mathlib.Omega.{arith}
 use Prim.Native.Nat.{ℕ}
 use mathlib.Core.Path.{◌≡◌, sym, ap, ◌∙◌}
-use Rattle.rules.specs.Survey.{surveyOf}
+use Rattle.rules.specs.Survey.{survey_of}
 use Rattle.survey.proofs.Lent.{fitting}
-use Rattle.rules.specs.Explaining.{refusedBy}
-use Rattle.explaining.specs.Promise.{asExplained}
-use Rattle.explaining.proofs.Lent.{Left, surveyed, telling, as_read, has-table, lacks-table, file-refused, list-refused, from-file, from_list}
+use Rattle.rules.specs.Explaining.{refused_by}
+use Rattle.explaining.specs.Promise.{as_explained}
+use Rattle.explaining.proofs.Lent.{Left, surveyed, telling, as_read, has_table, lacks_table, file_refused, list_refused, from_file, from_list}
 use Rattle.explaining.proofs.explain_read.Statement.{statement}
 use Rattle.explaining.proofs.explain_read.Tie as tie
 
@@ -37,18 +37,18 @@ then-left b =
     surveyed (start d).args.list.now d.survey.last.1.0 d.survey.last.1.1.0 b.survey2.result b.survey2.new.1.0 b.survey2.new.1.1.0
     (left d).fits (start d).pre.2 b.survey2.auto.1.0 b.survey2.auto.1.1.0 b.survey2.ensures
 
-accepted : (b : tie.After-survey2) → (surveyOf (start (first (way b))).args.file.now).refusal ≡ 0
+accepted : (b : tie.After-survey2) → (survey_of (start (first (way b))).args.file.now).refusal ≡ 0
 accepted b = sym (left (first (way b))).refusal ∙ (way b).if1.false
 
-both : (e : tie.Else2) → (surveyOf (start (first (way (second e)))).args.list.now).refusal ≡ 0
+both : (e : tie.Else2) → (survey_of (start (first (way (second e)))).args.list.now).refusal ≡ 0
 both e = sym (then-left (second e)).refusal ∙ e.if2.false
 
 returns : tie.Need-returns
 returns c =
     let d = c.before.before.before.before.before.before.before in
     let x = (start d).args in
-    file-refused x.file.now x.list.now x.table x.tag.now _ (λ z. c.before.if1.true ((left d).refusal ∙ z))
-    (c.refused.ensures ∙ ap (λ (n : ℕ). asExplained (refusedBy n)) (left d).refusal)
+    file_refused x.file.now x.list.now x.table x.tag.now _ (λ z. c.before.if1.true ((left d).refusal ∙ z))
+    (c.refused.ensures ∙ ap (λ (n : ℕ). as_explained (refused_by n)) (left d).refusal)
 
 tag-count-requires : tie.Need-tag-count-requires
 tag-count-requires c κs =
@@ -64,8 +64,8 @@ returns-2 : tie.Need-returns-2
 returns-2 c =
     let b = c.before.before.before.before.before.before.before in
     let x = (start (first (way b))).args in
-    list-refused x.file.now x.list.now x.table x.tag.now _ (accepted b)
-    (λ z. c.before.if2.true ((then-left b).refusal ∙ z)) (c.refused2.ensures ∙ ap (λ (n : ℕ). asExplained (refusedBy n)) (then-left b).refusal)
+    list_refused x.file.now x.list.now x.table x.tag.now _ (accepted b)
+    (λ z. c.before.if2.true ((then-left b).refusal ∙ z)) (c.refused2.ensures ∙ ap (λ (n : ℕ). as_explained (refused_by n)) (then-left b).refusal)
 
 returns-3 : tie.Need-returns-3
 returns-3 c =
@@ -73,8 +73,8 @@ returns-3 c =
     let d = first (way b) in
     let x = (start d).args in
     let k = b.before.before.before in
-    from-file x.file.now x.list.now x.table x.tag.now _ (accepted b) (both c.before)
-    (has-table x.file.now d.survey.result _ _ (left d) x.table (λ z. c.if3.true (k.before.before.tag-count.ensures ∙ z)))
+    from_file x.file.now x.list.now x.table x.tag.now _ (accepted b) (both c.before)
+    (has_table x.file.now d.survey.result _ _ (left d) x.table (λ z. c.if3.true (k.before.before.tag-count.ensures ∙ z)))
     (k.look_up.ensures ∙ as_read x.file.now d.survey.result _ _ (left d) 1 x.table x.tag.now)
 
 look-up-requires-2 : tie.Need-look-up-requires-2
@@ -100,7 +100,7 @@ returns-4 c =
     let x = (start d).args in
     let k = b.before.before.before in
     from_list x.file.now x.list.now x.table x.tag.now _ (accepted b) (both f.before)
-    (lacks-table x.file.now d.survey.result _ _ (left d) x.table (sym k.before.before.tag-count.ensures ∙ f.if3.false))
+    (lacks_table x.file.now d.survey.result _ _ (left d) x.table (sym k.before.before.tag-count.ensures ∙ f.if3.false))
     (c.look-up2.ensures ∙ as_read x.list.now b.survey2.result _ _ (then-left b) 2 x.table x.tag.now)
 
 pub explain-read-spec : {M : Type 1} → statement M

@@ -9,10 +9,10 @@ use borrow.Author.Tests.{not-true, not-false}
 use Rattle.rules.specs.Texts.{Text}
 use Rattle.rules.specs.Columns.{columns}
 use Rattle.columns.specs.Listing.{line_of, Listed}
-use Rattle.headings.specs.Headings.{whole, numbersOn}
+use Rattle.headings.specs.Headings.{whole, numbers_on}
 use Rattle.headings.specs.declared.bos.FourNumbers.TheVariants.{Good, Bad}
-use Rattle.headings.proofs.BosLines.{whole_long, bad-column}
-use Rattle.headings.proofs.HeadingSteps.{alone-step}
+use Rattle.headings.proofs.BosLines.{whole_long, bad_column}
+use Rattle.headings.proofs.HeadingSteps.{alone_step}
 use Rattle.headings.proofs.heading_alone.Statement.{statement}
 use Rattle.headings.proofs.heading_alone.Tie as tie
 
@@ -38,19 +38,19 @@ long e = let h = whole_long (columns (line e.before)) (is_whole e) in omega (ari
 abbrev bad : tie.After-known-told → tie.After-read-numbers
 bad k = k.before.before.before
 
-bad-is : (k : tie.After-known-told) → numbersOn (columns (line (bad k).before.before)) ≡ Bad k.before.read.given.0.0
+bad-is : (k : tie.After-known-told) → numbers_on (columns (line (bad k).before.before)) ≡ Bad k.before.read.given.0.0
 bad-is k = sym (bad k).read-numbers.ensures ∙ k.before.read.given.1
 
 abbrev good : tie.After-known-told2 → tie.After-read-numbers
 good k = k.before.before.before
 
-good-is : (k : tie.After-known-told2) → numbersOn (columns (line (good k).before.before)) ≡ Good k.before.read2.given.0.0
+good-is : (k : tie.After-known-told2) → numbers_on (columns (line (good k).before.before)) ≡ Good k.before.read2.given.0.0
 good-is k = sym (good k).read-numbers.ensures ∙ k.before.read2.given.1
 
 returns : tie.Need-returns
 returns c =
     let x = c.before.before in
-    rw (alone-step (line x), sym x.has-columns.ensures ∙ not-true x.has-columns.result c.before.if1.true) c.refused.ensures
+    rw (alone_step (line x), sym x.has-columns.ensures ∙ not-true x.has-columns.result c.before.if1.true) c.refused.ensures
 
 read-numbers-requires : tie.Need-read-numbers-requires
 read-numbers-requires c κs =
@@ -60,7 +60,7 @@ read-numbers-requires c κs =
 refused-at-requires : tie.Need-refused-at-requires
 refused-at-requires c κs =
     let e = (bad c).before in
-    let h = bad-column (columns (line e.before)) _ (bad-is c) in
+    let h = bad_column (columns (line e.before)) _ (bad-is c) in
     (omega (arith, long e), (file e.before, listed e.before))
 
 say-heading-requires : tie.Need-say-heading-requires
@@ -70,13 +70,13 @@ returns-2 : tie.Need-returns-2
 returns-2 c =
     let e = (bad c.before).before in
     let x = e.before in
-    rw (alone-step (line x), is_whole e, bad-is c.before) (c.refused-at.ensures (file x) (listed x))
+    rw (alone_step (line x), is_whole e, bad-is c.before) (c.refused-at.ensures (file x) (listed x))
 
 returns-3 : tie.Need-returns-3
 returns-3 c =
     let e = (good c.before).before in
     let x = e.before in
-    rw (alone-step (line x), is_whole e, good-is c.before) (c.say-heading.ensures (file x) (listed x))
+    rw (alone_step (line x), is_whole e, good-is c.before) (c.say-heading.ensures (file x) (listed x))
 
 pub heading-alone-spec : {M : Type 1} → statement M
 heading-alone-spec =

@@ -8,11 +8,11 @@ use mathlib.Core.List.{List}
 use Rattle.rules.specs.Texts.{Text}
 use Rattle.rules.specs.Tables.{Tables}
 use Rattle.columns.specs.Listing.{line_of}
-use Rattle.table_sheet.specs.SheetRows.{tablesIn}
+use Rattle.table_sheet.specs.SheetRows.{tables_in}
 use Rattle.seen.specs.Bits.{bit_at}
 use Rattle.steps.specs.declared.HeadingSaid.{HeadingSaid}
 use Rattle.steps.specs.declared.Step.TheVariants.{SentenceBegins}
-use Rattle.headings.proofs.HeadingSteps.{alone, said-long, said-within, then-cited, not_written}
+use Rattle.headings.proofs.HeadingSteps.{alone, said_long, said_within, then_cited, not_written}
 use Rattle.headings.proofs.heading_line.Statement.{statement}
 use Rattle.headings.proofs.heading_line.Tie as tie
 
@@ -29,7 +29,7 @@ abbrev line : Read → Text
 line x = line_of (file x) (entry x).args.line
 
 abbrev tables : Read → Tables
-tables x = tablesIn (file x) (entry x).args.sheet.now
+tables x = tables_in (file x) (entry x).args.sheet.now
 
 abbrev used : Read → ℕ → Bool
 used x = bit_at (entry x).args.seen.now
@@ -51,15 +51,15 @@ judge-cited-requires : tie.Need-judge-cited-requires
 judge-cited-requires c κs =
     let x = read c in
     let pre = (entry x).pre in
-    let h = said-within (line x) (said c) (is_said c) in
-    let long = said-long (line x) (said c) (is_said c) in
+    let h = said_within (line x) (said c) (is_said c) in
+    let long = said_long (line x) (said c) (is_said c) in
     (pre.2, pre.3, h.0, h.1, omega (arith, long, pre.1.counted), (file x, pre.1))
 
 returns-2 : tie.Need-returns-2
 returns-2 c =
     let k = c.before in
     let x = read k in
-    then-cited (tables x) (used x) (line x) (said k) (is_said k) (c.judge-cited.ensures (file x) (entry x).pre.1)
+    then_cited (tables x) (used x) (line x) (said k) (is_said k) (c.judge-cited.ensures (file x) (entry x).pre.1)
 
 pub heading-line-spec : {M : Type 1} → statement M
 heading-line-spec =

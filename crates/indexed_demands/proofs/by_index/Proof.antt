@@ -1,8 +1,8 @@
 -- `indexed_demands::by_index` meets its contract, by what those of the index and of both openings say.
 use mathlib.Core.Path.{ap}
-use Rattle.opened_demands.proofs.Outcomes.{asLeft}
-use Rattle.opened_demands.proofs.AsRules.{by_number}
-use Rattle.indexed_demands.proofs.Entries.{same-there}
+use Rattle.opened_demands.proofs.Outcomes.{as_left}
+use Rattle.opened_demands.proofs.AsRules.{by_number_lem}
+use Rattle.indexed_demands.proofs.Entries.{same_there}
 use Rattle.indexed_demands.proofs.by_index.Statement.{statement}
 use Rattle.indexed_demands.proofs.by_index.Tie as tie
 
@@ -23,12 +23,12 @@ returns c =
     let x = (first c).before.before.before.before.before.before.before.before.before.before.before.before.before.before.args in
     let i = (first c).index.ensures in
     let e = (asked c).entry_of.ensures in
-    let o = ap asLeft (second c).open-flat.ensures.0 in
+    let o = ap as_left (second c).open-flat.ensures.0 in
     let t = (last c).open-entry.ensures in (
       λ fits sized all sentence.
-          same-there x.file.now x.number fits x.tables2.now x.seen2.now x.sheet.now x.edges.now all x.sheet2.now x.edges2.now sentence
+          same_there x.file.now x.number fits x.tables2.now x.seen2.now x.sheet.now x.edges.now all x.sheet2.now x.edges2.now sentence
           x.tables.now x.seen.now x.places.now sized _ _ _ _ i e o t,
-      (i, (e, (by_number _ _ _ _ _ _ _ o, t))),
+      (i, (e, (by_number_lem _ _ _ _ _ _ _ o, t))),
     )
 
 pub by-index-spec : {M : Type 1} → statement M

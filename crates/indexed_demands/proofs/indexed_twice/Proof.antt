@@ -1,5 +1,5 @@
 -- `indexed_demands::indexed_twice` meets its contract: both outcomes are what the index's contract says, which is one.
-use Rattle.indexed_demands.proofs.Entries.{indexed-only, indexed-fresh}
+use Rattle.indexed_demands.proofs.Entries.{indexed_only, indexed_fresh}
 use Rattle.indexed_demands.proofs.indexed_twice.Statement.{statement}
 use Rattle.indexed_demands.proofs.indexed_twice.Tie as tie
 
@@ -13,7 +13,7 @@ returns : tie.Need-returns
 returns c =
     let p = (first c).index.ensures in
     let q = (second c).index2.ensures in
-    (λ t s e. indexed-only _ _ _ _ _ _ _ _ _ p q t s e, λ fits k l. indexed-fresh _ _ _ _ _ _ _ _ _ p q fits k l)
+    (λ t s e. indexed_only _ _ _ _ _ _ _ _ _ p q t s e, λ fits k l. indexed_fresh _ _ _ _ _ _ _ _ _ p q fits k l)
 
 pub indexed-twice-spec : {M : Type 1} → statement M
 indexed-twice-spec =

@@ -1,7 +1,7 @@
 -- `indexed_demands::open_entry` meets its contract.
 use borrow.Author.Rules.{rules}
 use mathlib.Core.Path.{refl, ap}
-use Rattle.opened_demands.proofs.Outcomes.{asThere}
+use Rattle.opened_demands.proofs.Outcomes.{as_there}
 use Rattle.opened_demands.proofs.AsRules.{at_place}
 use Rattle.indexed_demands.proofs.Entries.{at_entry, no_place}
 use Rattle.indexed_demands.proofs.open_entry.Statement.{statement}
@@ -17,7 +17,7 @@ returns-2 c =
     let d = c.before.before.before.before in
     let e = d.before.before.before in
     let x = e.before.before.before.before.args in
-    at_entry x.file.now x.entry x.sheet.now x.edges.now _ e.if1.false (at_place _ _ _ _ _ (ap asThere d.open-flat-at.ensures.0))
+    at_entry x.file.now x.entry x.sheet.now x.edges.now _ e.if1.false (at_place _ _ _ _ _ (ap as_there d.open-flat-at.ensures.0))
 
 pub open-entry-spec : {M : Type 1} → statement M
 open-entry-spec =

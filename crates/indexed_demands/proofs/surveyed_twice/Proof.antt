@@ -1,6 +1,6 @@
 -- `indexed_demands::surveyed_twice` meets its contract: both outcomes are what the survey's contract says, which is one.
 use mathlib.Core.Path.{refl}
-use Rattle.demands.proofs.Outcomes.{only-outcome, old-never-shows}
+use Rattle.demands.proofs.Outcomes.{only_outcome, old_never_shows}
 use Rattle.indexed_demands.proofs.surveyed_twice.Statement.{statement}
 use Rattle.indexed_demands.proofs.surveyed_twice.Tie as tie
 
@@ -30,8 +30,8 @@ same-length-4 c = (second c).survey2.auto.1.1.0
 
 returns : tie.Need-returns
 returns c = (
-  λ t s. only-outcome _ _ (first c).survey.ensures (second c).survey2.ensures refl t s,
-  λ k l. old-never-shows _ _ (first c).survey.ensures (second c).survey2.ensures refl k l,
+  λ t s. only_outcome _ _ (first c).survey.ensures (second c).survey2.ensures refl t s,
+  λ k l. old_never_shows _ _ (first c).survey.ensures (second c).survey2.ensures refl k l,
 )
 
 pub surveyed-twice-spec : {M : Type 1} → statement M

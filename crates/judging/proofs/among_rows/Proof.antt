@@ -5,10 +5,10 @@ use native.Mathlib.Omega.{arith}
 use mathlib.Core.List.{List}
 use Rattle.rules.specs.Texts.{Text}
 use Rattle.rules.specs.Tables.{Row}
-use Rattle.rules.specs.Sheets.{rowPlace}
+use Rattle.rules.specs.Sheets.{row_place}
 use Rattle.columns.specs.Listing.{line_of}
 use Rattle.table_sheet.specs.SheetRows.{rows_from}
-use Rattle.judging.proofs.FirstColumns.{row-columns, rows_end, rows_row, rows_none}
+use Rattle.judging.proofs.FirstColumns.{row_columns, rows_end, rows_row, rows_none}
 use Rattle.judging.proofs.among_rows.Statement.{statement}
 use Rattle.judging.proofs.among_rows.Tie as tie
 
@@ -19,7 +19,7 @@ abbrev line : tie.After-same-text → Text
 line s = line_of (start s).args.file.now (start s).args.line
 
 abbrev rows : tie.After-same-text → List Row
-rows s = rows_from (start s).args.file.now (start s).args.sheet.now (rowPlace (start s).args.table 0) (start s).args.rows
+rows s = rows_from (start s).args.file.now (start s).args.sheet.now (row_place (start s).args.table 0) (start s).args.rows
 
 returns : tie.Need-returns
 returns c =
@@ -32,7 +32,7 @@ row-line-requires : tie.Need-row-line-requires
 row-line-requires c κs =
     let s = c.before.before.before in
     let x = start s in
-    let some = row-columns (line s) x.args.first.now x.pre.1.is c.before.starts-row.ensures c.if2.true in
+    let some = row_columns (line s) x.args.first.now x.pre.1.is c.before.starts-row.ensures c.if2.true in
     (x.pre.0, x.pre.1.listed, omega (arith, x.pre.1.listed.counted, some), x.pre.2, x.pre.3)
 
 returns-2 : tie.Need-returns-2

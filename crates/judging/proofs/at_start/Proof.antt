@@ -2,7 +2,7 @@
 use borrow.Author.Rules.{rules}
 use mathlib.Core.Path.{◌∙◌}
 use Rattle.columns.specs.Listing.{line_of}
-use Rattle.judging.proofs.FirstColumns.{start-format, start_none}
+use Rattle.judging.proofs.FirstColumns.{start_format, start_none}
 use Rattle.judging.proofs.at_start.Statement.{statement}
 use Rattle.judging.proofs.at_start.Tie as tie
 
@@ -11,7 +11,7 @@ returns c =
     let s = c.before.before in
     let x = s.before.before.before.before in
     c.format-line.ensures
-    ∙ start-format (line_of x.args.file.now x.args.line) x.args.first.now x.requires.1.is s.same_text.ensures c.before.if1.true
+    ∙ start_format (line_of x.args.file.now x.args.line) x.args.first.now x.requires.1.is s.same_text.ensures c.before.if1.true
 
 returns-2 : tie.Need-returns-2
 returns-2 c =

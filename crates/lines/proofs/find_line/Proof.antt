@@ -1,6 +1,6 @@
 -- `lines::find_line` meets its contract: a line that one pass took, or one that was read twice.
 use borrow.Author.Rules.{rules}
-use Rattle.lines.proofs.FoundLines.{found-at-once}
+use Rattle.lines.proofs.FoundLines.{found_at_once}
 use Rattle.lines.proofs.find_line.Statement.{statement}
 use Rattle.lines.proofs.find_line.Tie as tie
 
@@ -9,7 +9,7 @@ returns-2 c =
     let once = c.before.before in
     let x = once.before.before in
     let s = x.before.before.before.before in
-    found-at-once s.args.file.now s.args.from _ _ _ x.read-at-once.ensures once.once.given.1
+    found_at_once s.args.file.now s.args.from _ _ _ x.read-at-once.ensures once.once.given.1
 
 pub find-line-spec : {M : Type 1} → statement M
 find-line-spec =

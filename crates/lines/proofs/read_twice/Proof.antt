@@ -5,10 +5,10 @@ use Prim.Native.Nat.{ℕ}
 use mathlib.Core.Path.{◌≡◌, sym, ◌∙◌}
 use mathlib.Core.List.{List}
 use lib.ListN.{length}
-use Rattle.lines.specs.LineEnds.{lineEnd}
+use Rattle.lines.specs.LineEnds.{line_end}
 use Rattle.lines.specs.declared.LineEnd.TheVariants.{At}
-use Rattle.lines.proofs.Lines.{at-behind, at-below, at_place, at-short}
-use Rattle.lines.proofs.FoundLines.{found-twice}
+use Rattle.lines.proofs.Lines.{at_behind, at_below, at_place, at_short}
+use Rattle.lines.proofs.FoundLines.{found_twice}
 use Rattle.lines.proofs.read_twice.Statement.{statement}
 use Rattle.lines.proofs.read_twice.Tie as tie
 
@@ -22,8 +22,8 @@ start e = e.before.before
 abbrev Found : Type 0
 Found = tie.After-found
 
-ends : (f : Found) → lineEnd (start f.before.before).args.file.now (start f.before.before).args.from ≡ At f.found.given.0.0
-ends f = sym f.before.before.line-end.ensures ∙ f.found.given.1
+ends : (f : Found) → line_end (start f.before.before).args.file.now (start f.before.before).args.from ≡ At f.found.given.0.0
+ends f = sym f.before.before.line_end.ensures ∙ f.found.given.1
 
 read-line-requires : tie.Need-read-line-requires
 read-line-requires c κs =
@@ -32,22 +32,22 @@ read-line-requires c κs =
     let file = s.args.file.now in
     let from = s.args.from in
     let q = ends f in
-    (s.pre.1, at-behind file from _ q, omega (arith, at-below file from _ q), omega (arith, at_place file from _ q, at-short file from _ q), s.pre.2)
+    (s.pre.1, at_behind file from _ q, omega (arith, at_below file from _ q), omega (arith, at_place file from _ q, at_short file from _ q), s.pre.2)
 
 returns : tie.Need-returns
 returns c =
     let f = c.before.before.before in
     let s = start f.before.before in
-    found-twice s.args.file.now s.args.from _ _ _ _ s.pre.2 (ends f) c.read-line.ensures
+    found_twice s.args.file.now s.args.from _ _ _ _ s.pre.2 (ends f) c.read-line.ensures
 
 returns-2 : tie.Need-returns-2
-returns-2 c = (sym c.enum_told.given.1 ∙ c.before.before.line-end.ensures, tt)
+returns-2 c = (sym c.enum_told.given.1 ∙ c.before.before.line_end.ensures, tt)
 
 returns-3 : tie.Need-returns-3
-returns-3 c = (sym c.enum-told2.given.1 ∙ c.before.before.line-end.ensures, tt)
+returns-3 c = (sym c.enum-told2.given.1 ∙ c.before.before.line_end.ensures, tt)
 
 returns-4 : tie.Need-returns-4
-returns-4 c = (sym c.enum-told3.given.1 ∙ c.before.before.line-end.ensures, tt)
+returns-4 c = (sym c.enum-told3.given.1 ∙ c.before.before.line_end.ensures, tt)
 
 pub read-twice-spec : {M : Type 1} → statement M
 read-twice-spec =

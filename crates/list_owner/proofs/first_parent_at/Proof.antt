@@ -44,9 +44,9 @@ use denote.Triple.Spec.{Meets, triple_of}
 use denote.Triple.Table.{entered, cited}
 use denote.Triple.Walked.{says, Stays, gave_slice, stay_none, walk_of, AllGo, Goes-gave_slice, Goes-none, Walks, ends_at, walked, walk_Meets}
 use denote.Exit.{yes}
-use Rattle.rules.specs.Opening.{afterOpeningAt, noEdges}
+use Rattle.rules.specs.Opening.{after_opening_at, no_edges}
 use Rattle.edges.specs.declared.Edge.{Edge}
-use Rattle.edges.specs.Promise.{asRecords}
+use Rattle.edges.specs.Promise.{as_records}
 use Rattle.edges.specs.Promise as lent
 use Rattle.edges.specs.contracts.Edge as T
 use Rattle.edges.proofs.Edge.TheLaws as T'
@@ -54,9 +54,9 @@ use Rattle.edges.specs.contracts.open_at as g
 use Rattle.edges.proofs.open_at.Symbol as g-def
 use Rattle.edges.proofs.open_at.Symbol.{name as #edges·open-at}
 use Rattle.edges.proofs.open_at.Met as g-thm
-use Rattle.list_owner.specs.Promise.{outcomeAt, firstParentAt}
-use Rattle.list_owner.proofs.LocalList.{Cell, val_of, local-in, local_out}
-use Rattle.list_owner.proofs.Owned.{emptyEdge, emptyList, owned-first-at}
+use Rattle.list_owner.specs.Promise.{outcome_at, first_parent_at}
+use Rattle.list_owner.proofs.LocalList.{Cell, val_of, local_in, local_out}
+use Rattle.list_owner.proofs.Owned.{empty_edge, empty_list, owned_first_at}
 use Rattle.list_owner.specs.contracts.first_parent_at.Key.{name as #list_owner·itself}
 use Rattle.list_owner.specs.contracts.first_parent_at as f
 use Rattle.list_owner.proofs.first_parent_at.Statement as stated
@@ -71,17 +71,17 @@ R = Array T.the_row 512
 abbrev stayed : Stays (f.ended).signature.params (f.ended).kept
 stayed = (stay_none (λ κs. FileT κs.0) yes, (stay_none (λ _. u32) yes, (gave_slice (1 ∷ []) tt (plain (λ _. u32)), tt)))
 
-is512 : length emptyList ≡ 512
-is512 = length-replicate 512 emptyEdge
+is512 : length empty_list ≡ 512
+is512 = length-replicate 512 empty_edge
 
-room-list : Room T.the_row (length emptyList)
+room-list : Room T.the_row (length empty_list)
 room-list = subst (Room T.the_row) (sym is512) (lit< tt, lit< tt)
 
 abbrev emptyVal : Val
 emptyVal = vstruct (vcons (vint w32 0) (vcons (vint w32 0) (vcons (vint w32 0) (vcons (vint w32 0) vnil))))
 
-made : Is T.the_row emptyEdge (emptyVal ∷ [])
-made = LL.owes T.the_type T'.the_laws emptyEdge ((refl, lit< tt), ((refl, lit< tt), ((refl, lit< tt), ((refl, lit< tt), tt))))
+made : Is T.the_row empty_edge (emptyVal ∷ [])
+made = LL.owes T.the_type T'.the_laws empty_edge ((refl, lit< tt), ((refl, lit< tt), ((refl, lit< tt), ((refl, lit< tt), tt))))
 
 module _ {M : Type 1} {𝓤 : Ura M} (𝓛 : Logic 𝓤) (mem : Memory → SProp 𝓤) (run : Routine → Fun 𝓤) where
   -- the contract that the proof cites
@@ -117,7 +117,7 @@ module _ {M : Type 1} {𝓤 : Ura M} (𝓛 : Logic 𝓤) (mem : Memory → SProp
   File = (FileT κ₀).own fileᵣ (v-file ∷ [])
 
   exits : place < 2 ^ 32 → (r : ℕ) → r < 2 ^ 32 → (sheet' : List ℕ) → length sheet' ≡ length sheetᵣ.now
-      → outcomeAt r sheet' ≡ firstParentAt (afterOpeningAt fileᵣ.now place sheetᵣ.now noEdges)
+      → outcome_at r sheet' ≡ first_parent_at (after_opening_at fileᵣ.now place sheetᵣ.now no_edges)
       → ent 𝓤 (⋆ 𝓛 (‵ (flft κ₀ q₀) ∷ ‵ (flft κ₁ q₁) ∷ ‵ File ∷ ‵ (finally u32 sheetᵣ.name sheet') ∷ [])) (Post (vint w32 r))
   exits bound r fits sheet' l-sheet e =
       qed 𝓛 (‵ (flft κ₀ q₀) ∷ ‵ (flft κ₁ q₁) ∷ ‵ File ∷ ‵ (finally u32 sheetᵣ.name sheet') ∷ []) ∵
@@ -141,10 +141,10 @@ module _ {M : Type 1} {𝓤 : Ura M} (𝓛 : Logic 𝓤) (mem : Memory → SProp
 
   module _ (l₄ : ℕ) where
     abbrev listᵣ : GName → MutBor (List Edge)
-    listᵣ δ = record { ref_ptr = (l₄, 0); ghost_name = δ; now = emptyList }
+    listᵣ δ = record { ref_ptr = (l₄, 0); ghost_name = δ; now = empty_list }
 
     abbrev v-list : Val
-    v-list = slice_val (l₄, 0) (length emptyList)
+    v-list = slice_val (l₄, 0) (length empty_list)
 
     abbrev to-called : ℕ → GName → (Called 𝓛 mem run).Ghost
     to-called α δ = (((κ₀, (κ₁, (α ∷ [], tt))), (q₀, (q₁, (full_share, tt))), tt, (fileᵣ, (place, (sheetᵣ, (listᵣ δ, tt)))), (v-file ∷ [], (v-place ∷ [], (v-sheet ∷ [], (v-list ∷ [], tt))))), tt)
@@ -160,20 +160,20 @@ module _ {M : Type 1} {𝓤 : Ura M} (𝓛 : Logic 𝓤) (mem : Memory → SProp
         pass1 ! (init ! 24 refl (tt, (tt, (record { fits = room-file.0 }, tt)))) $ pass1 ! (init ! 22 refl (tt, record { fits = bound })) $ pass1 ! (init ! 20 refl (tt, (tt, (record { fits = room-sheet.0 }, tt)))) $ pass0 ! $
         assigns ! (agg ! (and_then ! (lit ! tt) (and_then ! (lit ! tt) (and_then ! (lit ! tt) (and_then ! (lit ! tt) (no_more !)))))) (from ! (stop !)) (init ! 14 refl (tt, (record { fits = lit< tt }, (record { fits = lit< tt }, (record { fits = lit< tt }, (record { fits = lit< tt }, tt)))))) $
         -- the array of records, in its local
-        owned ! T.the_row (Is T.the_row) (LL.makes T.the_type T'.the_plain 𝓛) emptyEdge (emptyVal ∷ []) made $
-        use1 𝓛 (‵ (R.own emptyList (array_val (replicate 512 emptyVal) ∷ []))) (Array-repeat 𝓛 T.the_row (LL.copy T.the_type T'.the_copy 𝓛) 512 emptyEdge emptyVal) $
-        peeks ! R (Is R) (shows 𝓛 R) emptyList (array_val (replicate 512 emptyVal) ∷ []) (λ is.
-        assigns ! (rep ! 512 (load ! (from ! (stop !)) (look ! 15 refl))) (from ! (stop !)) (init ! 19 refl ((Array-Lawful 𝓛 T.the_row (LL.lawful T.the_type T'.the_laws 𝓛) 512).typed emptyList _ is).0) $
+        owned ! T.the_row (Is T.the_row) (LL.makes T.the_type T'.the_plain 𝓛) empty_edge (emptyVal ∷ []) made $
+        use1 𝓛 (‵ (R.own empty_list (array_val (replicate 512 emptyVal) ∷ []))) (Array-repeat 𝓛 T.the_row (LL.copy T.the_type T'.the_copy 𝓛) 512 empty_edge emptyVal) $
+        peeks ! R (Is R) (shows 𝓛 R) empty_list (array_val (replicate 512 emptyVal) ∷ []) (λ is.
+        assigns ! (rep ! 512 (load ! (from ! (stop !)) (look ! 15 refl))) (from ! (stop !)) (init ! 19 refl ((Array-Lawful 𝓛 T.the_row (LL.lawful T.the_type T'.the_laws 𝓛) 512).typed empty_list _ is).0) $
         assigns ! (addr ! (from ! (fld ! refl (hop ! (look_in ! 21 (sub ! 0 refl (whole !))) (stop !))))) (from ! (stop !)) (init ! 11 refl (tt, tt)) $
         assigns ! (agg ! (and_then ! (load ! (from ! (stop !)) (look ! 11 refl)) (and_then ! (load ! (from ! (fld ! refl (stop !))) (look_in ! 21 (sub ! 1 refl (whole !)))) (no_more !)))) (from ! (stop !)) (init ! 9 refl (tt, (tt, (record { fits = room-sheet.0 }, tt)))) $
         assigns ! (addr ! (from ! (stop !))) (from ! (stop !)) (init ! 7 refl (tt, tt)) $
         assigns ! (agg ! (and_then ! (load ! (from ! (stop !)) (look ! 7 refl)) (and_then ! (lit ! tt) (no_more !)))) (from ! (stop !)) (init ! 5 refl (tt, (tt, (record { fits = lit< tt }, tt)))) $
         -- it is lent to `open_at`, as a slice
         move ! (19 ∷ 0 ∷ []) $
-        use2 𝓛 (‵ (row T.the_row full_share emptyList l₄ 0)) (local-in 𝓛 T.the_row tt 512 emptyList (array_val (replicate 512 emptyVal)) l₄) $ use1 𝓛 (‵ (cells (mem_of T.the_row) emptyList l₄ 0)) (whole_in 𝓛 T.the_row emptyList l₄ 0) $
+        use2 𝓛 (‵ (row T.the_row full_share empty_list l₄ 0)) (local_in 𝓛 T.the_row tt 512 empty_list (array_val (replicate 512 emptyVal)) l₄) $ use1 𝓛 (‵ (cells (mem_of T.the_row) empty_list l₄ 0)) (whole_in 𝓛 T.the_row empty_list l₄ 0) $
         lft_new ! tt (λ α.
         move ! (1 ∷ []) $
-        use1 𝓛 (later (some (λ (δ : GName). ‵ ((MutSlice (named 2) (α ∷ []) T.the_row).own_val (listᵣ l₄ δ) (v-list l₄ ∷ [])) ⊛ ‵ (flent (α ∷ []) (Held T.the_row (length emptyList) l₄ 0 δ))))) (lends_slice 𝓛 T.the_row (named 2) (α ∷ []) emptyList l₄ 0 room-list) $ await ! tt $
+        use1 𝓛 (later (some (λ (δ : GName). ‵ ((MutSlice (named 2) (α ∷ []) T.the_row).own_val (listᵣ l₄ δ) (v-list l₄ ∷ [])) ⊛ ‵ (flent (α ∷ []) (Held T.the_row (length empty_list) l₄ 0 δ))))) (lends_slice 𝓛 T.the_row (named 2) (α ∷ []) empty_list l₄ 0 room-list) $ await ! tt $
         pick ! (λ δ.
         split ! $
         move ! (31 ∷ []) $
@@ -216,11 +216,11 @@ module _ {M : Type 1} {𝓤 : Ura M} (𝓛 : Logic 𝓤) (mem : Memory → SProp
         pick ! (λ r.
         split ! $
         move ! (1 ∷ []) $
-        use1 𝓛 (some (λ (ws : Unit {0} × (Unit {0} × (List ℕ × (List Edge × Unit {0})))). ‵ (lasts g.ended (κ₀, (κ₁, (α ∷ [], tt))) (fileᵣ, (place, (sheetᵣ, (listᵣ l₄ δ, tt)))) ws) ⊛ raw (fact 𝓤 (lent.outcomeAt r ws.1.1.0 ws.1.1.1.0 ≡ afterOpeningAt fileᵣ.now place sheetᵣ.now (asRecords emptyList))))) (id⊢ 𝓤 _) $
+        use1 𝓛 (some (λ (ws : Unit {0} × (Unit {0} × (List ℕ × (List Edge × Unit {0})))). ‵ (lasts g.ended (κ₀, (κ₁, (α ∷ [], tt))) (fileᵣ, (place, (sheetᵣ, (listᵣ l₄ δ, tt)))) ws) ⊛ raw (fact 𝓤 (lent.outcome_at r ws.1.1.0 ws.1.1.1.0 ≡ after_opening_at fileᵣ.now place sheetᵣ.now (as_records empty_list))))) (id⊢ 𝓤 _) $
         pick ! (λ ws.
         split ! $
         move ! (1 ∷ []) $
-        heard ! (lent.outcomeAt r ws.1.1.0 ws.1.1.1.0 ≡ afterOpeningAt fileᵣ.now place sheetᵣ.now (asRecords emptyList)) (λ e.
+        heard ! (lent.outcome_at r ws.1.1.0 ws.1.1.1.0 ≡ after_opening_at fileᵣ.now place sheetᵣ.now (as_records empty_list)) (λ e.
         fsplit ! $
         drop ! $
         fsplit ! $
@@ -248,7 +248,7 @@ module _ {M : Type 1} {𝓤 : Ura M} (𝓛 : Logic 𝓤) (mem : Memory → SProp
         drop ! $
         lft_end ! tt $
         move ! (0 ∷ 7 ∷ 4 ∷ []) $
-        use3 𝓛 (later (‵ ((Arr (mem_of T.the_row) (length emptyList)).own_at ws.1.1.1.0 l₄ 0))) (slice_back 𝓛 T.the_row (α ∷ []) δ ws.1.1.1.0 (length emptyList) l₄ 0) $ await ! tt $
+        use3 𝓛 (later (‵ ((Arr (mem_of T.the_row) (length empty_list)).own_at ws.1.1.1.0 l₄ 0))) (slice_back 𝓛 T.the_row (α ∷ []) δ ws.1.1.1.0 (length empty_list) l₄ 0) $ await ! tt $
         fsplit ! $
         drop ! $
         use1 𝓛 (‵ (row T.the_row full_share ws.1.1.1.0 l₄ 0)) (whole_out 𝓛 T.the_row ws.1.1.1.0 l₄ 0) $
@@ -259,18 +259,18 @@ module _ {M : Type 1} {𝓤 : Ura M} (𝓛 : Logic 𝓤) (mem : Memory → SProp
         -- a record is read
         assigns ! (addr ! (from ! (stop !))) (from ! (stop !)) (init ! 7 refl (tt, tt)) $
         assigns ! (bin ! (load ! (from ! (stop !)) (look ! 7 refl)) (lit ! tt) tt) (from ! (stop !)) (init ! 5 refl (tt, tt)) $
-        elem_out ! T.the_row (Is T.the_row) (shows 𝓛 T.the_row) (LL.vals T.the_type T'.the_laws) (LL.tells T.the_type T'.the_laws) full_share ws.1.1.1.0 0 emptyEdge l₄ 0 (subst (λ (k : ℕ). 0 < k) (sym (l-list ∙ is512)) (lit< tt)) (λ g₁.
-        assigns ! (of_opd ! (load ! (from ! (hop ! (look ! 7 refl) (stop !))) (look_raw ! 0 refl))) (from ! (stop !)) (store ! 21 refl ((LL.lawful T.the_type T'.the_laws 𝓛).typed (get_or ws.1.1.1.0 0 emptyEdge) _ g₁).0) $
-        assigns ! (of_opd ! (load ! (from ! (stop !)) (look ! 21 refl))) (from ! (stop !)) (init ! 23 refl ((LL.lawful T.the_type T'.the_laws 𝓛).typed (get_or ws.1.1.1.0 0 emptyEdge) _ g₁).0) $
-        assigns ! (of_opd ! (load ! (from ! (fld ! refl (stop !))) (look_in ! 23 (sub ! 3 refl (whole !))))) (from ! (stop !)) (init ! 32 refl (tt, record { fits = (LL.owed T.the_type T'.the_laws (get_or ws.1.1.1.0 0 emptyEdge) _ g₁).1.1.1.0.1 })) $
-        elem_back ! T.the_row full_share ws.1.1.1.0 0 emptyEdge (LL.vals T.the_type T'.the_laws (get_or ws.1.1.1.0 0 emptyEdge)) l₄ 0 (subst (λ (k : ℕ). 0 < k) (sym (l-list ∙ is512)) (lit< tt)) $
+        elem_out ! T.the_row (Is T.the_row) (shows 𝓛 T.the_row) (LL.vals T.the_type T'.the_laws) (LL.tells T.the_type T'.the_laws) full_share ws.1.1.1.0 0 empty_edge l₄ 0 (subst (λ (k : ℕ). 0 < k) (sym (l-list ∙ is512)) (lit< tt)) (λ g₁.
+        assigns ! (of_opd ! (load ! (from ! (hop ! (look ! 7 refl) (stop !))) (look_raw ! 0 refl))) (from ! (stop !)) (store ! 21 refl ((LL.lawful T.the_type T'.the_laws 𝓛).typed (get_or ws.1.1.1.0 0 empty_edge) _ g₁).0) $
+        assigns ! (of_opd ! (load ! (from ! (stop !)) (look ! 21 refl))) (from ! (stop !)) (init ! 23 refl ((LL.lawful T.the_type T'.the_laws 𝓛).typed (get_or ws.1.1.1.0 0 empty_edge) _ g₁).0) $
+        assigns ! (of_opd ! (load ! (from ! (fld ! refl (stop !))) (look_in ! 23 (sub ! 3 refl (whole !))))) (from ! (stop !)) (init ! 32 refl (tt, record { fits = (LL.owed T.the_type T'.the_laws (get_or ws.1.1.1.0 0 empty_edge) _ g₁).1.1.1.0.1 })) $
+        elem_back ! T.the_row full_share ws.1.1.1.0 0 empty_edge (LL.vals T.the_type T'.the_laws (get_or ws.1.1.1.0 0 empty_edge)) l₄ 0 (subst (λ (k : ℕ). 0 < k) (sym (l-list ∙ is512)) (lit< tt)) $
         use1 𝓛 (‵ (Cell T.the_row 512 l₄ (val_of T.the_row (LL.vals T.the_type T'.the_laws) ws.1.1.1.0)) ⊛ ‵ (R.own ws.1.1.1.0 (array_vals (LL.vals T.the_type T'.the_laws) ws.1.1.1.0))) (local_out 𝓛 T.the_row tt 512 (LL.vals T.the_type T'.the_laws) (LL.tells T.the_type T'.the_laws) ws.1.1.1.0 l₄ (l-list ∙ is512)) $
         split ! $
         returns ! (look ! 31 refl) $
         forget ! 0 refl $ forget ! 6 refl $ forget ! 8 refl $ forget ! 10 refl $ forget ! 12 refl $ forget ! 14 refl $ forget ! 16 refl $ forget ! 18 refl $ forget ! 20 refl $ forget ! 22 refl $ forget ! 25 refl $ forget ! 27 refl $ forget ! 29 refl $ forget ! 31 refl $
         move ! (31 ∷ 32 ∷ []) $ free1 ! $ move ! (29 ∷ 30 ∷ []) $ free1 ! $ move ! (27 ∷ 28 ∷ []) $ free1 ! $ move ! (25 ∷ 26 ∷ []) $ free1 ! $ move ! (0 ∷ 24 ∷ []) $ free1 ! $ move ! (21 ∷ 22 ∷ []) $ free1 ! $ move ! (19 ∷ 20 ∷ []) $ free1 ! $ move ! (17 ∷ 18 ∷ []) $ free1 ! $ move ! (15 ∷ 16 ∷ []) $ free1 ! $ move ! (13 ∷ 14 ∷ []) $ free1 ! $ move ! (11 ∷ 12 ∷ []) $ free1 ! $ move ! (9 ∷ 10 ∷ []) $ free1 ! $ move ! (7 ∷ 8 ∷ []) $ free1 ! $ move ! (5 ∷ 6 ∷ []) $ free1 ! $ free0 ! $
         keep ! (2 ∷ 1 ∷ 4 ∷ 3 ∷ []) $
-        by ! (exits bound (get_or ws.1.1.1.0 0 emptyEdge).parent (LL.owed T.the_type T'.the_laws (get_or ws.1.1.1.0 0 emptyEdge) _ g₁).1.1.1.0.1 ws.1.1.0 l-sheet (owned-first-at _ _ _ r ws.1.1.0 ws.1.1.1.0 e)))))))))))))))))))))))))))
+        by ! (exits bound (get_or ws.1.1.1.0 0 empty_edge).parent (LL.owed T.the_type T'.the_laws (get_or ws.1.1.1.0 0 empty_edge) _ g₁).1.1.1.0.1 ws.1.1.0 l-sheet (owned_first_at _ _ _ r ws.1.1.0 ws.1.1.1.0 e)))))))))))))))))))))))))))
 
 module _ {M : Type 1} {𝓤 : Ura M} (𝓛 : Logic 𝓤) (mem : Memory → SProp 𝓤) (run : Routine → Fun 𝓤) (𝓣 : Tables 𝓤 𝓛.H)
     (known : Triple 𝓤 (𝓣.C #edges·open-at) (Called 𝓛 mem run)) where

@@ -44,9 +44,9 @@ use denote.Triple.Spec.{Meets, triple_of}
 use denote.Triple.Table.{entered, cited}
 use denote.Triple.Walked.{says, Stays, gave_slice, stay_none, walk_of, AllGo, Goes-gave_slice, Goes-none, Walks, ends_at, walked, walk_Meets}
 use denote.Exit.{yes}
-use Rattle.rules.specs.Opening.{afterOpening, noEdges}
+use Rattle.rules.specs.Opening.{after_opening, no_edges}
 use Rattle.edges.specs.declared.Edge.{Edge}
-use Rattle.edges.specs.Promise.{asRecords}
+use Rattle.edges.specs.Promise.{as_records}
 use Rattle.edges.specs.Promise as lent
 use Rattle.edges.specs.contracts.Edge as T
 use Rattle.edges.proofs.Edge.TheLaws as T'
@@ -54,9 +54,9 @@ use Rattle.edges.specs.contracts.open_sentence as g
 use Rattle.edges.proofs.open_sentence.Symbol as g-def
 use Rattle.edges.proofs.open_sentence.Symbol.{name as #edges·open-sentence}
 use Rattle.edges.proofs.open_sentence.Met as g-thm
-use Rattle.list_owner.specs.Promise.{outcome, firstParentOf}
-use Rattle.list_owner.proofs.LocalList.{Cell, val_of, local-in, local_out}
-use Rattle.list_owner.proofs.Owned.{emptyEdge, emptyList, owned-first}
+use Rattle.list_owner.specs.Promise.{outcome, first_parent_of}
+use Rattle.list_owner.proofs.LocalList.{Cell, val_of, local_in, local_out}
+use Rattle.list_owner.proofs.Owned.{empty_edge, empty_list, owned_first}
 use Rattle.list_owner.specs.contracts.first_secondary_parent.Key.{name as #list_owner·itself}
 use Rattle.list_owner.specs.contracts.first_secondary_parent as f
 use Rattle.list_owner.proofs.first_secondary_parent.Statement as stated
@@ -71,17 +71,17 @@ R = Array T.the_row 512
 abbrev stayed : Stays (f.ended).signature.params (f.ended).kept
 stayed = (stay_none (λ κs. FileT κs.0) yes, (stay_none (λ _. u32) yes, (gave_slice (1 ∷ []) tt (plain (λ _. u32)), (gave_slice (2 ∷ []) tt (plain (λ _. u8)), (gave_slice (3 ∷ []) tt (plain (λ _. u32)), tt)))))
 
-is512 : length emptyList ≡ 512
-is512 = length-replicate 512 emptyEdge
+is512 : length empty_list ≡ 512
+is512 = length-replicate 512 empty_edge
 
-room-list : Room T.the_row (length emptyList)
+room-list : Room T.the_row (length empty_list)
 room-list = subst (Room T.the_row) (sym is512) (lit< tt, lit< tt)
 
 abbrev emptyVal : Val
 emptyVal = vstruct (vcons (vint w32 0) (vcons (vint w32 0) (vcons (vint w32 0) (vcons (vint w32 0) vnil))))
 
-made : Is T.the_row emptyEdge (emptyVal ∷ [])
-made = LL.owes T.the_type T'.the_laws emptyEdge ((refl, lit< tt), ((refl, lit< tt), ((refl, lit< tt), ((refl, lit< tt), tt))))
+made : Is T.the_row empty_edge (emptyVal ∷ [])
+made = LL.owes T.the_type T'.the_laws empty_edge ((refl, lit< tt), ((refl, lit< tt), ((refl, lit< tt), ((refl, lit< tt), tt))))
 
 module _ {M : Type 1} {𝓤 : Ura M} (𝓛 : Logic 𝓤) (mem : Memory → SProp 𝓤) (run : Routine → Fun 𝓤) where
   -- the contract that the proof cites
@@ -123,7 +123,7 @@ module _ {M : Type 1} {𝓤 : Ura M} (𝓛 : Logic 𝓤) (mem : Memory → SProp
   File = (FileT κ₀).own fileᵣ (v-file ∷ [])
 
   exits : number < 2 ^ 32 → (r : ℕ) → r < 2 ^ 32 → (tables' : List ℕ) (seen' : List ℕ) (sheet' : List ℕ) → length tables' ≡ length tablesᵣ.now → length seen' ≡ length seenᵣ.now → length sheet' ≡ length sheetᵣ.now
-      → outcome r tables' seen' sheet' ≡ firstParentOf (afterOpening fileᵣ.now number tablesᵣ.now seenᵣ.now sheetᵣ.now noEdges)
+      → outcome r tables' seen' sheet' ≡ first_parent_of (after_opening fileᵣ.now number tablesᵣ.now seenᵣ.now sheetᵣ.now no_edges)
       → ent 𝓤 (⋆ 𝓛 (‵ (flft κ₀ q₀) ∷ ‵ (flft κ₁ q₁) ∷ ‵ (flft κ₂ q₂) ∷ ‵ (flft κ₃ q₃) ∷ ‵ File ∷ ‵ (finally u32 tablesᵣ.name tables') ∷ ‵ (finally u8 seenᵣ.name seen') ∷ ‵ (finally u32 sheetᵣ.name sheet') ∷ [])) (Post (vint w32 r))
   exits bound r fits tables' seen' sheet' l-tables l-seen l-sheet e =
       qed 𝓛 (‵ (flft κ₀ q₀) ∷ ‵ (flft κ₁ q₁) ∷ ‵ (flft κ₂ q₂) ∷ ‵ (flft κ₃ q₃) ∷ ‵ File ∷ ‵ (finally u32 tablesᵣ.name tables') ∷ ‵ (finally u8 seenᵣ.name seen') ∷ ‵ (finally u32 sheetᵣ.name sheet') ∷ []) ∵
@@ -155,10 +155,10 @@ module _ {M : Type 1} {𝓤 : Ura M} (𝓛 : Logic 𝓤) (mem : Memory → SProp
 
   module _ (l₆ : ℕ) where
     abbrev listᵣ : GName → MutBor (List Edge)
-    listᵣ δ = record { ref_ptr = (l₆, 0); ghost_name = δ; now = emptyList }
+    listᵣ δ = record { ref_ptr = (l₆, 0); ghost_name = δ; now = empty_list }
 
     abbrev v-list : Val
-    v-list = slice_val (l₆, 0) (length emptyList)
+    v-list = slice_val (l₆, 0) (length empty_list)
 
     abbrev to-called : ℕ → GName → (Called 𝓛 mem run).Ghost
     to-called α δ = (((κ₀, (κ₁, (κ₂, (κ₃, (α ∷ [], tt))))), (q₀, (q₁, (q₂, (q₃, (full_share, tt))))), tt, (fileᵣ, (number, (tablesᵣ, (seenᵣ, (sheetᵣ, (listᵣ δ, tt)))))), (v-file ∷ [], (v-number ∷ [], (v-tables ∷ [], (v-seen ∷ [], (v-sheet ∷ [], (v-list ∷ [], tt))))))), tt)
@@ -174,10 +174,10 @@ module _ {M : Type 1} {𝓤 : Ura M} (𝓛 : Logic 𝓤) (mem : Memory → SProp
         pass1 ! (init ! 36 refl (tt, (tt, (record { fits = room-file.0 }, tt)))) $ pass1 ! (init ! 34 refl (tt, record { fits = bound })) $ pass1 ! (init ! 32 refl (tt, (tt, (record { fits = room-tables.0 }, tt)))) $ pass1 ! (init ! 30 refl (tt, (tt, (record { fits = room-seen.0 }, tt)))) $ pass1 ! (init ! 28 refl (tt, (tt, (record { fits = room-sheet.0 }, tt)))) $ pass0 ! $
         assigns ! (agg ! (and_then ! (lit ! tt) (and_then ! (lit ! tt) (and_then ! (lit ! tt) (and_then ! (lit ! tt) (no_more !)))))) (from ! (stop !)) (init ! 22 refl (tt, (record { fits = lit< tt }, (record { fits = lit< tt }, (record { fits = lit< tt }, (record { fits = lit< tt }, tt)))))) $
         -- the array of records, in its local
-        owned ! T.the_row (Is T.the_row) (LL.makes T.the_type T'.the_plain 𝓛) emptyEdge (emptyVal ∷ []) made $
-        use1 𝓛 (‵ (R.own emptyList (array_val (replicate 512 emptyVal) ∷ []))) (Array-repeat 𝓛 T.the_row (LL.copy T.the_type T'.the_copy 𝓛) 512 emptyEdge emptyVal) $
-        peeks ! R (Is R) (shows 𝓛 R) emptyList (array_val (replicate 512 emptyVal) ∷ []) (λ is.
-        assigns ! (rep ! 512 (load ! (from ! (stop !)) (look ! 23 refl))) (from ! (stop !)) (init ! 27 refl ((Array-Lawful 𝓛 T.the_row (LL.lawful T.the_type T'.the_laws 𝓛) 512).typed emptyList _ is).0) $
+        owned ! T.the_row (Is T.the_row) (LL.makes T.the_type T'.the_plain 𝓛) empty_edge (emptyVal ∷ []) made $
+        use1 𝓛 (‵ (R.own empty_list (array_val (replicate 512 emptyVal) ∷ []))) (Array-repeat 𝓛 T.the_row (LL.copy T.the_type T'.the_copy 𝓛) 512 empty_edge emptyVal) $
+        peeks ! R (Is R) (shows 𝓛 R) empty_list (array_val (replicate 512 emptyVal) ∷ []) (λ is.
+        assigns ! (rep ! 512 (load ! (from ! (stop !)) (look ! 23 refl))) (from ! (stop !)) (init ! 27 refl ((Array-Lawful 𝓛 T.the_row (LL.lawful T.the_type T'.the_laws 𝓛) 512).typed empty_list _ is).0) $
         assigns ! (addr ! (from ! (fld ! refl (hop ! (look_in ! 33 (sub ! 0 refl (whole !))) (stop !))))) (from ! (stop !)) (init ! 19 refl (tt, tt)) $
         assigns ! (agg ! (and_then ! (load ! (from ! (stop !)) (look ! 19 refl)) (and_then ! (load ! (from ! (fld ! refl (stop !))) (look_in ! 33 (sub ! 1 refl (whole !)))) (no_more !)))) (from ! (stop !)) (init ! 17 refl (tt, (tt, (record { fits = room-tables.0 }, tt)))) $
         assigns ! (addr ! (from ! (fld ! refl (hop ! (look_in ! 31 (sub ! 0 refl (whole !))) (stop !))))) (from ! (stop !)) (init ! 15 refl (tt, tt)) $
@@ -188,10 +188,10 @@ module _ {M : Type 1} {𝓤 : Ura M} (𝓛 : Logic 𝓤) (mem : Memory → SProp
         assigns ! (agg ! (and_then ! (load ! (from ! (stop !)) (look ! 7 refl)) (and_then ! (lit ! tt) (no_more !)))) (from ! (stop !)) (init ! 5 refl (tt, (tt, (record { fits = lit< tt }, tt)))) $
         -- it is lent to `open_sentence`, as a slice
         move ! (27 ∷ 0 ∷ []) $
-        use2 𝓛 (‵ (row T.the_row full_share emptyList l₆ 0)) (local-in 𝓛 T.the_row tt 512 emptyList (array_val (replicate 512 emptyVal)) l₆) $ use1 𝓛 (‵ (cells (mem_of T.the_row) emptyList l₆ 0)) (whole_in 𝓛 T.the_row emptyList l₆ 0) $
+        use2 𝓛 (‵ (row T.the_row full_share empty_list l₆ 0)) (local_in 𝓛 T.the_row tt 512 empty_list (array_val (replicate 512 emptyVal)) l₆) $ use1 𝓛 (‵ (cells (mem_of T.the_row) empty_list l₆ 0)) (whole_in 𝓛 T.the_row empty_list l₆ 0) $
         lft_new ! tt (λ α.
         move ! (1 ∷ []) $
-        use1 𝓛 (later (some (λ (δ : GName). ‵ ((MutSlice (named 4) (α ∷ []) T.the_row).own_val (listᵣ l₆ δ) (v-list l₆ ∷ [])) ⊛ ‵ (flent (α ∷ []) (Held T.the_row (length emptyList) l₆ 0 δ))))) (lends_slice 𝓛 T.the_row (named 4) (α ∷ []) emptyList l₆ 0 room-list) $ await ! tt $
+        use1 𝓛 (later (some (λ (δ : GName). ‵ ((MutSlice (named 4) (α ∷ []) T.the_row).own_val (listᵣ l₆ δ) (v-list l₆ ∷ [])) ⊛ ‵ (flent (α ∷ []) (Held T.the_row (length empty_list) l₆ 0 δ))))) (lends_slice 𝓛 T.the_row (named 4) (α ∷ []) empty_list l₆ 0 room-list) $ await ! tt $
         pick ! (λ δ.
         split ! $
         move ! (43 ∷ []) $
@@ -250,11 +250,11 @@ module _ {M : Type 1} {𝓤 : Ura M} (𝓛 : Logic 𝓤) (mem : Memory → SProp
         pick ! (λ r.
         split ! $
         move ! (1 ∷ []) $
-        use1 𝓛 (some (λ (ws : Unit {0} × (Unit {0} × (List ℕ × (List ℕ × (List ℕ × (List Edge × Unit {0})))))). ‵ (lasts g.ended (κ₀, (κ₁, (κ₂, (κ₃, (α ∷ [], tt))))) (fileᵣ, (number, (tablesᵣ, (seenᵣ, (sheetᵣ, (listᵣ l₆ δ, tt)))))) ws) ⊛ raw (fact 𝓤 (lent.outcome r ws.1.1.0 ws.1.1.1.0 ws.1.1.1.1.0 ws.1.1.1.1.1.0 ≡ afterOpening fileᵣ.now number tablesᵣ.now seenᵣ.now sheetᵣ.now (asRecords emptyList))))) (id⊢ 𝓤 _) $
+        use1 𝓛 (some (λ (ws : Unit {0} × (Unit {0} × (List ℕ × (List ℕ × (List ℕ × (List Edge × Unit {0})))))). ‵ (lasts g.ended (κ₀, (κ₁, (κ₂, (κ₃, (α ∷ [], tt))))) (fileᵣ, (number, (tablesᵣ, (seenᵣ, (sheetᵣ, (listᵣ l₆ δ, tt)))))) ws) ⊛ raw (fact 𝓤 (lent.outcome r ws.1.1.0 ws.1.1.1.0 ws.1.1.1.1.0 ws.1.1.1.1.1.0 ≡ after_opening fileᵣ.now number tablesᵣ.now seenᵣ.now sheetᵣ.now (as_records empty_list))))) (id⊢ 𝓤 _) $
         pick ! (λ ws.
         split ! $
         move ! (1 ∷ []) $
-        heard ! (lent.outcome r ws.1.1.0 ws.1.1.1.0 ws.1.1.1.1.0 ws.1.1.1.1.1.0 ≡ afterOpening fileᵣ.now number tablesᵣ.now seenᵣ.now sheetᵣ.now (asRecords emptyList)) (λ e.
+        heard ! (lent.outcome r ws.1.1.0 ws.1.1.1.0 ws.1.1.1.1.0 ws.1.1.1.1.1.0 ≡ after_opening fileᵣ.now number tablesᵣ.now seenᵣ.now sheetᵣ.now (as_records empty_list)) (λ e.
         fsplit ! $
         drop ! $
         fsplit ! $
@@ -296,7 +296,7 @@ module _ {M : Type 1} {𝓤 : Ura M} (𝓛 : Logic 𝓤) (mem : Memory → SProp
         drop ! $
         lft_end ! tt $
         move ! (0 ∷ 11 ∷ 6 ∷ []) $
-        use3 𝓛 (later (‵ ((Arr (mem_of T.the_row) (length emptyList)).own_at ws.1.1.1.1.1.0 l₆ 0))) (slice_back 𝓛 T.the_row (α ∷ []) δ ws.1.1.1.1.1.0 (length emptyList) l₆ 0) $ await ! tt $
+        use3 𝓛 (later (‵ ((Arr (mem_of T.the_row) (length empty_list)).own_at ws.1.1.1.1.1.0 l₆ 0))) (slice_back 𝓛 T.the_row (α ∷ []) δ ws.1.1.1.1.1.0 (length empty_list) l₆ 0) $ await ! tt $
         fsplit ! $
         drop ! $
         use1 𝓛 (‵ (row T.the_row full_share ws.1.1.1.1.1.0 l₆ 0)) (whole_out 𝓛 T.the_row ws.1.1.1.1.1.0 l₆ 0) $
@@ -307,18 +307,18 @@ module _ {M : Type 1} {𝓤 : Ura M} (𝓛 : Logic 𝓤) (mem : Memory → SProp
         -- a record is read
         assigns ! (addr ! (from ! (stop !))) (from ! (stop !)) (init ! 11 refl (tt, tt)) $
         assigns ! (bin ! (load ! (from ! (stop !)) (look ! 11 refl)) (lit ! tt) tt) (from ! (stop !)) (init ! 9 refl (tt, tt)) $
-        elem_out ! T.the_row (Is T.the_row) (shows 𝓛 T.the_row) (LL.vals T.the_type T'.the_laws) (LL.tells T.the_type T'.the_laws) full_share ws.1.1.1.1.1.0 0 emptyEdge l₆ 0 (subst (λ (k : ℕ). 0 < k) (sym (l-list ∙ is512)) (lit< tt)) (λ g₁.
-        assigns ! (of_opd ! (load ! (from ! (hop ! (look ! 11 refl) (stop !))) (look_raw ! 0 refl))) (from ! (stop !)) (store ! 33 refl ((LL.lawful T.the_type T'.the_laws 𝓛).typed (get_or ws.1.1.1.1.1.0 0 emptyEdge) _ g₁).0) $
-        assigns ! (of_opd ! (load ! (from ! (stop !)) (look ! 33 refl))) (from ! (stop !)) (init ! 35 refl ((LL.lawful T.the_type T'.the_laws 𝓛).typed (get_or ws.1.1.1.1.1.0 0 emptyEdge) _ g₁).0) $
-        assigns ! (of_opd ! (load ! (from ! (fld ! refl (stop !))) (look_in ! 35 (sub ! 3 refl (whole !))))) (from ! (stop !)) (init ! 48 refl (tt, record { fits = (LL.owed T.the_type T'.the_laws (get_or ws.1.1.1.1.1.0 0 emptyEdge) _ g₁).1.1.1.0.1 })) $
-        elem_back ! T.the_row full_share ws.1.1.1.1.1.0 0 emptyEdge (LL.vals T.the_type T'.the_laws (get_or ws.1.1.1.1.1.0 0 emptyEdge)) l₆ 0 (subst (λ (k : ℕ). 0 < k) (sym (l-list ∙ is512)) (lit< tt)) $
+        elem_out ! T.the_row (Is T.the_row) (shows 𝓛 T.the_row) (LL.vals T.the_type T'.the_laws) (LL.tells T.the_type T'.the_laws) full_share ws.1.1.1.1.1.0 0 empty_edge l₆ 0 (subst (λ (k : ℕ). 0 < k) (sym (l-list ∙ is512)) (lit< tt)) (λ g₁.
+        assigns ! (of_opd ! (load ! (from ! (hop ! (look ! 11 refl) (stop !))) (look_raw ! 0 refl))) (from ! (stop !)) (store ! 33 refl ((LL.lawful T.the_type T'.the_laws 𝓛).typed (get_or ws.1.1.1.1.1.0 0 empty_edge) _ g₁).0) $
+        assigns ! (of_opd ! (load ! (from ! (stop !)) (look ! 33 refl))) (from ! (stop !)) (init ! 35 refl ((LL.lawful T.the_type T'.the_laws 𝓛).typed (get_or ws.1.1.1.1.1.0 0 empty_edge) _ g₁).0) $
+        assigns ! (of_opd ! (load ! (from ! (fld ! refl (stop !))) (look_in ! 35 (sub ! 3 refl (whole !))))) (from ! (stop !)) (init ! 48 refl (tt, record { fits = (LL.owed T.the_type T'.the_laws (get_or ws.1.1.1.1.1.0 0 empty_edge) _ g₁).1.1.1.0.1 })) $
+        elem_back ! T.the_row full_share ws.1.1.1.1.1.0 0 empty_edge (LL.vals T.the_type T'.the_laws (get_or ws.1.1.1.1.1.0 0 empty_edge)) l₆ 0 (subst (λ (k : ℕ). 0 < k) (sym (l-list ∙ is512)) (lit< tt)) $
         use1 𝓛 (‵ (Cell T.the_row 512 l₆ (val_of T.the_row (LL.vals T.the_type T'.the_laws) ws.1.1.1.1.1.0)) ⊛ ‵ (R.own ws.1.1.1.1.1.0 (array_vals (LL.vals T.the_type T'.the_laws) ws.1.1.1.1.1.0))) (local_out 𝓛 T.the_row tt 512 (LL.vals T.the_type T'.the_laws) (LL.tells T.the_type T'.the_laws) ws.1.1.1.1.1.0 l₆ (l-list ∙ is512)) $
         split ! $
         returns ! (look ! 47 refl) $
         forget ! 0 refl $ forget ! 10 refl $ forget ! 12 refl $ forget ! 14 refl $ forget ! 16 refl $ forget ! 18 refl $ forget ! 20 refl $ forget ! 22 refl $ forget ! 24 refl $ forget ! 26 refl $ forget ! 28 refl $ forget ! 30 refl $ forget ! 32 refl $ forget ! 34 refl $ forget ! 37 refl $ forget ! 39 refl $ forget ! 41 refl $ forget ! 43 refl $ forget ! 45 refl $ forget ! 47 refl $
         move ! (47 ∷ 48 ∷ []) $ free1 ! $ move ! (45 ∷ 46 ∷ []) $ free1 ! $ move ! (43 ∷ 44 ∷ []) $ free1 ! $ move ! (41 ∷ 42 ∷ []) $ free1 ! $ move ! (39 ∷ 40 ∷ []) $ free1 ! $ move ! (37 ∷ 38 ∷ []) $ free1 ! $ move ! (0 ∷ 36 ∷ []) $ free1 ! $ move ! (33 ∷ 34 ∷ []) $ free1 ! $ move ! (31 ∷ 32 ∷ []) $ free1 ! $ move ! (29 ∷ 30 ∷ []) $ free1 ! $ move ! (27 ∷ 28 ∷ []) $ free1 ! $ move ! (25 ∷ 26 ∷ []) $ free1 ! $ move ! (23 ∷ 24 ∷ []) $ free1 ! $ move ! (21 ∷ 22 ∷ []) $ free1 ! $ move ! (19 ∷ 20 ∷ []) $ free1 ! $ move ! (17 ∷ 18 ∷ []) $ free1 ! $ move ! (15 ∷ 16 ∷ []) $ free1 ! $ move ! (13 ∷ 14 ∷ []) $ free1 ! $ move ! (11 ∷ 12 ∷ []) $ free1 ! $ move ! (9 ∷ 10 ∷ []) $ free1 ! $ free0 ! $
         keep ! (4 ∷ 3 ∷ 2 ∷ 1 ∷ 8 ∷ 7 ∷ 6 ∷ 5 ∷ []) $
-        by ! (exits bound (get_or ws.1.1.1.1.1.0 0 emptyEdge).parent (LL.owed T.the_type T'.the_laws (get_or ws.1.1.1.1.1.0 0 emptyEdge) _ g₁).1.1.1.0.1 ws.1.1.0 ws.1.1.1.0 ws.1.1.1.1.0 l-tables l-seen l-sheet (owned-first _ _ _ _ _ r ws.1.1.0 ws.1.1.1.0 ws.1.1.1.1.0 ws.1.1.1.1.1.0 e)))))))))))))))))))))))))))))))))))
+        by ! (exits bound (get_or ws.1.1.1.1.1.0 0 empty_edge).parent (LL.owed T.the_type T'.the_laws (get_or ws.1.1.1.1.1.0 0 empty_edge) _ g₁).1.1.1.0.1 ws.1.1.0 ws.1.1.1.0 ws.1.1.1.1.0 l-tables l-seen l-sheet (owned_first _ _ _ _ _ r ws.1.1.0 ws.1.1.1.0 ws.1.1.1.1.0 ws.1.1.1.1.1.0 e)))))))))))))))))))))))))))))))))))
 
 module _ {M : Type 1} {𝓤 : Ura M} (𝓛 : Logic 𝓤) (mem : Memory → SProp 𝓤) (run : Routine → Fun 𝓤) (𝓣 : Tables 𝓤 𝓛.H)
     (known : Triple 𝓤 (𝓣.C #edges·open-sentence) (Called 𝓛 mem run)) where

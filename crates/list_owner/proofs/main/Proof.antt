@@ -5,7 +5,7 @@ use borrow.Author.Tests.{eq-eqb}
 use mathlib.Core.Path.{ap, ◌∙◌}
 use lib.ListN.{get_or}
 use Rattle.list_owner.specs.Promise.{FirstParent, FirstParentAt, TextLength}
-use Rattle.list_owner.proofs.Asked.{parent-told, parent-there, length-told, tab-told}
+use Rattle.list_owner.proofs.Asked.{parent_told, parent_there, length_told, tab_told}
 use Rattle.list_owner.proofs.main.Statement.{statement}
 use Rattle.list_owner.proofs.main.Tie as tie
 
@@ -27,7 +27,7 @@ first-secondary-parent-requires c κs = search rules
 expect-requires : tie.Need-expect-requires
 expect-requires c κs =
     let told = c.before.before.before.first-secondary-parent in
-    eq-eqb told.result 501 (ap (λ (x : FirstParent). x.parent) told.ensures ∙ parent-told)
+    eq-eqb told.result 501 (ap (λ (x : FirstParent). x.parent) told.ensures ∙ parent_told)
 
 slice-aggregate-first-parent-at : tie.Need-slice-aggregate-first-parent-at
 slice-aggregate-first-parent-at c = search rules
@@ -41,7 +41,7 @@ first-parent-at-requires c κs = search rules
 expect-requires-2 : tie.Need-expect-requires-2
 expect-requires-2 c κs =
     let told = c.before.first-parent-at in
-    eq-eqb told.result 501 (ap (λ (x : FirstParentAt). x.parent) told.ensures ∙ parent-there)
+    eq-eqb told.result 501 (ap (λ (x : FirstParentAt). x.parent) told.ensures ∙ parent_there)
 
 slice-aggregate-tidy-length : tie.Need-slice-aggregate-tidy-length
 slice-aggregate-tidy-length c = search rules
@@ -64,7 +64,7 @@ tidy-length-requires c κs = search rules
 expect-requires-3 : tie.Need-expect-requires-3
 expect-requires-3 c κs =
     let told = c.before.before.before.before.tidy-length in
-    eq-eqb told.result 150 (ap (λ (x : TextLength). x.written) told.ensures ∙ length-told)
+    eq-eqb told.result 150 (ap (λ (x : TextLength). x.written) told.ensures ∙ length_told)
 
 array-read-expect : tie.Need-array-read-expect
 array-read-expect c = search rules
@@ -72,7 +72,7 @@ array-read-expect c = search rules
 expect-requires-4 : tie.Need-expect-requires-4
 expect-requires-4 c κs =
     let told = c.before.before.before.before.before.tidy-length in
-    eq-eqb _ 9 (ap (λ (x : TextLength). get_or x.output 23 0) told.ensures ∙ tab-told)
+    eq-eqb _ 9 (ap (λ (x : TextLength). get_or x.output 23 0) told.ensures ∙ tab_told)
 
 returns : tie.Need-returns
 returns c = search rules

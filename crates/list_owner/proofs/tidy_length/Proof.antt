@@ -44,13 +44,13 @@ use denote.Triple.Spec.{Meets, triple_of}
 use denote.Triple.Table.{entered, cited}
 use denote.Triple.Walked.{says, Stays, gave_slice, stay_none, walk_of, AllGo, Goes-gave_slice, Goes-none, Walks, ends_at, walked, walk_Meets}
 use denote.Exit.{yes}
-use Rattle.rules.specs.Opening.{noEdges}
-use Rattle.rules.specs.Writing.{afterWriting}
+use Rattle.rules.specs.Opening.{no_edges}
+use Rattle.rules.specs.Writing.{after_writing}
 use Rattle.writing.specs.declared.Written.{Written}
 use Rattle.writing.specs.contracts.Written as S
 use Rattle.writing.proofs.Written.TheLaws as S'
 use Rattle.edges.specs.declared.Edge.{Edge}
-use Rattle.edges.specs.Promise.{asRecords}
+use Rattle.edges.specs.Promise.{as_records}
 use Rattle.edges.specs.Promise as lent
 use Rattle.edges.specs.contracts.Edge as T
 use Rattle.edges.proofs.Edge.TheLaws as T'
@@ -58,9 +58,9 @@ use Rattle.edges.specs.contracts.write_text as g
 use Rattle.edges.proofs.write_text.Symbol as g-def
 use Rattle.edges.proofs.write_text.Symbol.{name as #edges·write-text}
 use Rattle.edges.proofs.write_text.Met as g-thm
-use Rattle.list_owner.specs.Promise.{outcomeOf, length_of}
-use Rattle.list_owner.proofs.LocalList.{Cell, val_of, local-in, local_out}
-use Rattle.list_owner.proofs.Owned.{emptyEdge, emptyList, owned-length}
+use Rattle.list_owner.specs.Promise.{outcome_of, length_of}
+use Rattle.list_owner.proofs.LocalList.{Cell, val_of, local_in, local_out}
+use Rattle.list_owner.proofs.Owned.{empty_edge, empty_list, owned_length}
 use Rattle.list_owner.specs.contracts.tidy_length.Key.{name as #list_owner·itself}
 use Rattle.list_owner.specs.contracts.tidy_length as f
 use Rattle.list_owner.proofs.tidy_length.Statement as stated
@@ -82,17 +82,17 @@ only (v ∷ vs) = v
 abbrev stayed : Stays (f.ended).signature.params (f.ended).kept
 stayed = (stay_none (λ κs. FileT κs.0) yes, (gave_slice (1 ∷ []) tt (plain (λ _. u8)), (gave_slice (2 ∷ []) tt (plain (λ _. u32)), (gave_slice (3 ∷ []) tt (plain (λ _. u8)), (gave_slice (4 ∷ []) tt (plain (λ _. u32)), tt)))))
 
-is512 : length emptyList ≡ 512
-is512 = length-replicate 512 emptyEdge
+is512 : length empty_list ≡ 512
+is512 = length-replicate 512 empty_edge
 
-room-list : Room T.the_row (length emptyList)
+room-list : Room T.the_row (length empty_list)
 room-list = subst (Room T.the_row) (sym is512) (lit< tt, lit< tt)
 
 abbrev emptyVal : Val
 emptyVal = vstruct (vcons (vint w32 0) (vcons (vint w32 0) (vcons (vint w32 0) (vcons (vint w32 0) vnil))))
 
-made : Is T.the_row emptyEdge (emptyVal ∷ [])
-made = LL.owes T.the_type T'.the_laws emptyEdge ((refl, lit< tt), ((refl, lit< tt), ((refl, lit< tt), ((refl, lit< tt), tt))))
+made : Is T.the_row empty_edge (emptyVal ∷ [])
+made = LL.owes T.the_type T'.the_laws empty_edge ((refl, lit< tt), ((refl, lit< tt), ((refl, lit< tt), ((refl, lit< tt), tt))))
 
 module _ {M : Type 1} {𝓤 : Ura M} (𝓛 : Logic 𝓤) (mem : Memory → SProp 𝓤) (run : Routine → Fun 𝓤) where
   -- the contract that the proof cites
@@ -134,7 +134,7 @@ module _ {M : Type 1} {𝓤 : Ura M} (𝓛 : Logic 𝓤) (mem : Memory → SProp
   File = (FileT κ₀).own fileᵣ (v-file ∷ [])
 
   exits : (r : ℕ) → r < 2 ^ 32 → (output' : List ℕ) (tables' : List ℕ) (seen' : List ℕ) (sheet' : List ℕ) → length output' ≡ length outputᵣ.now → length tables' ≡ length tablesᵣ.now → length seen' ≡ length seenᵣ.now → length sheet' ≡ length sheetᵣ.now
-      → outcomeOf r tables' seen' sheet' output' ≡ length_of (afterWriting fileᵣ.now tablesᵣ.now seenᵣ.now sheetᵣ.now noEdges outputᵣ.now)
+      → outcome_of r tables' seen' sheet' output' ≡ length_of (after_writing fileᵣ.now tablesᵣ.now seenᵣ.now sheetᵣ.now no_edges outputᵣ.now)
       → ent 𝓤 (⋆ 𝓛 (‵ (flft κ₀ q₀) ∷ ‵ (flft κ₁ q₁) ∷ ‵ (flft κ₂ q₂) ∷ ‵ (flft κ₃ q₃) ∷ ‵ (flft κ₄ q₄) ∷ ‵ File ∷ ‵ (finally u8 outputᵣ.name output') ∷ ‵ (finally u32 tablesᵣ.name tables') ∷ ‵ (finally u8 seenᵣ.name seen') ∷ ‵ (finally u32 sheetᵣ.name sheet') ∷ [])) (Post (vint w32 r))
   exits r fits output' tables' seen' sheet' l-output l-tables l-seen l-sheet e =
       qed 𝓛 (‵ (flft κ₀ q₀) ∷ ‵ (flft κ₁ q₁) ∷ ‵ (flft κ₂ q₂) ∷ ‵ (flft κ₃ q₃) ∷ ‵ (flft κ₄ q₄) ∷ ‵ File ∷ ‵ (finally u8 outputᵣ.name output') ∷ ‵ (finally u32 tablesᵣ.name tables') ∷ ‵ (finally u8 seenᵣ.name seen') ∷ ‵ (finally u32 sheetᵣ.name sheet') ∷ []) ∵
@@ -168,10 +168,10 @@ module _ {M : Type 1} {𝓤 : Ura M} (𝓛 : Logic 𝓤) (mem : Memory → SProp
 
   module _ (l₆ : ℕ) where
     abbrev listᵣ : GName → MutBor (List Edge)
-    listᵣ δ = record { ref_ptr = (l₆, 0); ghost_name = δ; now = emptyList }
+    listᵣ δ = record { ref_ptr = (l₆, 0); ghost_name = δ; now = empty_list }
 
     abbrev v-list : Val
-    v-list = slice_val (l₆, 0) (length emptyList)
+    v-list = slice_val (l₆, 0) (length empty_list)
 
     abbrev to-called : ℕ → GName → (Called 𝓛 mem run).Ghost
     to-called α δ = (((κ₀, (κ₁, (κ₂, (κ₃, (κ₄, (α ∷ [], tt)))))), (q₀, (q₁, (q₂, (q₃, (q₄, (full_share, tt)))))), tt, (fileᵣ, (outputᵣ, (tablesᵣ, (seenᵣ, (sheetᵣ, (listᵣ δ, tt)))))), (v-file ∷ [], (v-output ∷ [], (v-tables ∷ [], (v-seen ∷ [], (v-sheet ∷ [], (v-list ∷ [], tt))))))), tt)
@@ -187,10 +187,10 @@ module _ {M : Type 1} {𝓤 : Ura M} (𝓛 : Logic 𝓤) (mem : Memory → SProp
         pass1 ! (init ! 34 refl (tt, (tt, (record { fits = room-file.0 }, tt)))) $ pass1 ! (init ! 32 refl (tt, (tt, (record { fits = room-output.0 }, tt)))) $ pass1 ! (init ! 30 refl (tt, (tt, (record { fits = room-tables.0 }, tt)))) $ pass1 ! (init ! 28 refl (tt, (tt, (record { fits = room-seen.0 }, tt)))) $ pass1 ! (init ! 26 refl (tt, (tt, (record { fits = room-sheet.0 }, tt)))) $ pass0 ! $
         assigns ! (agg ! (and_then ! (lit ! tt) (and_then ! (lit ! tt) (and_then ! (lit ! tt) (and_then ! (lit ! tt) (no_more !)))))) (from ! (stop !)) (init ! 20 refl (tt, (record { fits = lit< tt }, (record { fits = lit< tt }, (record { fits = lit< tt }, (record { fits = lit< tt }, tt)))))) $
         -- the array of records, in its local
-        owned ! T.the_row (Is T.the_row) (LL.makes T.the_type T'.the_plain 𝓛) emptyEdge (emptyVal ∷ []) made $
-        use1 𝓛 (‵ (R.own emptyList (array_val (replicate 512 emptyVal) ∷ []))) (Array-repeat 𝓛 T.the_row (LL.copy T.the_type T'.the_copy 𝓛) 512 emptyEdge emptyVal) $
-        peeks ! R (Is R) (shows 𝓛 R) emptyList (array_val (replicate 512 emptyVal) ∷ []) (λ is.
-        assigns ! (rep ! 512 (load ! (from ! (stop !)) (look ! 21 refl))) (from ! (stop !)) (init ! 25 refl ((Array-Lawful 𝓛 T.the_row (LL.lawful T.the_type T'.the_laws 𝓛) 512).typed emptyList _ is).0) $
+        owned ! T.the_row (Is T.the_row) (LL.makes T.the_type T'.the_plain 𝓛) empty_edge (emptyVal ∷ []) made $
+        use1 𝓛 (‵ (R.own empty_list (array_val (replicate 512 emptyVal) ∷ []))) (Array-repeat 𝓛 T.the_row (LL.copy T.the_type T'.the_copy 𝓛) 512 empty_edge emptyVal) $
+        peeks ! R (Is R) (shows 𝓛 R) empty_list (array_val (replicate 512 emptyVal) ∷ []) (λ is.
+        assigns ! (rep ! 512 (load ! (from ! (stop !)) (look ! 21 refl))) (from ! (stop !)) (init ! 25 refl ((Array-Lawful 𝓛 T.the_row (LL.lawful T.the_type T'.the_laws 𝓛) 512).typed empty_list _ is).0) $
         assigns ! (addr ! (from ! (fld ! refl (hop ! (look_in ! 33 (sub ! 0 refl (whole !))) (stop !))))) (from ! (stop !)) (init ! 19 refl (tt, tt)) $
         assigns ! (agg ! (and_then ! (load ! (from ! (stop !)) (look ! 19 refl)) (and_then ! (load ! (from ! (fld ! refl (stop !))) (look_in ! 33 (sub ! 1 refl (whole !)))) (no_more !)))) (from ! (stop !)) (init ! 17 refl (tt, (tt, (record { fits = room-output.0 }, tt)))) $
         assigns ! (addr ! (from ! (fld ! refl (hop ! (look_in ! 31 (sub ! 0 refl (whole !))) (stop !))))) (from ! (stop !)) (init ! 15 refl (tt, tt)) $
@@ -203,10 +203,10 @@ module _ {M : Type 1} {𝓤 : Ura M} (𝓛 : Logic 𝓤) (mem : Memory → SProp
         assigns ! (agg ! (and_then ! (load ! (from ! (stop !)) (look ! 3 refl)) (and_then ! (lit ! tt) (no_more !)))) (from ! (stop !)) (init ! 1 refl (tt, (tt, (record { fits = lit< tt }, tt)))) $
         -- it is lent to `write_text`, as a slice
         move ! (25 ∷ 0 ∷ []) $
-        use2 𝓛 (‵ (row T.the_row full_share emptyList l₆ 0)) (local-in 𝓛 T.the_row tt 512 emptyList (array_val (replicate 512 emptyVal)) l₆) $ use1 𝓛 (‵ (cells (mem_of T.the_row) emptyList l₆ 0)) (whole_in 𝓛 T.the_row emptyList l₆ 0) $
+        use2 𝓛 (‵ (row T.the_row full_share empty_list l₆ 0)) (local_in 𝓛 T.the_row tt 512 empty_list (array_val (replicate 512 emptyVal)) l₆) $ use1 𝓛 (‵ (cells (mem_of T.the_row) empty_list l₆ 0)) (whole_in 𝓛 T.the_row empty_list l₆ 0) $
         lft_new ! tt (λ α.
         move ! (1 ∷ []) $
-        use1 𝓛 (later (some (λ (δ : GName). ‵ ((MutSlice (named 5) (α ∷ []) T.the_row).own_val (listᵣ l₆ δ) (v-list l₆ ∷ [])) ⊛ ‵ (flent (α ∷ []) (Held T.the_row (length emptyList) l₆ 0 δ))))) (lends_slice 𝓛 T.the_row (named 5) (α ∷ []) emptyList l₆ 0 room-list) $ await ! tt $
+        use1 𝓛 (later (some (λ (δ : GName). ‵ ((MutSlice (named 5) (α ∷ []) T.the_row).own_val (listᵣ l₆ δ) (v-list l₆ ∷ [])) ⊛ ‵ (flent (α ∷ []) (Held T.the_row (length empty_list) l₆ 0 δ))))) (lends_slice 𝓛 T.the_row (named 5) (α ∷ []) empty_list l₆ 0 room-list) $ await ! tt $
         pick ! (λ δ.
         split ! $
         move ! (41 ∷ []) $
@@ -269,11 +269,11 @@ module _ {M : Type 1} {𝓤 : Ura M} (𝓛 : Logic 𝓤) (mem : Memory → SProp
         pick ! (λ r.
         split ! $
         move ! (1 ∷ []) $
-        use1 𝓛 (some (λ (ws : Unit {0} × (List ℕ × (List ℕ × (List ℕ × (List ℕ × (List Edge × Unit {0})))))). ‵ (lasts g.ended (κ₀, (κ₁, (κ₂, (κ₃, (κ₄, (α ∷ [], tt)))))) (fileᵣ, (outputᵣ, (tablesᵣ, (seenᵣ, (sheetᵣ, (listᵣ l₆ δ, tt)))))) ws) ⊛ raw (fact 𝓤 (lent.writtenOutcome r ws.1.1.0 ws.1.1.1.0 ws.1.1.1.1.0 ws.1.1.1.1.1.0 ws.1.0 ≡ afterWriting fileᵣ.now tablesᵣ.now seenᵣ.now sheetᵣ.now (asRecords emptyList) outputᵣ.now)))) (id⊢ 𝓤 _) $
+        use1 𝓛 (some (λ (ws : Unit {0} × (List ℕ × (List ℕ × (List ℕ × (List ℕ × (List Edge × Unit {0})))))). ‵ (lasts g.ended (κ₀, (κ₁, (κ₂, (κ₃, (κ₄, (α ∷ [], tt)))))) (fileᵣ, (outputᵣ, (tablesᵣ, (seenᵣ, (sheetᵣ, (listᵣ l₆ δ, tt)))))) ws) ⊛ raw (fact 𝓤 (lent.written_outcome r ws.1.1.0 ws.1.1.1.0 ws.1.1.1.1.0 ws.1.1.1.1.1.0 ws.1.0 ≡ after_writing fileᵣ.now tablesᵣ.now seenᵣ.now sheetᵣ.now (as_records empty_list) outputᵣ.now)))) (id⊢ 𝓤 _) $
         pick ! (λ ws.
         split ! $
         move ! (1 ∷ []) $
-        heard ! (lent.writtenOutcome r ws.1.1.0 ws.1.1.1.0 ws.1.1.1.1.0 ws.1.1.1.1.1.0 ws.1.0 ≡ afterWriting fileᵣ.now tablesᵣ.now seenᵣ.now sheetᵣ.now (asRecords emptyList) outputᵣ.now) (λ e.
+        heard ! (lent.written_outcome r ws.1.1.0 ws.1.1.1.0 ws.1.1.1.1.0 ws.1.1.1.1.1.0 ws.1.0 ≡ after_writing fileᵣ.now tablesᵣ.now seenᵣ.now sheetᵣ.now (as_records empty_list) outputᵣ.now) (λ e.
         fsplit ! $
         drop ! $
         fsplit ! $
@@ -320,7 +320,7 @@ module _ {M : Type 1} {𝓤 : Ura M} (𝓛 : Logic 𝓤) (mem : Memory → SProp
         drop ! $
         lft_end ! tt $
         move ! (0 ∷ 13 ∷ 7 ∷ []) $
-        use3 𝓛 (later (‵ ((Arr (mem_of T.the_row) (length emptyList)).own_at ws.1.1.1.1.1.0 l₆ 0))) (slice_back 𝓛 T.the_row (α ∷ []) δ ws.1.1.1.1.1.0 (length emptyList) l₆ 0) $ await ! tt $
+        use3 𝓛 (later (‵ ((Arr (mem_of T.the_row) (length empty_list)).own_at ws.1.1.1.1.1.0 l₆ 0))) (slice_back 𝓛 T.the_row (α ∷ []) δ ws.1.1.1.1.1.0 (length empty_list) l₆ 0) $ await ! tt $
         fsplit ! $
         drop ! $
         use1 𝓛 (‵ (row T.the_row full_share ws.1.1.1.1.1.0 l₆ 0)) (whole_out 𝓛 T.the_row ws.1.1.1.1.1.0 l₆ 0) $
@@ -337,7 +337,7 @@ module _ {M : Type 1} {𝓤 : Ura M} (𝓛 : Logic 𝓤) (mem : Memory → SProp
         forget ! 0 refl $ forget ! 12 refl $ forget ! 14 refl $ forget ! 16 refl $ forget ! 18 refl $ forget ! 20 refl $ forget ! 22 refl $ forget ! 24 refl $ forget ! 26 refl $ forget ! 28 refl $ forget ! 30 refl $ forget ! 32 refl $ forget ! 34 refl $ forget ! 37 refl $ forget ! 39 refl $ forget ! 41 refl $ forget ! 43 refl $ forget ! 45 refl $ forget ! 47 refl $
         move ! (47 ∷ 48 ∷ []) $ free1 ! $ move ! (45 ∷ 46 ∷ []) $ free1 ! $ move ! (43 ∷ 44 ∷ []) $ free1 ! $ move ! (41 ∷ 42 ∷ []) $ free1 ! $ move ! (39 ∷ 40 ∷ []) $ free1 ! $ move ! (37 ∷ 38 ∷ []) $ free1 ! $ move ! (0 ∷ 36 ∷ []) $ free1 ! $ move ! (33 ∷ 34 ∷ []) $ free1 ! $ move ! (31 ∷ 32 ∷ []) $ free1 ! $ move ! (29 ∷ 30 ∷ []) $ free1 ! $ move ! (27 ∷ 28 ∷ []) $ free1 ! $ move ! (25 ∷ 26 ∷ []) $ free1 ! $ move ! (23 ∷ 24 ∷ []) $ free1 ! $ move ! (21 ∷ 22 ∷ []) $ free1 ! $ move ! (19 ∷ 20 ∷ []) $ free1 ! $ move ! (17 ∷ 18 ∷ []) $ free1 ! $ move ! (15 ∷ 16 ∷ []) $ free1 ! $ move ! (13 ∷ 14 ∷ []) $ free1 ! $ move ! (11 ∷ 12 ∷ []) $ free1 ! $ free0 ! $
         keep ! (5 ∷ 4 ∷ 3 ∷ 2 ∷ 1 ∷ 10 ∷ 9 ∷ 8 ∷ 7 ∷ 6 ∷ []) $
-        by ! (exits r.length (LL.owed S.the_type S'.the_laws r _ is₁).1.1.0.1 ws.1.0 ws.1.1.0 ws.1.1.1.0 ws.1.1.1.1.0 l-output l-tables l-seen l-sheet (owned-length _ _ _ _ _ r ws.1.1.0 ws.1.1.1.0 ws.1.1.1.1.0 ws.1.1.1.1.1.0 ws.1.0 e))))))))))))))))))))))))))))))))))
+        by ! (exits r.length (LL.owed S.the_type S'.the_laws r _ is₁).1.1.0.1 ws.1.0 ws.1.1.0 ws.1.1.1.0 ws.1.1.1.1.0 l-output l-tables l-seen l-sheet (owned_length _ _ _ _ _ r ws.1.1.0 ws.1.1.1.0 ws.1.1.1.1.0 ws.1.1.1.1.1.0 ws.1.0 e))))))))))))))))))))))))))))))))))
 
 module _ {M : Type 1} {𝓤 : Ura M} (𝓛 : Logic 𝓤) (mem : Memory → SProp 𝓤) (run : Routine → Fun 𝓤) (𝓣 : Tables 𝓤 𝓛.H)
     (known : Triple 𝓤 (𝓣.C #edges·write-text) (Called 𝓛 mem run)) where

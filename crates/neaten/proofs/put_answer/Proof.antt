@@ -1,9 +1,9 @@
 -- `neaten::put_answer` meets its contract: column behind column.
 -- No loop.
 use borrow.Author.Rules.{rules}
-use Rattle.rules.specs.Tidy.{digitsOf}
+use Rattle.rules.specs.Tidy.{digits_of}
 use Rattle.printing.proofs.PutLaws.{put_then, put_as}
-use Rattle.neaten.proofs.AnswerLine.{four-columns, counted}
+use Rattle.neaten.proofs.AnswerLine.{four_columns, counted}
 use Rattle.neaten.proofs.put_answer.Statement.{statement}
 use Rattle.neaten.proofs.put_answer.Tie as tie
 
@@ -11,7 +11,7 @@ returns : tie.Need-returns
 returns c =
     let told = c.before.before.before.before.before.before.before.before.before.before.before.before.before.before.before.before.before.before.before.before.before.args.told in
     let line =
-    put_as (four-columns (digitsOf told.refusal) (digitsOf told.place) (digitsOf told.sentences) (digitsOf told.sound_end))
+    put_as (four_columns (digits_of told.refusal) (digits_of told.place) (digits_of told.sentences) (digits_of told.sound_end))
     (put_then
     (put_then
     (put_then

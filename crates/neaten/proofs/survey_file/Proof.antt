@@ -3,7 +3,7 @@
 use borrow.Author.Rules.{rules}
 use mathlib.Core.Path.{ap}
 use Rattle.rules.specs.Survey.{SurveyOutcome}
-use Rattle.survey.specs.Promise.{asSurveyed}
+use Rattle.survey.specs.Promise.{as_surveyed}
 use Rattle.neaten.proofs.survey_file.Statement.{statement}
 use Rattle.neaten.proofs.survey_file.Tie as tie
 
@@ -14,4 +14,4 @@ survey-file-spec =
     (λ c. search rules)
     (λ c. search rules)
     (λ c κs. search rules)
-    (λ c. ap (λ (o : SurveyOutcome). asSurveyed o.answer) c.before.before.survey.ensures))
+    (λ c. ap (λ (o : SurveyOutcome). as_surveyed o.answer) c.before.before.survey.ensures))

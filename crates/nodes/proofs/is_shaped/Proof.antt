@@ -5,7 +5,7 @@ use mathlib.Core.Bool.{Bool, ◌&&◌}
 use lib.ListN.{length, drop}
 use borrow.Author.Tests.{le-leb, lt-leb}
 use Rattle.rules.specs.Pairs.{paired}
-use Rattle.nodes.proofs.ListedFields.{even-paired}
+use Rattle.nodes.proofs.ListedFields.{even_paired}
 use Rattle.nodes.proofs.is_shaped.Statement.{statement}
 use Rattle.nodes.proofs.is_shaped.Tie as tie
 
@@ -17,7 +17,7 @@ returns c format fs e =
 returns-2 : tie.Need-returns-2
 returns-2 c format fs e =
     let h : 5 ≤ length fs = omega (arith, c.if1.false) in
-    even-paired fs c.before.args.count e ∙ ap (λ (t : Bool). t && paired (drop 5 fs)) (sym (le-leb 5 (length fs) h))
+    even_paired fs c.before.args.count e ∙ ap (λ (t : Bool). t && paired (drop 5 fs)) (sym (le-leb 5 (length fs) h))
 
 pub is-shaped-spec : {M : Type 1} → statement M
 is-shaped-spec = tie.close (tie.spec returns returns-2)

@@ -1,22 +1,22 @@
 use native.Mathlib.Omega.{arith}
 use mathlib.Core.Path.{sym, ap, ◌∙◌}
 use lib.ListN.{length-map}
-use Rattle.rules.specs.Pairs.{asEdge}
-use Rattle.rules.specs.Nodes.{itsPairs}
+use Rattle.rules.specs.Pairs.{as_edge}
+use Rattle.rules.specs.Nodes.{its_pairs}
 use Rattle.columns.specs.Listing.{span_of}
 use Rattle.nodes.specs.NodeLines.{fields_of}
-use Rattle.nodes.proofs.ListedFields.{at-column, at_field, first_of, half-pairs}
+use Rattle.nodes.proofs.ListedFields.{at_column, at_field, first_of, half_pairs}
 use Rattle.nodes.proofs.node_said.Statement.{statement}
 use Rattle.nodes.proofs.node_said.Tie as tie
 
 column-span-requires : tie.Need-column-span-requires
-column-span-requires c κs = (at-column (first_of c.requires.1 1 (omega arith)), (_, c.requires.1.listed))
+column-span-requires c κs = (at_column (first_of c.requires.1 1 (omega arith)), (_, c.requires.1.listed))
 
 column-span-requires-2 : tie.Need-column-span-requires-2
-column-span-requires-2 c κs = let w = c.before.requires.1 in (at-column (first_of w 2 (omega arith)), (_, w.listed))
+column-span-requires-2 c κs = let w = c.before.requires.1 in (at_column (first_of w 2 (omega arith)), (_, w.listed))
 
 column-span-requires-3 : tie.Need-column-span-requires-3
-column-span-requires-3 c κs = let w = c.before.before.requires.1 in (at-column (first_of w 3 (omega arith)), (_, w.listed))
+column-span-requires-3 c κs = let w = c.before.before.requires.1 in (at_column (first_of w 3 (omega arith)), (_, w.listed))
 
 comment-of-requires : tie.Need-comment-of-requires
 comment-of-requires c κs = let w = c.before.before.before.requires.1 in (_, w.listed, w.counted)
@@ -36,7 +36,7 @@ returns c file format t w a b h =
       o.column-span2.ensures file w.listed ∙ ap span_of (at_field (first_of w 2 (omega arith))),
       e.column-span3.ensures file w.listed ∙ ap span_of (at_field (first_of w 3 (omega arith))),
       m.comment-of.ensures file w.listed w.counted,
-      c.count-pairs.ensures ∙ half-pairs fs _ (sym w.counted) ∙ sym (length-map (itsPairs format fs) asEdge),
+      c.count-pairs.ensures ∙ half_pairs fs _ (sym w.counted) ∙ sym (length-map (its_pairs format fs) as_edge),
       a,
       b,
       h,

@@ -9,23 +9,23 @@ use lib.ListN.{length}
 use Rattle.rules.specs.Lists.{pick}
 use mathlib.Core.Bool.{true, not}
 use mathlib.Core.Option.{Option}
-use Rattle.rules.specs.Texts.{Text, noText, behindHash}
+use Rattle.rules.specs.Texts.{Text, no_text, behind_hash}
 use Rattle.rules.specs.Columns.{text}
-use Rattle.rules.specs.Numbers.{edgeLimit, phraseNumber, value}
-use Rattle.rules.specs.Tables.{Tables, nodeTags}
-use Rattle.rules.specs.Nodes.{itsParent, shaped}
+use Rattle.rules.specs.Numbers.{edge_limit, phrase_number, value}
+use Rattle.rules.specs.Tables.{Tables, node_tags}
+use Rattle.rules.specs.Nodes.{its_parent, shaped}
 use Rattle.columns.specs.Listing.{line_of}
-use Rattle.table_sheet.specs.SheetRows.{tablesIn}
+use Rattle.table_sheet.specs.SheetRows.{tables_in}
 use Rattle.numbers.specs.Answers.{as_number}
 use Rattle.numbers.specs.declared.Number.TheVariants.{Good}
-use Rattle.numbers.proofs.Told.{good-tells, good-is-good, good-value, bad-is-not-good, number-tells}
-use Rattle.steps.specs.Faults.{noFault}
+use Rattle.numbers.proofs.Told.{good_tells, good_is_good, good_value, bad_is_not_good, number_tells}
+use Rattle.steps.specs.Faults.{no_fault}
 use Rattle.steps.specs.declared.Fault.{Fault}
 use Rattle.steps.specs.declared.Step.TheVariants.{Phrase, Refused}
-use Rattle.nodes.specs.NodeLines.{fields_of, phraseIn, firstFault, highestIn, marked, unlessFaulty, Whole}
-use Rattle.nodes.proofs.ListedFields.{whole, first_of, phrase-read}
-use Rattle.nodes.proofs.Judgements.{fine-tells}
-use Rattle.nodes.proofs.NodeSteps.{phrase-stepped, refused-by, taken_as}
+use Rattle.nodes.specs.NodeLines.{fields_of, phrase_in, first_fault, highest_in, marked, unless_faulty, Whole}
+use Rattle.nodes.proofs.ListedFields.{whole, first_of, phrase_read}
+use Rattle.nodes.proofs.Judgements.{fine_tells}
+use Rattle.nodes.proofs.NodeSteps.{phrase_stepped, refused_by_lem, taken_as_lem}
 use Rattle.nodes.proofs.phrase_line.Statement.{statement}
 use Rattle.nodes.proofs.phrase_line.Tie as tie
 
@@ -33,7 +33,7 @@ abbrev fields : tie.Start → List Text
 fields s = fields_of s.args.file.now s.args.line
 
 abbrev tables : tie.Start → Tables
-tables s = tablesIn s.args.file.now s.args.sheet.now
+tables s = tables_in s.args.file.now s.args.sheet.now
 
 abbrev line : tie.Start → Text
 line s = line_of s.args.file.now s.args.line
@@ -56,7 +56,7 @@ returns c format s e g =
     let k = c.before.before in
     let a = start k in
     c.refused.ensures
-    ∙ sym ((phrase-stepped format (tables a) s (line a) (length (fields a)) _ refl e _ _ refl refl).first (shape k format ∙ not-true _ c.before.if1.true))
+    ∙ sym ((phrase_stepped format (tables a) s (line a) (length (fields a)) _ refl e _ _ refl refl).first (shape k format ∙ not-true _ c.before.if1.true))
 
 -- ---- the number
 
@@ -64,10 +64,10 @@ abbrev entry : tie.After-read → tie.Start
 entry r = start r.before.before.before
 
 abbrev digits : tie.After-read → Option ℕ
-digits r = phraseIn (behindHash (text (fields (entry r)) 0))
+digits r = phrase_in (behind_hash (text (fields (entry r)) 0))
 
 read : (r : tie.After-read) → as_number (digits r) ≡ r.read.result
-read r = sym (phrase-read (behindHash (text (fields (entry r)) 0)) r.before.behind-hash.ensures r.read.ensures)
+read r = sym (phrase_read (behind_hash (text (fields (entry r)) 0)) r.before.behind-hash.ensures r.read.ensures)
 
 returns-2 : tie.Need-returns-2
 returns-2 c format s e g =
@@ -76,8 +76,8 @@ returns-2 c format s e g =
     let a = entry r in
     ap Refused (c.fault-at.ensures _ _ (first_of (lined r.before.before) 0 (omega arith)))
     ∙ sym
-    ((phrase-stepped format (tables a) s (line a) (length (fields a)) _ refl e _ _ refl refl
-    ).second (has-shape r.before.before format) (bad-is-not-good (digits r) (read r ∙ t.enum_told.given.1)))
+    ((phrase_stepped format (tables a) s (line a) (length (fields a)) _ refl e _ _ refl refl
+    ).second (has-shape r.before.before format) (bad_is_not_good (digits r) (read r ∙ t.enum_told.given.1)))
 
 abbrev asked : tie.After-known-told → tie.After-read
 asked k = k.before.before.before
@@ -89,7 +89,7 @@ phrase-limits-requires : tie.Need-phrase-limits-requires
 phrase-limits-requires c κs =
     let r = asked c in
     let l = lined r.before.before in
-    let w = number-tells phraseNumber (behindHash (text (fields (entry r)) 0)).bytes (number c) (good-tells (digits r) (number c) (read r ∙ c.before.read2.given.1)) in
+    let w = number_tells phrase_number (behind_hash (text (fields (entry r)) 0)).bytes (number c) (good_tells (digits r) (number c) (read r ∙ c.before.read2.given.1)) in
     (search rules, (entry r).pre.3, l.five, l.few, w.lowest, w.highest, (entry r).pre.4)
 
 -- ---- the rules of the fields
@@ -104,24 +104,24 @@ abbrev seen : tie.After-judge → tie.Else1
 seen j = (asked (found j)).before.before
 
 abbrev fault : tie.After-judge → ℕ → Fault → Fault
-fault j format limits = firstFault format (fields (from j)) (tables (from j)) nodeTags (number (found j)) limits
+fault j format limits = first_fault format (fields (from j)) (tables (from j)) node_tags (number (found j)) limits
 
 abbrev limits : tie.After-judge → Fault
 limits j =
     let a = (from j).args in
-    pick (leb (a.edges + ((seen j).before.before.count-fields.result - 5) / 2) edgeLimit)
-    (pick (not (marked a.marks.now a.stamp (number (found j)))) noFault (record { number = 17; place = a.line.start }))
+    pick (leb (a.edges + ((seen j).before.before.count-fields.result - 5) / 2) edge_limit)
+    (pick (not (marked a.marks.now a.stamp (number (found j)))) no_fault (record { number = 17; place = a.line.start }))
     (record { number = 16; place = a.line.start })
 
 abbrev parent : tie.After-judge → ℕ → ℕ
-parent j format = value (itsParent format (fields (from j)))
+parent j format = value (its_parent format (fields (from j)))
 
 abbrev highest : tie.After-judge → ℕ → ℕ
-highest j format = highestIn format (fields (from j))
+highest j format = highest_in format (fields (from j))
 
-judged : (j : tie.After-judge) (format : ℕ) → unlessFaulty (fault j format (limits j)) (parent j format) (highest j format) ≡ j.judge.result
+judged : (j : tie.After-judge) (format : ℕ) → unless_faulty (fault j format (limits j)) (parent j format) (highest j format) ≡ j.judge.result
 judged j format =
-    sym (j.judge.ensures format ∙ ap (λ (l : Fault). unlessFaulty (fault j format l) (parent j format) (highest j format)) j.before.phrase-limits.ensures)
+    sym (j.judge.ensures format ∙ ap (λ (l : Fault). unless_faulty (fault j format l) (parent j format) (highest j format)) j.before.phrase-limits.ensures)
 
 numbered : (j : tie.After-judge) → as_number (digits (asked (found j))) ≡ Good (number (found j))
 numbered j = read (asked (found j)) ∙ (found j).before.read2.given.1
@@ -131,20 +131,20 @@ returns-3 c format s e g =
     let t = c.before in
     let j = t.before.before in
     let o = digits (asked (found j)) in
-    refused-by
-    (phrase-stepped format (tables (from j)) s (line (from j)) _ _ (sym (seen j).before.before.count-fields.ensures) e _ _ (good-value o _ (numbered j)) (g (number (found j))))
-    (has-shape (seen j) format) (good-is-good o _ (numbered j)) (parent j format) (highest j format) _ (judged j format ∙ t.judged.given.1)
+    refused_by_lem
+    (phrase_stepped format (tables (from j)) s (line (from j)) _ _ (sym (seen j).before.before.count-fields.ensures) e _ _ (good_value o _ (numbered j)) (g (number (found j))))
+    (has-shape (seen j) format) (good_is_good o _ (numbered j)) (parent j format) (highest j format) _ (judged j format ∙ t.judged.given.1)
 
 returns-4 : tie.Need-returns-4
 returns-4 c format s e g =
     let t = c.before.before in
     let j = t.before.before in
     let o = digits (asked (found j)) in
-    let w = fine-tells (fault j format (limits j)) (parent j format) (highest j format) _ _ (judged j format ∙ t.judged2.given.1) in
-    ap Phrase (c.node-said.ensures _ format noText (lined (seen j)) refl (sym w.itself) (sym w.top))
-    ∙ taken_as
-    (phrase-stepped format (tables (from j)) s (line (from j)) _ _ (sym (seen j).before.before.count-fields.ensures) e _ _ (good-value o _ (numbered j)) (g (number (found j))))
-    (has-shape (seen j) format) (good-is-good o _ (numbered j)) w.none
+    let w = fine_tells (fault j format (limits j)) (parent j format) (highest j format) _ _ (judged j format ∙ t.judged2.given.1) in
+    ap Phrase (c.node-said.ensures _ format no_text (lined (seen j)) refl (sym w.itself) (sym w.top))
+    ∙ taken_as_lem
+    (phrase_stepped format (tables (from j)) s (line (from j)) _ _ (sym (seen j).before.before.count-fields.ensures) e _ _ (good_value o _ (numbered j)) (g (number (found j))))
+    (has-shape (seen j) format) (good_is_good o _ (numbered j)) w.none
 
 pub phrase-line-spec : {M : Type 1} → statement M
 phrase-line-spec = tie.close (tie.spec (λ c κs. c.before.before.before.requires.1) (λ c κs. tt) (λ c κs. search rules) returns (λ c κs. first_of (lined c) 0 (omega arith)) (λ c κs. search rules) (λ c. search rules) (λ c. search rules) (λ c κs. search rules) returns-2 phrase-limits-requires (λ c κs. let r = asked c.before in ((entry r).pre.0, lined r.before.before, (entry r).pre.2, search rules)) (λ c. search rules) (λ c. search rules) (λ c κs. (_, lined (seen c.before.before.before))) returns-3 returns-4)

@@ -10,18 +10,18 @@ use Rattle.rules.specs.Lists.{pick}
 use mathlib.Core.Bool.{true, ◌&&◌}
 use Rattle.rules.specs.Texts.{Text}
 use Rattle.rules.specs.Columns.{text}
-use Rattle.rules.specs.Numbers.{wordLimit, edgeLimit, value}
-use Rattle.rules.specs.Tables.{Tables, wordTags}
-use Rattle.rules.specs.Nodes.{itsParent, shaped}
+use Rattle.rules.specs.Numbers.{word_limit, edge_limit, value}
+use Rattle.rules.specs.Tables.{Tables, word_tags}
+use Rattle.rules.specs.Nodes.{its_parent, shaped}
 use Rattle.columns.specs.Listing.{line_of, span_of}
-use Rattle.table_sheet.specs.SheetRows.{tablesIn}
-use Rattle.steps.specs.Faults.{noFault}
+use Rattle.table_sheet.specs.SheetRows.{tables_in}
+use Rattle.steps.specs.Faults.{no_fault}
 use Rattle.steps.specs.declared.Fault.{Fault}
 use Rattle.steps.specs.declared.Step.TheVariants.{Word}
-use Rattle.nodes.specs.NodeLines.{fields_of, firstFault, highestIn, unlessFaulty, Whole}
-use Rattle.nodes.proofs.ListedFields.{whole, first_of, at-column, at_field}
-use Rattle.nodes.proofs.Judgements.{fine-tells}
-use Rattle.nodes.proofs.NodeSteps.{word-stepped, refused-by, taken_as}
+use Rattle.nodes.specs.NodeLines.{fields_of, first_fault, highest_in, unless_faulty, Whole}
+use Rattle.nodes.proofs.ListedFields.{whole, first_of, at_column, at_field}
+use Rattle.nodes.proofs.Judgements.{fine_tells}
+use Rattle.nodes.proofs.NodeSteps.{word_stepped, refused_by_lem, taken_as_lem}
 use Rattle.nodes.proofs.word_line.Statement.{statement}
 use Rattle.nodes.proofs.word_line.Tie as tie
 
@@ -29,7 +29,7 @@ abbrev fields : tie.Start → List Text
 fields s = fields_of s.args.file.now s.args.line
 
 abbrev tables : tie.Start → Tables
-tables s = tablesIn s.args.file.now s.args.sheet.now
+tables s = tables_in s.args.file.now s.args.sheet.now
 
 abbrev line : tie.Start → Text
 line s = line_of s.args.file.now s.args.line
@@ -44,20 +44,20 @@ lined : (c : tie.Else2)
     → let s = start c.before in Whole s.args.file.now s.args.line s.args.places.now c.before.before.count-fields.result
 lined c = let k = c.before in whole 0 (start k).requires.1 k.before.count-fields.ensures (shape k 0 ∙ not-false _ c.if2.false)
 
-first : (k : tie.After-is-shaped) → (start k).args.no-phrase ≡ true
+first : (k : tie.After-is-shaped) → (start k).args.no_phrase ≡ true
 first k = not-false _ k.before.before.if1.false
 
 returns : tie.Need-returns
 returns c format s w p e =
     let a = c.before.before.before.before in
-    c.refused.ensures ∙ sym ((word-stepped format (tables a) s (line a) (length (fields a)) _ refl e _ _ w p).first (not-true _ c.before.if1.true))
+    c.refused.ensures ∙ sym ((word_stepped format (tables a) s (line a) (length (fields a)) _ refl e _ _ w p).first (not-true _ c.before.if1.true))
 
 returns-2 : tie.Need-returns-2
 returns-2 c format s w p e =
     let k = c.before.before in
     let a = start k in
     c.refused2.ensures
-    ∙ sym ((word-stepped format (tables a) s (line a) (length (fields a)) _ refl e _ _ w p).second (first k) (shape k format ∙ not-true _ c.before.if2.true))
+    ∙ sym ((word_stepped format (tables a) s (line a) (length (fields a)) _ refl e _ _ w p).second (first k) (shape k format ∙ not-true _ c.before.if2.true))
 
 -- ---- the rules of the fields
 
@@ -65,28 +65,28 @@ abbrev entry : tie.After-judge → tie.Start
 entry j = start j.before.before.before
 
 abbrev fault : tie.After-judge → ℕ → Fault → Fault
-fault j format limits = firstFault format (fields (entry j)) (tables (entry j)) wordTags (entry j).args.words limits
+fault j format limits = first_fault format (fields (entry j)) (tables (entry j)) word_tags (entry j).args.words limits
 
 abbrev limits : tie.After-judge → Fault
 limits j =
     let a = (entry j).args in
-    pick (ltb a.words wordLimit && leb (a.edges + (j.before.before.before.before.count-fields.result - 5) / 2) edgeLimit) noFault
+    pick (ltb a.words word_limit && leb (a.edges + (j.before.before.before.before.count-fields.result - 5) / 2) edge_limit) no_fault
     (record { number = 16; place = a.line.start })
 
 abbrev parent : tie.After-judge → ℕ → ℕ
-parent j format = value (itsParent format (fields (entry j)))
+parent j format = value (its_parent format (fields (entry j)))
 
 abbrev highest : tie.After-judge → ℕ → ℕ
-highest j format = highestIn format (fields (entry j))
+highest j format = highest_in format (fields (entry j))
 
-judged : (j : tie.After-judge) (format : ℕ) → unlessFaulty (fault j format (limits j)) (parent j format) (highest j format) ≡ j.judge.result
+judged : (j : tie.After-judge) (format : ℕ) → unless_faulty (fault j format (limits j)) (parent j format) (highest j format) ≡ j.judge.result
 judged j format =
-    sym (j.judge.ensures format ∙ ap (λ (l : Fault). unlessFaulty (fault j format l) (parent j format) (highest j format)) j.before.word-limits.ensures)
+    sym (j.judge.ensures format ∙ ap (λ (l : Fault). unless_faulty (fault j format l) (parent j format) (highest j format)) j.before.word-limits.ensures)
 
 column-span-requires : tie.Need-column-span-requires
 column-span-requires c κs =
     let l = lined c.before.before.before.before.before in
-    (at-column (first_of l 0 (omega arith)), (_, l.listed))
+    (at_column (first_of l 0 (omega arith)), (_, l.listed))
 
 returns-3 : tie.Need-returns-3
 returns-3 c format s w p e =
@@ -94,8 +94,8 @@ returns-3 c format s w p e =
     let j = g.before.before in
     let c = j.before.before in
     let k = c.before in
-    refused-by
-    (word-stepped format (tables (entry j)) s (line (entry j)) _ _ (sym k.before.count-fields.ensures) e _ _ w p)
+    refused_by_lem
+    (word_stepped format (tables (entry j)) s (line (entry j)) _ _ (sym k.before.count-fields.ensures) e _ _ w p)
     (first k) (shape k format ∙ not-false _ c.if2.false) (parent j format) (highest j format) _ (judged j format ∙ g.judged.given.1)
 
 returns-4 : tie.Need-returns-4
@@ -106,12 +106,12 @@ returns-4 c format s w p e =
     let d = j.before.before in
     let k = d.before in
     let l = lined d in
-    let t = fine-tells (fault j format (limits j)) (parent j format) (highest j format) _ _ (judged j format ∙ g.judged2.given.1) in
+    let t = fine_tells (fault j format (limits j)) (parent j format) (highest j format) _ _ (judged j format ∙ g.judged2.given.1) in
     ap Word
     (c.node-said.ensures _ format (text (fields (entry j)) 0) l (v.column-span.ensures _ l.listed ∙ ap span_of (at_field (first_of l 0 (omega arith))))
     (sym t.itself) (sym t.top))
-    ∙ taken_as
-    (word-stepped format (tables (entry j)) s (line (entry j)) _ _ (sym k.before.count-fields.ensures) e _ _ w p)
+    ∙ taken_as_lem
+    (word_stepped format (tables (entry j)) s (line (entry j)) _ _ (sym k.before.count-fields.ensures) e _ _ w p)
     (first k) (shape k format ∙ not-false _ d.if2.false) t.none
 
 pub word-line-spec : {M : Type 1} → statement M

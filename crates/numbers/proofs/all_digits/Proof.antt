@@ -9,7 +9,7 @@ use lib.ListN.{length, get_or, drop}
 use Rattle.rules.specs.Lists.{every}
 use Rattle.rules.specs.Bytes.{digit}
 use Rattle.rules.specs.Keywords.{digits}
-use Rattle.numbers.proofs.Digits.{is_digit, no_digit, every-stops, every-goes-on, every-ends, digits-none, digits-some}
+use Rattle.numbers.proofs.Digits.{is_digit, no_digit, every_stops, every_goes_on, every_ends, digits_none, digits_some}
 use Rattle.numbers.proofs.all_digits.Statement.{statement}
 use Rattle.numbers.proofs.all_digits.Tie as tie
 
@@ -35,10 +35,10 @@ known : (c : tie.After-class-of invariant-loop decreases-loop) → byte c.before
 known c = omega (arith, c.before.shared-slice-known2.given (place c.before.before))
 
 returns : tie.Need-returns invariant-loop decreases-loop
-returns c = sym (digits-none c.before.before.args.s.now c.if1.true)
+returns c = sym (digits_none c.before.before.args.s.now c.if1.true)
 
 loop-holds : tie.Need-loop-init invariant-loop decreases-loop
-loop-holds c = (omega arith, digits-some c.before.before.args.s.now c.if1.false)
+loop-holds c = (omega arith, digits_some c.before.before.args.s.now c.if1.false)
 
 shared-slice-read-b : tie.Need-shared-slice-read-b invariant-loop decreases-loop
 shared-slice-read-b c = search rules
@@ -50,7 +50,7 @@ returns-2 : tie.Need-returns-2 invariant-loop decreases-loop
 returns-2 c =
     let t = c.before.before.before in
     let no = no_digit (byte t) (known c.before) (λ z. c.if2.true (c.before.class_of.ensures ∙ z)) in
-    sym (every-stops (column t.before) (place t) t.loop-test.true no) ∙ t.before.loop.invariant.1
+    sym (every_stops (column t.before) (place t) t.loop-test.true no) ∙ t.before.loop.invariant.1
 
 add-i : tie.Need-overflow-add-i invariant-loop decreases-loop
 add-i c = search rules
@@ -62,12 +62,12 @@ loop-again : tie.Need-loop-preserved invariant-loop decreases-loop
 loop-again c =
     let t = c.before.before.before in
     let yes = is_digit (byte t) (known c.before) (sym c.before.class_of.ensures ∙ c.if2.false) in
-    (omega arith, sym (every-goes-on (column t.before) (place t) t.loop-test.true yes) ∙ t.before.loop.invariant.1)
+    (omega arith, sym (every_goes_on (column t.before) (place t) t.loop-test.true yes) ∙ t.before.loop.invariant.1)
 
 returns-3 : tie.Need-returns-3 invariant-loop decreases-loop
 returns-3 c =
     let l = c.before in
-    sym (every-ends (column l) l.loop.i c.loop-test.false) ∙ l.loop.invariant.1
+    sym (every_ends (column l) l.loop.i c.loop-test.false) ∙ l.loop.invariant.1
 
 pub all-digits-spec : {M : Type 1} → statement M
 all-digits-spec =

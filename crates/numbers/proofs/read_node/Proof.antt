@@ -6,20 +6,20 @@ use mathlib.Core.Path.{◌≡◌, sym, ap, ◌∙◌}
 use mathlib.Core.Bool.{Bool}
 use mathlib.Core.List.{List}
 use Rattle.rules.specs.Lists.{pick}
-use Rattle.rules.specs.Numbers.{phraseNumber}
+use Rattle.rules.specs.Numbers.{phrase_number}
 use Rattle.numbers.specs.Answers.{as_number}
-use Rattle.numbers.specs.Ranges.{phraseOrRoot}
+use Rattle.numbers.specs.Ranges.{phrase_or_root}
 use Rattle.numbers.specs.declared.Number.TheVariants.{Good, Bad}
 use Rattle.numbers.specs.declared.NodeRange.{NodeRange}
 use Rattle.numbers.specs.declared.NodeRange.TheVariants.{Root, Word, Phrase, Above}
-use Rattle.numbers.proofs.Ranges.{answer_in, node-good, node-bad}
+use Rattle.numbers.proofs.Ranges.{answer_in, node_good, node_bad}
 use Rattle.numbers.proofs.read_node.Statement.{statement}
 use Rattle.numbers.proofs.read_node.Tie as tie
 
 abbrev most : ℕ
 most = 4294967295
 
-reach : phraseNumber.highest ≤ most
+reach : phrase_number.highest ≤ most
 reach = omega arith
 
 abbrev read : tie.After-node-range → tie.After-read-within
@@ -36,10 +36,10 @@ or-root r = r.before.before.args.or-root
 
 -- the answer in each range
 ranged : (d : tie.After-node-range) (r : NodeRange) → d.node-range.result ≡ r
-    → answer_in (or-root (read d)) r (number d) ≡ as_number (phraseOrRoot (or-root (read d)) (column (read d)))
+    → answer_in (or-root (read d)) r (number d) ≡ as_number (phrase_or_root (or-root (read d)) (column (read d)))
 ranged d r e =
     sym
-    (node-good most reach (or-root (read d)) (column (read d)) (number d) r
+    (node_good most reach (or-root (read d)) (column (read d)) (number d) r
     (sym (read d).read-within.ensures ∙ d.before.before.read.given.1)
     (sym d.node-range.ensures ∙ e))
 
@@ -55,7 +55,7 @@ enum_told c = search rules
 returns : tie.Need-returns
 returns c =
     let r = c.before.before in
-    sym (node-bad most reach (or-root r) (column r) (sym r.read-within.ensures ∙ c.enum_told.given.1))
+    sym (node_bad most reach (or-root r) (column r) (sym r.read-within.ensures ∙ c.enum_told.given.1))
 
 node-range-requires : tie.Need-node-range-requires
 node-range-requires c κs = search rules

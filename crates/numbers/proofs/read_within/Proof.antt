@@ -10,16 +10,16 @@ use mathlib.Core.List.{List}
 use lib.ListN.{length, get_or, drop}
 use Rattle.rules.specs.Bytes.{digit}
 use Rattle.rules.specs.Numbers.{Kind, number}
-use Rattle.rules.proofs.Decimal.{digit-range}
+use Rattle.rules.proofs.Decimal.{digit_range}
 use Rattle.numbers.specs.Answers.{as_number, kind}
 use Rattle.numbers.proofs.Digits.{is_digit, no_digit}
-use Rattle.numbers.proofs.Walk.{numberFrom, number-not-plain, number-starts, number-over, number-stops, number-goes-on, number-low, number-good}
+use Rattle.numbers.proofs.Walk.{number_from, number_not_plain, number_starts, number_over, number_stops, number_goes_on, number_low, number_good}
 use Rattle.numbers.proofs.read_within.Statement.{statement}
 use Rattle.numbers.proofs.read_within.Tie as tie
 
 abbrev invariant-loop : tie.invariant-loop
 invariant-loop s classes lowest highest most value₀ i₀ value i =
-    (i ≤ length s) × (value ≤ highest) × (numberFrom (kind lowest highest) value (drop i s) ≡ as_number (number (kind lowest highest) s))
+    (i ≤ length s) × (value ≤ highest) × (number_from (kind lowest highest) value (drop i s) ≡ as_number (number (kind lowest highest) s))
 
 abbrev decreases-loop : tie.decreases-loop
 decreases-loop s classes lowest highest most value₀ i₀ value i = length s - i
@@ -56,18 +56,18 @@ read-digit : (c : tie.Else2 invariant-loop decreases-loop) → digit (byte (turn
 read-digit c = is_digit (byte (turn c)) (known c.before) (sym c.before.class_of.ensures ∙ c.if2.false)
 
 range : (c : tie.Else2 invariant-loop decreases-loop) → (48 ≤ byte (turn c)) × (byte (turn c) ≤ 57)
-range c = digit-range (byte (turn c)) (read-digit c)
+range c = digit_range (byte (turn c)) (read-digit c)
 
 abbrev next-value : Turn → ℕ
 next-value t = so_far t * 10 + (byte t - 48)
 
 goes_on :
     (c : tie.Else2 invariant-loop decreases-loop) →
-    numberFrom (limits (turn c).before) (next-value (turn c)) (drop (place (turn c) + 1) (column (turn c)))
+    number_from (limits (turn c).before) (next-value (turn c)) (drop (place (turn c) + 1) (column (turn c)))
     ≡ as_number (number (limits (turn c).before) (column (turn c)))
 goes_on c =
     let t = turn c in
-    sym (number-goes-on (limits t.before) (so_far t) (column t) (place t) t.loop-test.taken (read-digit c)) ∙ t.before.loop.inv.2
+    sym (number_goes_on (limits t.before) (so_far t) (column t) (place t) t.loop-test.taken (read-digit c)) ∙ t.before.loop.inv.2
 
 is-plain-requires : tie.Need-is-plain-requires invariant-loop decreases-loop
 is-plain-requires c κs = search rules
@@ -75,12 +75,12 @@ is-plain-requires c κs = search rules
 returns : tie.Need-returns invariant-loop decreases-loop
 returns c =
     let a = c.before.before.before.args in
-    sym (number-not-plain (kind a.lowest a.highest) a.s.now (sym c.before.is_plain.ensures ∙ not-true c.before.is_plain.result c.if1.true))
+    sym (number_not_plain (kind a.lowest a.highest) a.s.now (sym c.before.is_plain.ensures ∙ not-true c.before.is_plain.result c.if1.true))
 
 loop-holds : tie.Need-loop-init invariant-loop decreases-loop
 loop-holds c =
     let a = c.before.before.before.args in
-    (omega arith, omega arith, number-starts (kind a.lowest a.highest) a.s.now (sym c.before.is_plain.ensures ∙ not-false c.before.is_plain.result c.if1.false))
+    (omega arith, omega arith, number_starts (kind a.lowest a.highest) a.s.now (sym c.before.is_plain.ensures ∙ not-false c.before.is_plain.result c.if1.false))
 
 shared-slice-read-b : tie.Need-shared-slice-read-b invariant-loop decreases-loop
 shared-slice-read-b c = search rules
@@ -92,7 +92,7 @@ returns-2 : tie.Need-returns-2 invariant-loop decreases-loop
 returns-2 c =
     let t = c.before.before.before in
     let no = no_digit (byte t) (known c.before) (λ z. c.if2.true (c.before.class_of.ensures ∙ z)) in
-    sym (number-stops (limits t.before) (so_far t) (column t) (place t) t.loop-test.true no) ∙ t.before.loop.invariant.2
+    sym (number_stops (limits t.before) (so_far t) (column t) (place t) t.loop-test.true no) ∙ t.before.loop.invariant.2
 
 mul-value : tie.Need-overflow-mul-value invariant-loop decreases-loop
 mul-value c = omega arith
@@ -109,7 +109,7 @@ add-value c = omega (arith, range c)
 returns-3 : tie.Need-returns-3 invariant-loop decreases-loop
 returns-3 c =
     let t = turn c.before in
-    sym (number-over (limits t.before) (next-value t) (drop (place t + 1) (column t)) c.if3.true) ∙ goes_on c.before
+    sym (number_over (limits t.before) (next-value t) (drop (place t + 1) (column t)) c.if3.true) ∙ goes_on c.before
 
 add-i : tie.Need-overflow-add-i invariant-loop decreases-loop
 add-i c = search rules
@@ -126,12 +126,12 @@ cast-n c = search rules
 returns-4 : tie.Need-returns-4 invariant-loop decreases-loop
 returns-4 c =
     let l = c.before.before in
-    sym (number-low (limits l) l.loop.value (entry l).args.s.now l.loop.i c.before.loop-test.false c.if4.true) ∙ l.loop.invariant.2
+    sym (number_low (limits l) l.loop.value (entry l).args.s.now l.loop.i c.before.loop-test.false c.if4.true) ∙ l.loop.invariant.2
 
 returns-5 : tie.Need-returns-5 invariant-loop decreases-loop
 returns-5 c =
     let l = c.before.before in
-    sym (number-good (limits l) l.loop.value (entry l).args.s.now l.loop.i c.before.loop-test.false c.if4.false l.loop.invariant.1)
+    sym (number_good (limits l) l.loop.value (entry l).args.s.now l.loop.i c.before.loop-test.false c.if4.false l.loop.invariant.1)
     ∙ l.loop.invariant.2
 
 pub read-within-spec : {M : Type 1} → statement M

@@ -1,6 +1,6 @@
 -- `opened_demands::opened_twice` meets its contract: both outcomes are what the opening's contract says, which is one.
 use mathlib.Core.Path.{ap}
-use Rattle.opened_demands.proofs.Outcomes.{asLeft, opened-only, opened-fresh}
+use Rattle.opened_demands.proofs.Outcomes.{as_left, opened_only, opened_fresh}
 use Rattle.opened_demands.proofs.opened_twice.Statement.{statement}
 use Rattle.opened_demands.proofs.opened_twice.Tie as tie
 
@@ -12,9 +12,9 @@ first c = (second c).before.before.before.before.before.before.before.before.bef
 
 returns : tie.Need-returns
 returns c =
-    let p = ap asLeft (first c).open-flat.ensures.0 in
-    let q = ap asLeft (second c).open-flat2.ensures.0 in
-    (λ t s h e. opened-only _ _ _ _ _ _ _ _ _ _ _ _ p q t s h e, λ fits k l. opened-fresh _ _ _ _ _ _ _ _ _ _ _ _ p q fits k l)
+    let p = ap as_left (first c).open-flat.ensures.0 in
+    let q = ap as_left (second c).open-flat2.ensures.0 in
+    (λ t s h e. opened_only _ _ _ _ _ _ _ _ _ _ _ _ p q t s h e, λ fits k l. opened_fresh _ _ _ _ _ _ _ _ _ _ _ _ p q fits k l)
 
 pub opened-twice-spec : {M : Type 1} → statement M
 opened-twice-spec =

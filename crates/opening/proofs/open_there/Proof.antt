@@ -2,13 +2,13 @@
 use borrow.Author.Rules.{rules}
 use mathlib.Core.Option.{Option}
 use Rattle.rules.specs.Sentences.{Sentence}
-use Rattle.rules.specs.SentenceFrom.{sentenceFrom}
+use Rattle.rules.specs.SentenceFrom.{sentence_from}
 use Rattle.opening.proofs.Opens.{there, not_there}
 use Rattle.opening.proofs.open_there.Statement.{statement}
 use Rattle.opening.proofs.open_there.Tie as tie
 
 abbrev sought : tie.After-read-sentence-arg2 → Option Sentence
-sought e = let x = e.before.before.before.before.before.args in sentenceFrom x.file.now x.place
+sought e = let x = e.before.before.before.before.before.args in sentence_from x.file.now x.place
 
 returns : tie.Need-returns
 returns c =

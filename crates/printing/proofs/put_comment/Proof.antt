@@ -2,15 +2,15 @@
 -- No loop.
 use borrow.Author.Rules.{rules}
 use native.Mathlib.Omega.{arith}
-use Rattle.printing.proofs.PutLaws.{put_then, put_as, put-wider, put-none}
-use Rattle.printing.proofs.LineLaws.{no-comment, some-comment}
+use Rattle.printing.proofs.PutLaws.{put_then, put_as, put_wider, put_none}
+use Rattle.printing.proofs.LineLaws.{no_comment, some_comment}
 use Rattle.printing.proofs.put_comment.Statement.{statement}
 use Rattle.printing.proofs.put_comment.Tie as tie
 
 returns : tie.Need-returns
 returns c =
     let a = c.before.before.before.args in
-    put-wider (omega arith) (put_as (no-comment a.by a.text.now (omega arith)) (put-none a.at a.out.now))
+    put_wider (omega arith) (put_as (no_comment a.by a.text.now (omega arith)) (put_none a.at a.out.now))
 
 slice-aggregate-put-column : tie.Need-slice-aggregate-put-column
 slice-aggregate-put-column c = search rules
@@ -27,8 +27,8 @@ same_length c = search rules
 returns-2 : tie.Need-returns-2
 returns-2 c =
     let a = c.before.before.before.before.before.before.before.before.before.before.before.before.args in
-    put-wider (omega arith)
-    (put_as (some-comment a.by a.text.now (λ z. omega (arith, z)))
+    put_wider (omega arith)
+    (put_as (some_comment a.by a.text.now (λ z. omega (arith, z)))
     (put_then c.before.before.before.before.before.before.put-column.ensures c.before.before.put-column2.ensures))
 
 pub put-comment-spec : {M : Type 1} → statement M

@@ -2,7 +2,7 @@
 -- No loop.
 use borrow.Author.Rules.{rules}
 use Rattle.printing.proofs.PutLaws.{put_then, put_as}
-use Rattle.printing.proofs.LineLaws.{keyword-line}
+use Rattle.printing.proofs.LineLaws.{keyword_line_lem}
 use Rattle.printing.proofs.put_keyword.Statement.{statement}
 use Rattle.printing.proofs.put_keyword.Tie as tie
 
@@ -20,7 +20,7 @@ same_length c = search rules
 
 returns : tie.Need-returns
 returns c =
-    put_as (keyword-line c.before.before.before.before.before.before.before.before.before.before.before.before.before.before.before.args.keyword.now c.before.before.before.before.before.before.before.before.before.before.before.before.before.before.before.args.name.now) (put_then (put_then c.before.before.before.before.before.before.before.before.before.before.put-text.ensures c.before.before.before.before.before.before.put-column.ensures) c.before.before.put_byte.ensures)
+    put_as (keyword_line_lem c.before.before.before.before.before.before.before.before.before.before.before.before.before.before.before.args.keyword.now c.before.before.before.before.before.before.before.before.before.before.before.before.before.before.before.args.name.now) (put_then (put_then c.before.before.before.before.before.before.before.before.before.before.put-text.ensures c.before.before.before.before.before.before.put-column.ensures) c.before.before.put_byte.ensures)
 
 pub put-keyword-spec : {M : Type 1} → statement M
 put-keyword-spec =

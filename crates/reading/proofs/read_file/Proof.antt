@@ -6,11 +6,11 @@ use mathlib.Core.List.{List, []}
 use lib.ListN.{length, replicate, length-replicate}
 use Rattle.rules.specs.Reading.{begin, read}
 use Rattle.rules.specs.Index.{beginnings}
-use Rattle.seen.proofs.SeenSets.{seen-set-none}
-use Rattle.table_sheet.proofs.OpenSheets.{sheet-empty}
+use Rattle.seen.proofs.SeenSets.{seen_set_none}
+use Rattle.table_sheet.proofs.OpenSheets.{sheet_empty}
 use Rattle.reading.specs.declared.Reached.{Reached}
 use Rattle.reading.specs.declared.Read.{Read}
-use Rattle.reading.proofs.Begins.{begins-none}
+use Rattle.reading.proofs.Begins.{begins_none}
 use Rattle.reading.proofs.read_file.Statement.{statement}
 use Rattle.reading.proofs.read_file.Tie as tie
 
@@ -34,15 +34,15 @@ take-lines-requires c κs =
     let e = f.clear3.ensures in (
       b.byte-classes.ensures,
       x.pre.0,
-      a.clear.ensures ∙ ap (λ (n : ℕ). replicate n 0) x.pre.1 ∙ sym sheet-empty,
-      d.clear2.ensures ∙ ap (λ (n : ℕ). replicate n 0) x.pre.2 ∙ sym seen-set-none,
-      e ∙ sym (begins-none x.args.from (length x.args.begins.now)) ∙ ap (λ (n : ℕ). beginnings x.args.from n []) (sym (as_long e)),
+      a.clear.ensures ∙ ap (λ (n : ℕ). replicate n 0) x.pre.1 ∙ sym sheet_empty,
+      d.clear2.ensures ∙ ap (λ (n : ℕ). replicate n 0) x.pre.2 ∙ sym seen_set_none,
+      e ∙ sym (begins_none x.args.from (length x.args.begins.now)) ∙ ap (λ (n : ℕ). beginnings x.args.from n []) (sym (as_long e)),
     )
 
 give-up-requires : tie.Need-give-up-requires
 give-up-requires c κs =
     let w = c.before.before.before.before.before.before.before.before.before.take-lines.ensures in
-    (w.place, w.sheet-size)
+    (w.place, w.sheet_size)
 
 returns : tie.Need-returns
 returns c =
@@ -51,10 +51,10 @@ returns c =
     let f = t.before.before.before.before.before.before.before.before in
     let w = t.take-lines.ensures in
     record {
-      answer = ap answer_of w.reached-is;
-      tables-are = g.give-up.ensures ∙ w.given-up;
-      seen-is = w.seen-is;
-      begins-are = w.begins-is ∙ ap (λ (n : ℕ). beginnings (start f).args.from n (read begin (start f).args.file.now).handed) (as_long f.clear3.ensures);
+      answer = ap answer_of w.reached_is;
+      tables-are = g.give-up.ensures ∙ w.given_up_lem;
+      seen-is = w.seen_is;
+      begins-are = w.begins_is ∙ ap (λ (n : ℕ). beginnings (start f).args.from n (read begin (start f).args.file.now).handed) (as_long f.clear3.ensures);
     }
 
 pub read-file-spec : {M : Type 1} → statement M

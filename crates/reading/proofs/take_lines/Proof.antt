@@ -6,17 +6,17 @@ use Prim.Native.Nat.{ℕ, ◌+◌, ◌-◌, ◌≤◌}
 use mathlib.Core.Path.{◌≡◌, refl, sym, ap, ◌∙◌}
 use mathlib.Core.List.{List, []}
 use lib.ListN.{length, length-replicate}
-use Rattle.rules.specs.Numbers.{fileLimit}
-use Rattle.rules.specs.Tables.{noTables}
-use Rattle.seen.proofs.SeenSets.{length-seen-set}
-use Rattle.table_sheet.proofs.OpenSheets.{none-have-room, length-table-sheet}
-use Rattle.lines.proofs.FoundLines.{told-end, told-start, told-listed}
+use Rattle.rules.specs.Numbers.{file_limit}
+use Rattle.rules.specs.Tables.{no_tables}
+use Rattle.seen.proofs.SeenSets.{length_seen_set}
+use Rattle.table_sheet.proofs.OpenSheets.{none_have_room, length_table_sheet}
+use Rattle.lines.proofs.FoundLines.{told_end, told_start, told_listed}
 use Rattle.columns.specs.declared.listing.Line as listing
 use Rattle.judging.specs.Judging.{RowsOutlined}
 use Rattle.reading.specs.Effects.{Kept, kept}
-use Rattle.reading.proofs.Going.{Going, going_start, sheet-size, seen_size, begins-size, begun-limit, stop-unread, stop-end}
-use Rattle.reading.proofs.Turning.{LineHere, onward, inside, ready, goes-on-noted, applies, stops, plainly}
-use Rattle.reading.proofs.RowOutlines.{tag-applies, no_row, stay-outlined, plainly-outlined}
+use Rattle.reading.proofs.Going.{Going, going_start, sheet_size, seen_size, begins_size, begun_limit, stop_unread, stop_end}
+use Rattle.reading.proofs.Turning.{LineHere, onward, inside, ready, goes_on_noted, applies, stops, plainly}
+use Rattle.reading.proofs.RowOutlines.{tag_applies, no_row, stay_outlined, plainly_outlined}
 use Rattle.reading.proofs.take_lines.Statement.{statement}
 use Rattle.reading.proofs.take_lines.Tie as tie
 
@@ -55,17 +55,17 @@ going l = l.loop.inv.0
 abbrev outlined : (l : Standing) → RowsOutlined l.loop.outlines (file l) (held l).sheet (held l).state.phase
 outlined l = l.loop.inv.1
 
-abbrev short : (l : Standing) → length (file l) ≤ fileLimit
+abbrev short : (l : Standing) → length (file l) ≤ file_limit
 short l = (start l).pre.1
 
 same-sheet : (l : Standing) → length (held l).sheet ≡ length (start l).args.sheet.now
-same-sheet l = sheet-size _ _ _ _ _ (going l) ∙ sym (ap length (start l).pre.2 ∙ length-table-sheet noTables none-have-room)
+same-sheet l = sheet_size _ _ _ _ _ (going l) ∙ sym (ap length (start l).pre.2 ∙ length_table_sheet no_tables none_have_room)
 
 same_seen : (l : Standing) → length (held l).seen ≡ length (start l).args.seen.now
-same_seen l = seen_size _ _ _ _ _ (going l) ∙ sym (ap length (start l).pre.3 ∙ length-seen-set [])
+same_seen l = seen_size _ _ _ _ _ (going l) ∙ sym (ap length (start l).pre.3 ∙ length_seen_set [])
 
 same-begins : (l : Standing) → length (held l).begins ≡ size l
-same-begins l = begins-size _ _ _ _ _ (going l)
+same-begins l = begins_size _ _ _ _ _ (going l)
 
 -- a whole line from here
 abbrev Line : Type 0
@@ -91,9 +91,9 @@ line-here k =
     record {
       going = going l;
       short = short l;
-      starts = told-start (file l) (at l) _ _ told (line k) is;
-      ends = told-end (file l) (at l) _ _ told (line k) is;
-      listed = told-listed (file l) (at l) _ _ told (line k) is;
+      starts = told_start (file l) (at l) _ _ told (line k) is;
+      ends = told_end (file l) (at l) _ _ told (line k) is;
+      listed = told_listed (file l) (at l) _ _ told (line k) is;
     }
 
 -- the quick way is asked
@@ -118,7 +118,7 @@ loop-holds c =
     )
 
 next-line-requires : tie.Need-next-line-requires invariant-loop decreases-loop
-next-line-requires c κs = let l = c.before.before.before in ((going l).in-file, (start l).requires.0, short l)
+next-line-requires c κs = let l = c.before.before.before in ((going l).in_file, (start l).requires.0, short l)
 
 cast-stop-at : tie.Need-overflow-cast-stop-at invariant-loop decreases-loop
 cast-stop-at c =
@@ -132,7 +132,7 @@ returns c =
     let e = c.before.before.before in
     let l = e.before.before.before.before in
     rw (c.stop-at.ensures, c.before.line-refusal.ensures)
-    (stop-unread (file l) (low l) (size l) (at l) (held l) (going l) e.before.before.before.loop-test.true e.next-line.result (sym e.next-line.ensures.0) c.before.before.match.keys2)
+    (stop_unread (file l) (low l) (size l) (at l) (held l) (going l) e.before.before.before.loop-test.true e.next-line.result (sym e.next-line.ensures.0) c.before.before.match.keys2)
 
 plain-line-requires : tie.Need-plain-line-requires invariant-loop decreases-loop
 plain-line-requires c κs = let h = line-here c.before.before.before.before.before in (h.listed, (_, ready h))
@@ -162,7 +162,7 @@ loop-again c =
     let l = here (asked q) in
     let goes = plainly (line-here (asked q)) q.plain-line.result (q.plain-line.ensures _) c.before.before.before.match2.keys2 in
     let e = c.before.take-plain.ensures (low l) (at l) (end (asked q) + 1) (held l).sheet (held l).seen (held l).begins in
-    (goes.1 _ e, plainly-outlined l.loop.outlines (file l) (low l) (at l) (end (asked q) + 1) 0 (held l) (outlined l) q.plain-line.result goes.0 _ e)
+    (goes.1 _ e, plainly_outlined l.loop.outlines (file l) (low l) (at l) (end (asked q) + 1) 0 (held l) (outlined l) q.plain-line.result goes.0 _ e)
 
 -- another is judged
 judge-requires : tie.Need-judge-requires invariant-loop decreases-loop
@@ -194,13 +194,13 @@ judged a = (ended a).before.before.before
 note-end-requires : tie.Need-note-end-requires invariant-loop decreases-loop
 note-end-requires c κs =
     let l = here (whole c.before.before) in
-    begun-limit (file l) (low l) (size l) (at l) (held l) (going l) (short l)
+    begun_limit (file l) (low l) (size l) (at l) (held l) (going l) (short l)
 
 note-tag-requires : tie.Need-note-tag-requires invariant-loop decreases-loop
 note-tag-requires c κs =
     let m = c.before.before.before.before.before in
     let j = m.before in
-    tag-applies _ j.judge.result _ (applies (line-here (whole j)) _ j.judge.ensures m.match3.keys2).2
+    tag_applies _ j.judge.result _ (applies (line-here (whole j)) _ j.judge.ensures m.match3.keys2).2
 
 apply-requires : tie.Need-apply-requires invariant-loop decreases-loop
 apply-requires c κs =
@@ -231,19 +231,19 @@ loop-again-2 c =
     let l = here k in
     let h = line-here k in
     let o = m.match3.keys2 in (
-      goes-on-noted h _ j.judge.ensures o _ _ _ _ _ n.note-end.ensures (a.apply.ensures.0 _ _),
+      goes_on_noted h _ j.judge.ensures o _ _ _ _ _ n.note-end.ensures (a.apply.ensures.0 _ _),
       rw (tagged a).note-tag.ensures
-          (stay-outlined l.loop.outlines (file l) (low l) (line k).start (end k + 1) (length (file l)) (kept (held l).state (held l).sheet (held l).seen (held l).marks [])
+          (stay_outlined l.loop.outlines (file l) (low l) (line k).start (end k + 1) (length (file l)) (kept (held l).state (held l).sheet (held l).seen (held l).marks [])
           (outlined l) j.judge.result (applies h _ j.judge.ensures o).2 _ (a.apply.ensures.0 (low l) [])),
     )
 
 closing-requires : tie.Need-closing-requires invariant-loop decreases-loop
-closing-requires c κs = sheet-size _ _ _ _ _ (going c.before.before)
+closing-requires c κs = sheet_size _ _ _ _ _ (going c.before.before)
 
 cast-stop-at-2 : tie.Need-overflow-cast-stop-at-2 invariant-loop decreases-loop
 cast-stop-at-2 c =
     let l = c.before.before.before in
-    let h = (going l).in-file in
+    let h = (going l).in_file in
     let w = short l in
     search rules
 
@@ -251,7 +251,7 @@ returns-3 : tie.Need-returns-3 invariant-loop decreases-loop
 returns-3 c =
     let l = c.before.before.before.before in
     rw (c.stop-at3.ensures, c.before.closing.ensures)
-    (stop-end (file l) (low l) (size l) (at l) (held l) (going l) c.before.before.before.loop-test.false)
+    (stop_end (file l) (low l) (size l) (at l) (held l) (going l) c.before.before.before.loop-test.false)
 
 pub take-lines-spec : {M : Type 1} → statement M
 take-lines-spec =

@@ -35,7 +35,7 @@ use denote.Triple.Spec.{Meets, triple_of}
 use denote.Triple.Table.{entered, cited}
 use denote.Triple.Walked.{says, Stays, gave_slice, stay_none, walk_of, AllGo, Goes-gave_slice, Goes-none, Walks, ends_at, walked, walk_Meets}
 use denote.Exit.{yes}
-use Rattle.rules.specs.Opening.{afterOpening}
+use Rattle.rules.specs.Opening.{after_opening}
 use Rattle.edges.specs.declared.Edge.{Edge}
 use Rattle.edges.specs.Promise as lent
 use Rattle.edges.specs.contracts.Edge as T
@@ -44,7 +44,7 @@ use Rattle.edges.proofs.open_sentence.Symbol as g-def
 use Rattle.edges.proofs.open_sentence.Symbol.{name as #edges·open-sentence}
 use Rattle.edges.proofs.open_sentence.Met as g-thm
 use Rattle.record_demands.specs.RecordRules.{RecordsOpened}
-use Rattle.record_demands.proofs.AsTold.{opened-as-told}
+use Rattle.record_demands.proofs.AsTold.{opened_as_told}
 use Rattle.record_demands.specs.contracts.opened_records.Key.{name as #record_demands·itself}
 use Rattle.record_demands.specs.contracts.opened_records as f
 use Rattle.record_demands.proofs.opened_records.Statement as stated
@@ -187,11 +187,11 @@ module _ {M : Type 1} {𝓤 : Ura M} (𝓛 : Logic 𝓤) (mem : Memory → SProp
         pick ! (λ r.
         split ! $
         move ! (1 ∷ []) $
-        use1 𝓛 (some (λ (ws : Unit {0} × (Unit {0} × (List ℕ × (List ℕ × (List ℕ × (List Edge × Unit {0})))))). ‵ (lasts g.ended (κ₀, (κ₁, (κ₂, (κ₃, (κ₄, tt))))) a ws) ⊛ raw (fact 𝓤 (lent.outcome r ws.1.1.0 ws.1.1.1.0 ws.1.1.1.1.0 ws.1.1.1.1.1.0 ≡ afterOpening fileᵣ.now number tablesᵣ.now seenᵣ.now sheetᵣ.now (lent.asRecords edgesᵣ.now))))) (id⊢ 𝓤 _) $
+        use1 𝓛 (some (λ (ws : Unit {0} × (Unit {0} × (List ℕ × (List ℕ × (List ℕ × (List Edge × Unit {0})))))). ‵ (lasts g.ended (κ₀, (κ₁, (κ₂, (κ₃, (κ₄, tt))))) a ws) ⊛ raw (fact 𝓤 (lent.outcome r ws.1.1.0 ws.1.1.1.0 ws.1.1.1.1.0 ws.1.1.1.1.1.0 ≡ after_opening fileᵣ.now number tablesᵣ.now seenᵣ.now sheetᵣ.now (lent.as_records edgesᵣ.now))))) (id⊢ 𝓤 _) $
         pick ! (λ ws.
         split ! $
         move ! (1 ∷ []) $
-        heard ! (lent.outcome r ws.1.1.0 ws.1.1.1.0 ws.1.1.1.1.0 ws.1.1.1.1.1.0 ≡ afterOpening fileᵣ.now number tablesᵣ.now seenᵣ.now sheetᵣ.now (lent.asRecords edgesᵣ.now)) (λ e.
+        heard ! (lent.outcome r ws.1.1.0 ws.1.1.1.0 ws.1.1.1.1.0 ws.1.1.1.1.1.0 ≡ after_opening fileᵣ.now number tablesᵣ.now seenᵣ.now sheetᵣ.now (lent.as_records edgesᵣ.now)) (λ e.
         fsplit ! $
         drop ! $
         fsplit ! $
@@ -237,7 +237,7 @@ module _ {M : Type 1} {𝓤 : Ura M} (𝓛 : Logic 𝓤) (mem : Memory → SProp
         forget ! 11 refl $ forget ! 13 refl $ forget ! 15 refl $ forget ! 17 refl $ forget ! 19 refl $ forget ! 21 refl $ forget ! 23 refl $ forget ! 25 refl $ forget ! 27 refl $ forget ! 29 refl $ forget ! 31 refl $ forget ! 33 refl $ forget ! 35 refl $ forget ! 37 refl $ forget ! 39 refl $
         move ! (39 ∷ 40 ∷ []) $ free1 ! $ move ! (37 ∷ 38 ∷ []) $ free1 ! $ move ! (35 ∷ 36 ∷ []) $ free1 ! $ move ! (33 ∷ 34 ∷ []) $ free1 ! $ move ! (31 ∷ 32 ∷ []) $ free1 ! $ move ! (29 ∷ 30 ∷ []) $ free1 ! $ move ! (27 ∷ 28 ∷ []) $ free1 ! $ move ! (25 ∷ 26 ∷ []) $ free1 ! $ move ! (23 ∷ 24 ∷ []) $ free1 ! $ move ! (21 ∷ 22 ∷ []) $ free1 ! $ move ! (19 ∷ 20 ∷ []) $ free1 ! $ move ! (17 ∷ 18 ∷ []) $ free1 ! $ move ! (15 ∷ 16 ∷ []) $ free1 ! $ move ! (13 ∷ 14 ∷ []) $ free1 ! $ move ! (11 ∷ 12 ∷ []) $ free1 ! $ free0 ! $
         keep ! (5 ∷ 4 ∷ 3 ∷ 2 ∷ 1 ∷ 10 ∷ 9 ∷ 8 ∷ 7 ∷ 6 ∷ 0 ∷ []) $
-        by ! (exits bound r u ws.1.1.0 ws.1.1.1.0 ws.1.1.1.1.0 ws.1.1.1.1.1.0 l-tables l-seen l-sheet l-edges (opened-as-told _ _ _ _ _ _ r ws.1.1.0 ws.1.1.1.0 ws.1.1.1.1.0 ws.1.1.1.1.1.0 e))))))))))))))))))))))))))
+        by ! (exits bound r u ws.1.1.0 ws.1.1.1.0 ws.1.1.1.1.0 ws.1.1.1.1.1.0 l-tables l-seen l-sheet l-edges (opened_as_told _ _ _ _ _ _ r ws.1.1.0 ws.1.1.1.0 ws.1.1.1.1.0 ws.1.1.1.1.1.0 e))))))))))))))))))))))))))
 
 module _ {M : Type 1} {𝓤 : Ura M} (𝓛 : Logic 𝓤) (mem : Memory → SProp 𝓤) (run : Routine → Fun 𝓤) (𝓣 : Tables 𝓤 𝓛.H)
     (known : Triple 𝓤 (𝓣.C #edges·open-sentence) (Called 𝓛 mem run)) where

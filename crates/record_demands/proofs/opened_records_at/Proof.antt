@@ -35,7 +35,7 @@ use denote.Triple.Spec.{Meets, triple_of}
 use denote.Triple.Table.{entered, cited}
 use denote.Triple.Walked.{says, Stays, gave_slice, stay_none, walk_of, AllGo, Goes-gave_slice, Goes-none, Walks, ends_at, walked, walk_Meets}
 use denote.Exit.{yes}
-use Rattle.rules.specs.Opening.{afterOpeningAt}
+use Rattle.rules.specs.Opening.{after_opening_at}
 use Rattle.edges.specs.declared.Edge.{Edge}
 use Rattle.edges.specs.Promise as lent
 use Rattle.edges.specs.contracts.Edge as T
@@ -44,7 +44,7 @@ use Rattle.edges.proofs.open_at.Symbol as g-def
 use Rattle.edges.proofs.open_at.Symbol.{name as #edges·open-at}
 use Rattle.edges.proofs.open_at.Met as g-thm
 use Rattle.record_demands.specs.RecordRules.{RecordsOpenedAt}
-use Rattle.record_demands.proofs.AsTold.{opened-at-as-told}
+use Rattle.record_demands.proofs.AsTold.{opened_at_as_told}
 use Rattle.record_demands.specs.contracts.opened_records_at.Key.{name as #record_demands·itself}
 use Rattle.record_demands.specs.contracts.opened_records_at as f
 use Rattle.record_demands.proofs.opened_records_at.Statement as stated
@@ -161,11 +161,11 @@ module _ {M : Type 1} {𝓤 : Ura M} (𝓛 : Logic 𝓤) (mem : Memory → SProp
         pick ! (λ r.
         split ! $
         move ! (1 ∷ []) $
-        use1 𝓛 (some (λ (ws : Unit {0} × (Unit {0} × (List ℕ × (List Edge × Unit {0})))). ‵ (lasts g.ended (κ₀, (κ₁, (κ₂, tt))) a ws) ⊛ raw (fact 𝓤 (lent.outcomeAt r ws.1.1.0 ws.1.1.1.0 ≡ afterOpeningAt fileᵣ.now place sheetᵣ.now (lent.asRecords edgesᵣ.now))))) (id⊢ 𝓤 _) $
+        use1 𝓛 (some (λ (ws : Unit {0} × (Unit {0} × (List ℕ × (List Edge × Unit {0})))). ‵ (lasts g.ended (κ₀, (κ₁, (κ₂, tt))) a ws) ⊛ raw (fact 𝓤 (lent.outcome_at r ws.1.1.0 ws.1.1.1.0 ≡ after_opening_at fileᵣ.now place sheetᵣ.now (lent.as_records edgesᵣ.now))))) (id⊢ 𝓤 _) $
         pick ! (λ ws.
         split ! $
         move ! (1 ∷ []) $
-        heard ! (lent.outcomeAt r ws.1.1.0 ws.1.1.1.0 ≡ afterOpeningAt fileᵣ.now place sheetᵣ.now (lent.asRecords edgesᵣ.now)) (λ e.
+        heard ! (lent.outcome_at r ws.1.1.0 ws.1.1.1.0 ≡ after_opening_at fileᵣ.now place sheetᵣ.now (lent.as_records edgesᵣ.now)) (λ e.
         fsplit ! $
         drop ! $
         fsplit ! $
@@ -197,7 +197,7 @@ module _ {M : Type 1} {𝓤 : Ura M} (𝓛 : Logic 𝓤) (mem : Memory → SProp
         forget ! 7 refl $ forget ! 9 refl $ forget ! 11 refl $ forget ! 13 refl $ forget ! 15 refl $ forget ! 17 refl $ forget ! 19 refl $ forget ! 21 refl $ forget ! 23 refl $
         move ! (23 ∷ 24 ∷ []) $ free1 ! $ move ! (21 ∷ 22 ∷ []) $ free1 ! $ move ! (19 ∷ 20 ∷ []) $ free1 ! $ move ! (17 ∷ 18 ∷ []) $ free1 ! $ move ! (15 ∷ 16 ∷ []) $ free1 ! $ move ! (13 ∷ 14 ∷ []) $ free1 ! $ move ! (11 ∷ 12 ∷ []) $ free1 ! $ move ! (9 ∷ 10 ∷ []) $ free1 ! $ move ! (7 ∷ 8 ∷ []) $ free1 ! $ free0 ! $
         keep ! (3 ∷ 2 ∷ 1 ∷ 6 ∷ 5 ∷ 4 ∷ 0 ∷ []) $
-        by ! (exits bound r u ws.1.1.0 ws.1.1.1.0 l-sheet l-edges (opened-at-as-told _ _ _ _ r ws.1.1.0 ws.1.1.1.0 e))))))))))))))))))
+        by ! (exits bound r u ws.1.1.0 ws.1.1.1.0 l-sheet l-edges (opened_at_as_told _ _ _ _ r ws.1.1.0 ws.1.1.1.0 e))))))))))))))))))
 
 module _ {M : Type 1} {𝓤 : Ura M} (𝓛 : Logic 𝓤) (mem : Memory → SProp 𝓤) (run : Routine → Fun 𝓤) (𝓣 : Tables 𝓤 𝓛.H)
     (known : Triple 𝓤 (𝓣.C #edges·open-at) (Called 𝓛 mem run)) where

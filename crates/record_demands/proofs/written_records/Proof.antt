@@ -38,7 +38,7 @@ use denote.Struct.Laws as LL
 use Rattle.writing.specs.declared.Written.{Written}
 use Rattle.writing.specs.contracts.Written as S
 use Rattle.writing.proofs.Written.TheLaws as S'
-use Rattle.rules.specs.Writing.{afterWriting}
+use Rattle.rules.specs.Writing.{after_writing}
 use Rattle.edges.specs.declared.Edge.{Edge}
 use Rattle.edges.specs.Promise as lent
 use Rattle.edges.specs.contracts.Edge as T
@@ -47,7 +47,7 @@ use Rattle.edges.proofs.write_text.Symbol as g-def
 use Rattle.edges.proofs.write_text.Symbol.{name as #edges·write-text}
 use Rattle.edges.proofs.write_text.Met as g-thm
 use Rattle.record_demands.specs.RecordRules.{RecordsWritten}
-use Rattle.record_demands.proofs.AsTold.{written-as-told}
+use Rattle.record_demands.proofs.AsTold.{written_as_told}
 use Rattle.record_demands.specs.contracts.written_records.Key.{name as #record_demands·itself}
 use Rattle.record_demands.specs.contracts.written_records as f
 use Rattle.record_demands.proofs.written_records.Statement as stated
@@ -194,11 +194,11 @@ module _ {M : Type 1} {𝓤 : Ura M} (𝓛 : Logic 𝓤) (mem : Memory → SProp
         pick ! (λ r.
         split ! $
         move ! (1 ∷ []) $
-        use1 𝓛 (some (λ (ws : Unit {0} × (List ℕ × (List ℕ × (List ℕ × (List ℕ × (List Edge × Unit {0})))))). ‵ (lasts g.ended (κ₀, (κ₁, (κ₂, (κ₃, (κ₄, (κ₅, tt)))))) a ws) ⊛ raw (fact 𝓤 (lent.writtenOutcome r ws.1.1.0 ws.1.1.1.0 ws.1.1.1.1.0 ws.1.1.1.1.1.0 ws.1.0 ≡ afterWriting fileᵣ.now tablesᵣ.now seenᵣ.now sheetᵣ.now (lent.asRecords edgesᵣ.now) outputᵣ.now)))) (id⊢ 𝓤 _) $
+        use1 𝓛 (some (λ (ws : Unit {0} × (List ℕ × (List ℕ × (List ℕ × (List ℕ × (List Edge × Unit {0})))))). ‵ (lasts g.ended (κ₀, (κ₁, (κ₂, (κ₃, (κ₄, (κ₅, tt)))))) a ws) ⊛ raw (fact 𝓤 (lent.written_outcome r ws.1.1.0 ws.1.1.1.0 ws.1.1.1.1.0 ws.1.1.1.1.1.0 ws.1.0 ≡ after_writing fileᵣ.now tablesᵣ.now seenᵣ.now sheetᵣ.now (lent.as_records edgesᵣ.now) outputᵣ.now)))) (id⊢ 𝓤 _) $
         pick ! (λ ws.
         split ! $
         move ! (1 ∷ []) $
-        heard ! (lent.writtenOutcome r ws.1.1.0 ws.1.1.1.0 ws.1.1.1.1.0 ws.1.1.1.1.1.0 ws.1.0 ≡ afterWriting fileᵣ.now tablesᵣ.now seenᵣ.now sheetᵣ.now (lent.asRecords edgesᵣ.now) outputᵣ.now) (λ e.
+        heard ! (lent.written_outcome r ws.1.1.0 ws.1.1.1.0 ws.1.1.1.1.0 ws.1.1.1.1.1.0 ws.1.0 ≡ after_writing fileᵣ.now tablesᵣ.now seenᵣ.now sheetᵣ.now (lent.as_records edgesᵣ.now) outputᵣ.now) (λ e.
         fsplit ! $
         drop ! $
         fsplit ! $
@@ -249,7 +249,7 @@ module _ {M : Type 1} {𝓤 : Ura M} (𝓛 : Logic 𝓤) (mem : Memory → SProp
         forget ! 13 refl $ forget ! 15 refl $ forget ! 17 refl $ forget ! 19 refl $ forget ! 21 refl $ forget ! 23 refl $ forget ! 25 refl $ forget ! 27 refl $ forget ! 29 refl $ forget ! 31 refl $ forget ! 33 refl $ forget ! 35 refl $ forget ! 37 refl $ forget ! 39 refl $ forget ! 41 refl $ forget ! 43 refl $ forget ! 45 refl $
         move ! (45 ∷ 46 ∷ []) $ free1 ! $ move ! (43 ∷ 44 ∷ []) $ free1 ! $ move ! (41 ∷ 42 ∷ []) $ free1 ! $ move ! (39 ∷ 40 ∷ []) $ free1 ! $ move ! (37 ∷ 38 ∷ []) $ free1 ! $ move ! (35 ∷ 36 ∷ []) $ free1 ! $ move ! (33 ∷ 34 ∷ []) $ free1 ! $ move ! (31 ∷ 32 ∷ []) $ free1 ! $ move ! (29 ∷ 30 ∷ []) $ free1 ! $ move ! (27 ∷ 28 ∷ []) $ free1 ! $ move ! (25 ∷ 26 ∷ []) $ free1 ! $ move ! (23 ∷ 24 ∷ []) $ free1 ! $ move ! (21 ∷ 22 ∷ []) $ free1 ! $ move ! (19 ∷ 20 ∷ []) $ free1 ! $ move ! (17 ∷ 18 ∷ []) $ free1 ! $ move ! (15 ∷ 16 ∷ []) $ free1 ! $ move ! (13 ∷ 14 ∷ []) $ free1 ! $ free0 ! $
         keep ! (6 ∷ 5 ∷ 4 ∷ 3 ∷ 2 ∷ 1 ∷ 12 ∷ 11 ∷ 10 ∷ 9 ∷ 8 ∷ 7 ∷ 0 ∷ []) $
-        by ! (exits r u ws.1.0 ws.1.1.0 ws.1.1.1.0 ws.1.1.1.1.0 ws.1.1.1.1.1.0 l-output l-tables l-seen l-sheet l-edges (written-as-told _ _ _ _ _ _ r ws.1.1.0 ws.1.1.1.0 ws.1.1.1.1.0 ws.1.1.1.1.1.0 ws.1.0 e)))))))))))))))))))))))))))))
+        by ! (exits r u ws.1.0 ws.1.1.0 ws.1.1.1.0 ws.1.1.1.1.0 ws.1.1.1.1.1.0 l-output l-tables l-seen l-sheet l-edges (written_as_told _ _ _ _ _ _ r ws.1.1.0 ws.1.1.1.0 ws.1.1.1.1.0 ws.1.1.1.1.1.0 ws.1.0 e)))))))))))))))))))))))))))))
 
 module _ {M : Type 1} {𝓤 : Ura M} (𝓛 : Logic 𝓤) (mem : Memory → SProp 𝓤) (run : Routine → Fun 𝓤) (𝓣 : Tables 𝓤 𝓛.H)
     (known : Triple 𝓤 (𝓣.C #edges·write-text) (Called 𝓛 mem run)) where

@@ -8,7 +8,7 @@ use mathlib.Core.Bool.{false}
 use mathlib.Core.List.{List}
 use lib.ListN.{get_or}
 use borrow.Author.Tests.{eqb-false}
-use Rattle.seen.specs.Bits.{bit, bit_at, withBit}
+use Rattle.seen.specs.Bits.{bit, bit_at, with_bit}
 use Rattle.seen.proofs.Weights.{room, weight}
 use Rattle.seen.proofs.add.Statement.{statement}
 use Rattle.seen.proofs.add.Tie as tie
@@ -50,7 +50,7 @@ same_length : tie.Need-same-length
 same_length c = search rules
 
 returns : tie.Need-returns
-unfolding withBit
+unfolding with_bit
 returns c = rw (weight (c.before.args.n % 8) (omega arith))
 
 pub add_spec : {M : Type 1} → statement M

@@ -1,6 +1,6 @@
 -- `sentence_sheet::put_node` meets its contract: the eleven numbers are stored at the place of the record's first field.
 use Rattle.columns.specs.Splices.{splice}
-use Rattle.sentence_sheet.specs.NodeRecords.{recordNumbers}
+use Rattle.sentence_sheet.specs.NodeRecords.{record_numbers}
 use borrow.Author.Rules.{rules}
 use Prim.Native.Nat.{ℕ}
 use mathlib.Core.Path.{ap, ◌∙◌}
@@ -24,7 +24,7 @@ returns c =
     let stored = c.before.before in
     let placed = stored.before.before in
     let a = placed.before.before.before.args in
-    stored.put.ensures ∙ ap (λ (p : ℕ). splice p (recordNumbers a.node) a.sheet.now) placed.field-place.ensures
+    stored.put.ensures ∙ ap (λ (p : ℕ). splice p (record_numbers a.node) a.sheet.now) placed.field-place.ensures
 
 pub put-node-spec : {M : Type 1} → statement M
 put-node-spec =

@@ -2,8 +2,8 @@
 -- first edges are noted before and forgotten behind. No loop.
 use borrow.Author.Rules.{rules}
 use native.Mathlib.Omega.{arith}
-use Rattle.printing.proofs.PutLaws.{put_then, put_as, put-wider}
-use Rattle.sentence_text.proofs.LineTexts.{sentence-text}
+use Rattle.printing.proofs.PutLaws.{put_then, put_as, put_wider}
+use Rattle.sentence_text.proofs.LineTexts.{sentence_text_lem}
 use Rattle.sentence_text.proofs.print_sentence.Statement.{statement}
 use Rattle.sentence_text.proofs.print_sentence.Tie as tie
 
@@ -33,7 +33,7 @@ note-firsts-requires : tie.Need-note-firsts-requires
 note-firsts-requires c κs =
     let s = start c.before in
     let p = s.pre.0 in
-    (p.room, p.few, s.pre.1, λ i h. (p.each-edge i h).child)
+    (p.room, p.few, s.pre.1, λ i h. (p.each_edge i h).child)
 
 put-nodes-requires-2 : tie.Need-put-nodes-requires-2
 put-nodes-requires-2 c κs =
@@ -48,7 +48,7 @@ forget-firsts-requires : tie.Need-forget-firsts-requires
 forget-firsts-requires c κs =
     let w = worded c.before.before.before in
     let p = (first w).pre.0 in
-    (p.room, p.few, (noted (headed w)).note-firsts.ensures, λ i h. (p.each-edge i h).child)
+    (p.room, p.few, (noted (headed w)).note-firsts.ensures, λ i h. (p.each_edge i h).child)
 
 shared-slice-read-put-end : tie.Need-shared-slice-read-put-end
 shared-slice-read-put-end c = omega (arith, (first (worded (phrased c.before.before.before))).requires.0.size)
@@ -72,8 +72,8 @@ returns c =
     let w = worded v in
     let s = first w in
     let p = s.pre.0 in (
-      put-wider (omega (arith, p.words, p.phrases))
-          (put_as (sentence-text s.args.file.now s.args.sheet.now s.args.list.now)
+      put_wider (omega (arith, p.words, p.phrases))
+          (put_as (sentence_text_lem s.args.file.now s.args.sheet.now s.args.list.now)
           (put_then (put_then (put_then (headed w).put-heading.ensures w.put-nodes.ensures) v.put-nodes2.ensures) z.put-end.ensures)),
       f.forget-firsts.ensures,
     )

@@ -3,8 +3,8 @@
 use borrow.Author.Rules.{rules}
 use Rattle.printing.proofs.PutLaws.{put_then, put_as}
 use Rattle.rules.specs.Lists.{bytes}
-use Rattle.rules.specs.Tidy.{digitsOf}
-use Rattle.printing.proofs.LineLaws.{keyword-line}
+use Rattle.rules.specs.Tidy.{digits_of}
+use Rattle.printing.proofs.LineLaws.{keyword_line_lem}
 use Rattle.sentence_text.proofs.put_end.Statement.{statement}
 use Rattle.sentence_text.proofs.put_end.Tie as tie
 
@@ -25,7 +25,7 @@ same_length c = search rules
 
 returns : tie.Need-returns
 returns c =
-    put_as (keyword-line (bytes "#EOS") (digitsOf c.before.before.before.before.before.before.before.before.before.before.before.before.before.before.args.number)) (put_then (put_then c.before.before.before.before.before.before.before.before.before.before.put-text.ensures c.before.before.before.before.before.before.put-number-column.ensures) c.before.before.put_byte.ensures)
+    put_as (keyword_line_lem (bytes "#EOS") (digits_of c.before.before.before.before.before.before.before.before.before.before.before.before.before.before.args.number)) (put_then (put_then c.before.before.before.before.before.before.before.before.before.before.put-text.ensures c.before.before.before.before.before.before.put-number-column.ensures) c.before.before.put_byte.ensures)
 
 pub put-end-spec : {M : Type 1} → statement M
 put-end-spec =

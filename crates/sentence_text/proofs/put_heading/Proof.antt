@@ -2,7 +2,7 @@
 -- No loop.
 use borrow.Author.Rules.{rules}
 use Rattle.printing.proofs.PutLaws.{put_then, put_as}
-use Rattle.sentence_text.proofs.LineTexts.{heading-text}
+use Rattle.sentence_text.proofs.LineTexts.{heading_text}
 use Rattle.sentence_text.proofs.put_heading.Statement.{statement}
 use Rattle.sentence_text.proofs.put_heading.Tie as tie
 
@@ -20,7 +20,7 @@ same_length c = search rules
 
 returns : tie.Need-returns
 returns c =
-    put_as (heading-text c.before.before.before.before.before.before.before.before.before.before.before.before.before.before.before.args.file.now c.before.before.before.before.before.before.before.before.before.before.before.before.before.before.before.args.sheet.now)
+    put_as (heading_text c.before.before.before.before.before.before.before.before.before.before.before.before.before.before.before.args.file.now c.before.before.before.before.before.before.before.before.before.before.before.before.before.before.before.args.sheet.now)
     (put_then (put_then c.before.before.before.before.before.before.before.before.before.before.put-numbers.ensures c.before.before.before.before.before.before.put-note.ensures) c.before.before.put_byte.ensures)
 
 pub put-heading-spec : {M : Type 1} → statement M

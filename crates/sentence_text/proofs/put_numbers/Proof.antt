@@ -2,7 +2,7 @@
 -- No loop.
 use borrow.Author.Rules.{rules}
 use Rattle.printing.proofs.PutLaws.{put_then, put_as}
-use Rattle.sentence_text.proofs.LineTexts.{numbers-text}
+use Rattle.sentence_text.proofs.LineTexts.{numbers_text_lem}
 use Rattle.sentence_text.proofs.put_numbers.Statement.{statement}
 use Rattle.sentence_text.proofs.put_numbers.Tie as tie
 
@@ -44,7 +44,7 @@ same_length c = search rules
 
 returns : tie.Need-returns
 returns c =
-    put_as (numbers-text c.before.before.before.before.before.before.before.before.before.before.before.before.before.before.before.before.before.before.before.before.before.before.before.before.before.before.before.before.before.before.before.args.sheet.now)
+    put_as (numbers_text_lem c.before.before.before.before.before.before.before.before.before.before.before.before.before.before.before.before.before.before.before.before.before.before.before.before.before.before.before.before.before.before.before.args.sheet.now)
     (put_then
     (put_then
     (put_then

@@ -1,7 +1,7 @@
 -- `sentences::read_sentence` meets its contract: sheet and list are cleared, then read into.
 use borrow.Author.Rules.{rules}
 use native.Mathlib.Omega.{arith}
-use Rattle.sentences.proofs.StampedMarks.{zeros-marked}
+use Rattle.sentences.proofs.StampedMarks.{zeros_marked}
 use Rattle.sentences.proofs.Answers.{cleared, as_long}
 use Rattle.sentences.proofs.read_sentence.Statement.{statement}
 use Rattle.sentences.proofs.read_sentence.Tie as tie
@@ -24,7 +24,7 @@ read-into-requires c κs =
       cleared (first d).clear.ensures (start d).requires.1,
       cleared (second d).clear2.ensures (start d).requires.2,
       omega arith,
-      zeros-marked,
+      zeros_marked,
     )
 
 pub read-sentence-spec : {M : Type 1} → statement M

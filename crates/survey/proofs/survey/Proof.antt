@@ -4,7 +4,7 @@ use borrow.Author.Tests.{not-true, not-false, lt-leb, le-leb}
 use mathlib.Core.Path.{◌≡◌, sym, ◌∙◌}
 use mathlib.Core.Bool.{true}
 use lib.ListN.{length}
-use Rattle.rules.specs.Survey.{sheetsFit}
+use Rattle.rules.specs.Survey.{sheets_fit}
 use Rattle.survey.proofs.Lent.{unsized, too_long, read_whole, fitting}
 use Rattle.survey.proofs.survey.Statement.{statement}
 use Rattle.survey.proofs.survey.Tie as tie
@@ -13,7 +13,7 @@ abbrev start : tie.After-sheets-fit → tie.Start
 start e = e.before.before.before.before.before.before
 
 -- the two sheets have their sizes
-sized : (e : tie.Else1) → sheetsFit (start e.before).args.sheet.now (start e.before).args.seen.now ≡ true
+sized : (e : tie.Else1) → sheets_fit (start e.before).args.sheet.now (start e.before).args.seen.now ≡ true
 sized e = sym e.before.sheets-fit.ensures ∙ not-false e.before.sheets-fit.result e.if1.false
 
 returns : tie.Need-returns

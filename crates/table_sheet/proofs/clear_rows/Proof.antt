@@ -7,7 +7,7 @@ use mathlib.Core.Path.{◌≡◌, refl, sym, ap, ◌∙◌}
 use mathlib.Core.List.{List}
 use lib.ListN.{length, set, replicate, length-set}
 use Rattle.columns.specs.Splices.{splice}
-use Rattle.columns.proofs.Splices.{splice-none, splice-zero}
+use Rattle.columns.proofs.Splices.{splice_none, splice_zero}
 use Rattle.table_sheet.proofs.clear_rows.Statement.{statement}
 use Rattle.table_sheet.proofs.clear_rows.Tie as tie
 
@@ -19,7 +19,7 @@ abbrev decreases-loop : tie.decreases-loop
 decreases-loop sheet₀ place numbers i₀ sheet i = numbers - i
 
 loop-holds : tie.Need-loop-init invariant-loop decreases-loop
-loop-holds c = (omega arith, sym (splice-none c.args.sheet.now c.args.place), refl)
+loop-holds c = (omega arith, sym (splice_none c.args.sheet.now c.args.place), refl)
 
 add-sheet : tie.Need-overflow-add-sheet invariant-loop decreases-loop
 add-sheet c = search rules
@@ -42,7 +42,7 @@ loop-again c =
     let a = l.before.args in (
       omega arith,
       ap (λ (x : List ℕ). set x (a.place + l.loop.i) 0) l.loop.invariant.1
-          ∙ splice-zero a.sheet.now a.place l.loop.i (omega arith),
+          ∙ splice_zero a.sheet.now a.place l.loop.i (omega arith),
       simp length-set l.loop.invariant.2,
     )
 

@@ -3,7 +3,7 @@
 use borrow.Author.Rules.{rules}
 use native.Mathlib.Omega.{arith}
 use mathlib.Core.Path.{sym, ◌∙◌}
-use Rattle.table_sheet.proofs.LookUps.{tag-hit}
+use Rattle.table_sheet.proofs.LookUps.{tag_hit}
 use Rattle.table_sheet.proofs.find_by_halves.Statement.{statement}
 use Rattle.table_sheet.proofs.find_by_halves.Tie as tie
 
@@ -26,7 +26,7 @@ returns c =
     let t = c.before.before in
     let s = t.before.before.before.before.before in
     let a = s.args in
-    tag-hit a.tag.now a.file.now a.sheet.now a.place t.before.row-by-halves.result a.rows t.if1.true
+    tag_hit a.tag.now a.file.now a.sheet.now a.place t.before.row-by-halves.result a.rows t.if1.true
     (sym c.before.tag_at.ensures ∙ c.if2.true)
 
 seek-tag-requires : tie.Need-seek-tag-requires

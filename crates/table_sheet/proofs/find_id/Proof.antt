@@ -5,18 +5,18 @@ use native.Mathlib.Omega.{arith}
 use Prim.Native.Nat.{ℕ, ◌+◌, ◌-◌, ◌*◌, ◌≤◌}
 use mathlib.Core.Path.{◌≡◌, sym, ◌∙◌}
 use mathlib.Core.List.{List}
-use Rattle.rules.specs.Sheets.{rowWidth}
+use Rattle.rules.specs.Sheets.{row_width}
 use Rattle.table_sheet.specs.SheetRows.{rows_from}
-use Rattle.table_sheet.specs.LookUps.{idFrom, idFound}
-use Rattle.table_sheet.proofs.LookUps.{id-hit, id-miss, id-end}
+use Rattle.table_sheet.specs.LookUps.{id_from, id_found}
+use Rattle.table_sheet.proofs.LookUps.{id_hit, id_miss, id_end}
 use Rattle.table_sheet.proofs.find_id.Statement.{statement}
 use Rattle.table_sheet.proofs.find_id.Tie as tie
 
 abbrev invariant-loop : tie.invariant-loop
 invariant-loop sheet place rows id1 row₀ at₀ row at =
     (row ≤ rows)
-    × (at ≡ place + rowWidth * row)
-    × ((file : List ℕ) → idFrom row id1 (rows_from file sheet at (rows - row)) ≡ idFound id1 (rows_from file sheet place rows))
+    × (at ≡ place + row_width * row)
+    × ((file : List ℕ) → id_from row id1 (rows_from file sheet at (rows - row)) ≡ id_found id1 (rows_from file sheet place rows))
 
 abbrev decreases-loop : tie.decreases-loop
 decreases-loop sheet place rows id1 row₀ at₀ row at = rows - row
@@ -35,7 +35,7 @@ returns c file =
     let t = c.before.before in
     let l = t.before in
     let a = l.before.before.before.args in
-    sym (id-hit file a.sheet.now l.loop.at l.loop.row a.rows a.id1 t.loop-test.true c.if1.true)
+    sym (id_hit file a.sheet.now l.loop.at l.loop.row a.rows a.id1 t.loop-test.true c.if1.true)
     ∙ l.loop.invariant.2 file
 
 add_row : tie.Need-overflow-add-row invariant-loop decreases-loop
@@ -55,7 +55,7 @@ loop-again c =
       omega arith,
       omega arith,
       λ file.
-          id-miss file a.sheet.now l.loop.at l.loop.row a.rows a.id1 t.loop-test.true c.if1.false
+          id_miss file a.sheet.now l.loop.at l.loop.row a.rows a.id1 t.loop-test.true c.if1.false
           ∙ l.loop.invariant.2 file,
     )
 
@@ -63,7 +63,7 @@ returns-2 : tie.Need-returns-2 invariant-loop decreases-loop
 returns-2 c file =
     let l = c.before in
     let a = l.before.before.before.args in
-    sym (id-end file a.sheet.now l.loop.at l.loop.row a.rows a.id1 c.loop-test.false) ∙ l.loop.invariant.2 file
+    sym (id_end file a.sheet.now l.loop.at l.loop.row a.rows a.id1 c.loop-test.false) ∙ l.loop.invariant.2 file
 
 pub find-id-spec : {M : Type 1} → statement M
 find-id-spec =

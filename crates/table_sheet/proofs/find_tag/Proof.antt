@@ -3,7 +3,7 @@
 use borrow.Author.Rules.{rules}
 use native.Mathlib.Omega.{arith}
 use mathlib.Core.Path.{sym, ◌∙◌}
-use Rattle.table_sheet.proofs.LookUps.{tag-hit}
+use Rattle.table_sheet.proofs.LookUps.{tag_hit}
 use Rattle.table_sheet.proofs.find_tag.Statement.{statement}
 use Rattle.table_sheet.proofs.find_tag.Tie as tie
 
@@ -29,7 +29,7 @@ returns c =
     let t = c.before.before in
     let s = t.before.before.before.before.before.before in
     let a = s.args in
-    tag-hit a.tag.now a.file.now a.sheet.now a.place t.before.row_Near.result a.rows t.if1.true
+    tag_hit a.tag.now a.file.now a.sheet.now a.place t.before.row_Near.result a.rows t.if1.true
     (sym c.before.tag_at.ensures ∙ c.if2.true)
 
 find-by-halves-requires : tie.Need-find-by-halves-requires

@@ -8,7 +8,7 @@ use mathlib.Core.List.{List}
 use lib.ListN.{length, get_or, set, take, length-set}
 use lib.Seq.{take-length}
 use Rattle.columns.specs.Splices.{splice}
-use Rattle.columns.proofs.Splices.{splice-none, splice-take}
+use Rattle.columns.proofs.Splices.{splice_none, splice_take}
 use Rattle.table_sheet.proofs.put.Statement.{statement}
 use Rattle.table_sheet.proofs.put.Tie as tie
 
@@ -20,7 +20,7 @@ abbrev decreases-loop : tie.decreases-loop
 decreases-loop sheet₀ place numbers i₀ sheet i = length numbers - i
 
 loop-holds : tie.Need-loop-init invariant-loop decreases-loop
-loop-holds c = (omega arith, sym (splice-none c.args.sheet.now c.args.place), refl)
+loop-holds c = (omega arith, sym (splice_none c.args.sheet.now c.args.place), refl)
 
 mul-sheet : tie.Need-overflow-mul-sheet invariant-loop decreases-loop
 mul-sheet c = search rules
@@ -49,7 +49,7 @@ loop-again c =
     let a = l.before.args in (
       omega arith,
       ap (λ (x : List ℕ). set x (a.place + l.loop.i) (get_or a.numbers.now l.loop.i 0)) l.loop.invariant.1
-          ∙ splice-take a.numbers.now a.sheet.now a.place l.loop.i (omega arith) (omega arith),
+          ∙ splice_take a.numbers.now a.sheet.now a.place l.loop.i (omega arith) (omega arith),
       simp length-set l.loop.invariant.2,
     )
 

@@ -6,19 +6,19 @@ use native.Mathlib.Omega.{arith}
 use Prim.Native.Nat.{ℕ, ◌+◌, ◌-◌, ◌*◌, ◌≤◌}
 use mathlib.Core.Path.{◌≡◌, sym, subst, ap, ◌∙◌}
 use mathlib.Core.List.{List}
-use Rattle.rules.specs.Sheets.{rowWidth}
+use Rattle.rules.specs.Sheets.{row_width}
 use Rattle.table_sheet.specs.SheetRows.{row_at, rows_from}
-use Rattle.table_sheet.specs.LookUps.{tagAmong}
+use Rattle.table_sheet.specs.LookUps.{tag_among}
 use Rattle.table_sheet.specs.Standing.{RowInside}
-use Rattle.table_sheet.proofs.LookUps.{has, tag-hit, tag-miss, tag-end}
+use Rattle.table_sheet.proofs.LookUps.{has, tag_hit, tag_miss, tag_end}
 use Rattle.table_sheet.proofs.seek_tag.Statement.{statement}
 use Rattle.table_sheet.proofs.seek_tag.Tie as tie
 
 abbrev invariant-loop : tie.invariant-loop
 invariant-loop file sheet place rows tag k₀ at₀ k at =
     (k ≤ rows)
-    × (at ≡ place + rowWidth * k)
-    × (tagAmong tag (rows_from file sheet at (rows - k)) ≡ tagAmong tag (rows_from file sheet place rows))
+    × (at ≡ place + row_width * k)
+    × (tag_among tag (rows_from file sheet at (rows - k)) ≡ tag_among tag (rows_from file sheet place rows))
 
 abbrev decreases-loop : tie.decreases-loop
 decreases-loop file sheet place rows tag k₀ at₀ k at = rows - k
@@ -59,7 +59,7 @@ returns c =
     let t = c.before.before in
     let l = t.before in
     let a = (start l).args in
-    tag-hit (tag l) (file l) (sheet l) a.place l.loop.k a.rows t.loop-test.true
+    tag_hit (tag l) (file l) (sheet l) a.place l.loop.k a.rows t.loop-test.true
     (ap (λ (p : ℕ). has (tag l) (row_at (file l) (sheet l) p)) (sym l.loop.invariant.1) ∙ tested c.before ∙ c.if1.true)
 
 add-k : tie.Need-overflow-add-k invariant-loop decreases-loop
@@ -77,7 +77,7 @@ loop-again c =
     let l = t.before in (
       omega arith,
       omega arith,
-      tag-miss (tag l) (file l) (sheet l) l.loop.at l.loop.k (start l).args.rows t.loop-test.true
+      tag_miss (tag l) (file l) (sheet l) l.loop.at l.loop.k (start l).args.rows t.loop-test.true
           (tested c.before ∙ c.if1.false)
           ∙ l.loop.invariant.2,
     )
@@ -86,7 +86,7 @@ returns-2 : tie.Need-returns-2 invariant-loop decreases-loop
 returns-2 c =
     let l = c.before in
     sym l.loop.invariant.2
-    ∙ tag-end (tag l) (file l) (sheet l) l.loop.at l.loop.k (start l).args.rows c.loop-test.false
+    ∙ tag_end (tag l) (file l) (sheet l) l.loop.at l.loop.k (start l).args.rows c.loop-test.false
 
 pub seek-tag-spec : {M : Type 1} → statement M
 seek-tag-spec =

@@ -7,7 +7,7 @@ use Prim.Native.Nat.{◌+◌, ◌-◌}
 use mathlib.Core.Path.{◌≡◌, sym, ◌∙◌}
 use lib.ListN.{length, get_or, take, drop, length-drop}
 use lib.Seq.{length-take-le}
-use Rattle.rules.proofs.Same.{same-length-false}
+use Rattle.rules.proofs.Same.{same_length_false}
 use Rattle.table_sheet.proofs.tag_at.Statement.{statement}
 use Rattle.table_sheet.proofs.tag_at.Tie as tie
 
@@ -33,7 +33,7 @@ returns c =
     let behind : length (drop start a.file.now) ≡ length a.file.now - start = length-drop start a.file.now in
     let sized : length (take len (drop start a.file.now)) ≡ len =
     length-take-le len (drop start a.file.now) (omega arith) in
-    sym (same-length-false a.tag.now (take len (drop start a.file.now)) (λ e. c.if1.true (sym sized ∙ sym e)))
+    sym (same_length_false a.tag.now (take len (drop start a.file.now)) (λ e. c.if1.true (sym sized ∙ sym e)))
 
 add_start : tie.Need-overflow-add-start
 add_start c = search rules

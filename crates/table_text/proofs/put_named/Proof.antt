@@ -3,7 +3,7 @@
 use borrow.Author.Rules.{rules}
 use native.Mathlib.Omega.{arith}
 use mathlib.Core.Path.{◌≡◌}
-use Rattle.printing.proofs.PutLaws.{put-wider}
+use Rattle.printing.proofs.PutLaws.{put_wider}
 use Rattle.table_text.proofs.put_named.Statement.{statement}
 use Rattle.table_text.proofs.put_named.Tie as tie
 
@@ -55,7 +55,7 @@ same_length c = search rules
 returns : tie.Need-returns
 returns c =
     let k : c.before.before.before.before.before.before.before.before.args.table ≡ 0 = omega arith in
-    rw k (put-wider (omega (arith, c.before.before.before.before.before.before.before.before.requires.0)) c.before.before.put-keyword.ensures)
+    rw k (put_wider (omega (arith, c.before.before.before.before.before.before.before.before.requires.0)) c.before.before.put-keyword.ensures)
 
 same-length-2 : tie.Need-same-length-2
 same-length-2 c = search rules
@@ -63,7 +63,7 @@ same-length-2 c = search rules
 returns-2 : tie.Need-returns-2
 returns-2 c =
     let k : c.before.before.before.before.before.before.before.before.args.table ≡ 1 = omega arith in
-    rw k (put-wider (omega (arith, c.before.before.before.before.before.before.before.before.requires.0)) c.before.before.put-keyword2.ensures)
+    rw k (put_wider (omega (arith, c.before.before.before.before.before.before.before.before.requires.0)) c.before.before.put-keyword2.ensures)
 
 same-length-3 : tie.Need-same-length-3
 same-length-3 c = search rules
@@ -71,7 +71,7 @@ same-length-3 c = search rules
 returns-3 : tie.Need-returns-3
 returns-3 c =
     let k : c.before.before.before.before.before.before.before.before.args.table ≡ 2 = omega arith in
-    rw k (put-wider (omega (arith, c.before.before.before.before.before.before.before.before.requires.0)) c.before.before.put-keyword3.ensures)
+    rw k (put_wider (omega (arith, c.before.before.before.before.before.before.before.before.requires.0)) c.before.before.put-keyword3.ensures)
 
 same-length-4 : tie.Need-same-length-4
 same-length-4 c = search rules
@@ -79,7 +79,7 @@ same-length-4 c = search rules
 returns-4 : tie.Need-returns-4
 returns-4 c =
     let k : c.before.before.before.before.before.before.before.before.args.table ≡ 3 = omega arith in
-    rw k (put-wider (omega (arith, c.before.before.before.before.before.before.before.before.requires.0)) c.before.before.put-keyword4.ensures)
+    rw k (put_wider (omega (arith, c.before.before.before.before.before.before.before.before.requires.0)) c.before.before.put-keyword4.ensures)
 
 same-length-5 : tie.Need-same-length-5
 same-length-5 c = search rules
@@ -87,7 +87,7 @@ same-length-5 c = search rules
 returns-5 : tie.Need-returns-5
 returns-5 c =
     let k : c.before.before.before.before.before.before.before.before.args.table ≡ 4 = omega arith in
-    rw k (put-wider (omega (arith, c.before.before.before.before.before.before.before.before.requires.0)) c.before.before.put-keyword5.ensures)
+    rw k (put_wider (omega (arith, c.before.before.before.before.before.before.before.before.requires.0)) c.before.before.put-keyword5.ensures)
 
 same-length-6 : tie.Need-same-length-6
 same-length-6 c = search rules
@@ -95,7 +95,7 @@ same-length-6 c = search rules
 returns-6 : tie.Need-returns-6
 returns-6 c =
     let k : c.before.before.before.before.before.before.before.before.args.table ≡ 5 = omega arith in
-    rw k (put-wider (omega (arith, c.before.before.before.before.before.before.before.before.requires.0)) c.before.before.put-keyword6.ensures)
+    rw k (put_wider (omega (arith, c.before.before.before.before.before.before.before.before.requires.0)) c.before.before.put-keyword6.ensures)
 
 same-length-7 : tie.Need-same-length-7
 same-length-7 c = search rules
@@ -103,7 +103,7 @@ same-length-7 c = search rules
 returns-7 : tie.Need-returns-7
 returns-7 c =
     let k : c.before.before.before.before.before.before.before.before.args.table ≡ 6 = omega arith in
-    rw k (put-wider (omega (arith, c.before.before.before.before.before.before.before.before.requires.0)) c.before.before.put-keyword7.ensures)
+    rw k (put_wider (omega (arith, c.before.before.before.before.before.before.before.before.requires.0)) c.before.before.put-keyword7.ensures)
 
 pub put-named-spec : {M : Type 1} → statement M
 put-named-spec =

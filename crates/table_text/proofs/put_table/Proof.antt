@@ -5,8 +5,8 @@ use native.Mathlib.Omega.{arith}
 use Prim.Native.Nat.{suc, ◌-◌}
 use mathlib.Core.Path.{◌≡◌, refl}
 use lib.ListN.{get_or}
-use Rattle.printing.proofs.PutLaws.{put_then, put_as, put-wider, put-none}
-use Rattle.table_text.proofs.ShownTables.{order-low, table-shown}
+use Rattle.printing.proofs.PutLaws.{put_then, put_as, put_wider, put_none}
+use Rattle.table_text.proofs.ShownTables.{order_low, table_shown}
 use Rattle.table_text.proofs.put_table.Statement.{statement}
 use Rattle.table_text.proofs.put_table.Tie as tie
 
@@ -23,7 +23,7 @@ returns : tie.Need-returns
 returns c =
     let a = c.before.before.before.before.before.args in
     let e : get_or a.sheet.now a.table 0 ≡ 0 = omega arith in
-    rw e (put-wider (omega arith) (put-none a.at a.out.now))
+    rw e (put_wider (omega arith) (put_none a.at a.out.now))
 
 sub-rows : tie.Need-overflow-sub-rows
 sub-rows c = search rules
@@ -56,7 +56,7 @@ put-rows-requires c κs =
       omega (arith, most),
       p.0.inside a.table p.1,
       search rules,
-      rw c.before.before.before.before.before.before.before.before.list-rows.ensures (order-low a.sheet.now a.table (get_or a.sheet.now a.table 0 - 1)),
+      rw c.before.before.before.before.before.before.before.before.list-rows.ensures (order_low a.sheet.now a.table (get_or a.sheet.now a.table 0 - 1)),
       omega (arith, most, p.2, b.place, b.within),
     )
 
@@ -81,8 +81,8 @@ returns-2 c =
     let p = c.before.before.before.before.before.before.before.before.before.before.before.before.before.before.before.before.before.before.before.before.before.before.before.requires in
     let count = get_or a.sheet.now a.table 0 in
     let some : count ≡ suc (count - 1) = omega arith in
-    put-wider (omega (arith, p.0.counts a.table p.1))
-    (put_as (table-shown a.file.now a.sheet.now a.table count (count - 1) _ some c.before.before.before.before.before.before.before.before.before.before.before.before.before.before.before.before.list-rows.ensures)
+    put_wider (omega (arith, p.0.counts a.table p.1))
+    (put_as (table_shown a.file.now a.sheet.now a.table count (count - 1) _ some c.before.before.before.before.before.before.before.before.before.before.before.before.before.before.before.before.list-rows.ensures)
     (put_then (put_then c.before.before.before.before.before.before.before.before.before.before.before.before.put-named.ensures c.before.before.before.before.before.before.before.put-rows.ensures) c.before.before.put-named2.ensures))
 
 pub put-table-spec : {M : Type 1} → statement M

@@ -7,15 +7,15 @@ use mathlib.Core.Option.{Option, some}
 use Rattle.rules.specs.Texts.{Text}
 use Rattle.rules.specs.Columns.{written}
 use Rattle.rules.specs.Numbers.{value}
-use Rattle.rules.specs.Tables.{Tables, tableNamed}
-use Rattle.rules.specs.Keywords.{fresh, tableOpened}
-use Rattle.rules.specs.Lines.{tableBegins}
-use Rattle.columns.specs.Listing.{line_of, columnsOf}
+use Rattle.rules.specs.Tables.{Tables, table_named}
+use Rattle.rules.specs.Keywords.{fresh, table_opened}
+use Rattle.rules.specs.Lines.{table_begins}
+use Rattle.columns.specs.Listing.{line_of, columns_of}
 use Rattle.steps.specs.declared.Step.TheVariants.{TableBegins}
-use Rattle.table_sheet.specs.SheetRows.{tablesIn}
+use Rattle.table_sheet.specs.SheetRows.{tables_in}
 use Rattle.tables.specs.Names.{name_rules}
 use Rattle.tables.specs.RowRules.{asked}
-use Rattle.tables.proofs.NamedLines.{step-named, known_tells, unknown-tells, named-below}
+use Rattle.tables.proofs.NamedLines.{step_named, known_tells, unknown_tells, named_below}
 use Rattle.tables.proofs.table_begin_line.Statement.{statement}
 use Rattle.tables.proofs.table_begin_line.Tie as tie
 
@@ -26,13 +26,13 @@ abbrev line : tie.After-table-on → Text
 line r = line_of (start r).args.file.now (start r).args.line
 
 abbrev tables : tie.After-table-on → Tables
-tables r = tablesIn (start r).args.file.now (start r).args.sheet.now
+tables r = tables_in (start r).args.file.now (start r).args.sheet.now
 
 abbrev second : tie.After-table-on → Text
-second r = written (columnsOf (start r).args.file.now (start r).args.line) 1
+second r = written (columns_of (start r).args.file.now (start r).args.line) 1
 
 abbrev name : tie.After-table-on → Option ℕ
-name r = tableNamed (second r)
+name r = table_named (second r)
 
 abbrev asked-for : tie.After-known-told → tie.After-table-on
 asked-for k = k.before.before.before
@@ -41,7 +41,7 @@ told : (k : tie.After-known-told) → name (asked-for k) ≡ some k.before.name.
 told k = known_tells _ _ (sym (asked-for k).table_on.ensures ∙ k.before.name.given.1)
 
 is-present-requires : tie.Need-is-present-requires
-is-present-requires c κs = ((start (asked-for c)).requires.0, named-below (second (asked-for c)) _ (told c))
+is-present-requires c κs = ((start (asked-for c)).requires.0, named_below (second (asked-for c)) _ (told c))
 
 fresh-is : (p : tie.After-is-present) → let r = asked-for p.before in fresh (tables r) (name r) ≡ not p.is-present.result
 fresh-is p =
@@ -49,27 +49,27 @@ fresh-is p =
     ap (fresh (tables r)) (told p.before) ∙ ap not (sym (p.is-present.ensures (start r).args.file.now))
 
 returns : tie.Need-returns
-unfolding tableOpened
+unfolding table_opened
 returns c =
     let r = c.before.before.before in
     c.Wrong-name.ensures _ _
-    ∙ sym (step-named tableBegins (line r) _ (start r).requires.1.counted (ap (fresh (tables r)) (unknown-tells (name r) (sym r.table_on.ensures ∙ c.before.enum_told.given.1))))
+    ∙ sym (step_named table_begins (line r) _ (start r).requires.1.counted (ap (fresh (tables r)) (unknown_tells (name r) (sym r.table_on.ensures ∙ c.before.enum_told.given.1))))
 
 returns-2 : tie.Need-returns-2
-unfolding tableOpened
+unfolding table_opened
 returns-2 c =
     let p = c.before.before in
     let r = asked-for p.before in
-    c.wrong-name2.ensures _ _ ∙ sym (step-named tableBegins (line r) _ (start r).pre.1.counted (fresh-is p ∙ ap not c.before.if1.true))
+    c.wrong-name2.ensures _ _ ∙ sym (step_named table_begins (line r) _ (start r).pre.1.counted (fresh-is p ∙ ap not c.before.if1.true))
 
 returns-3 : tie.Need-returns-3
-unfolding tableOpened
+unfolding table_opened
 returns-3 c =
     let p = c.before.before in
     let r = asked-for p.before in
     c.with-name.ensures _
     ∙ ap (λ (o : Option ℕ). asked (name_rules (line r) (start r).args.line.columns true) (TableBegins (value o))) (sym (told p.before))
-    ∙ sym (step-named tableBegins (line r) _ (start r).pre.1.counted (fresh-is p ∙ ap not c.before.if1.false))
+    ∙ sym (step_named table_begins (line r) _ (start r).pre.1.counted (fresh-is p ∙ ap not c.before.if1.false))
 
 pub table-begin-line-spec : {M : Type 1} → statement M
 table-begin-line-spec =

@@ -7,11 +7,11 @@ use mathlib.Core.Option.{Option}
 use lib.Dec.{eqb}
 use Rattle.rules.specs.Texts.{Text}
 use Rattle.rules.specs.Columns.{written}
-use Rattle.rules.specs.Tables.{tableNamed}
-use Rattle.rules.specs.Keywords.{itself, tableEnded}
-use Rattle.rules.specs.Lines.{tableEnds}
-use Rattle.columns.specs.Listing.{line_of, columnsOf}
-use Rattle.tables.proofs.NamedLines.{step-named, known_tells, unknown-tells}
+use Rattle.rules.specs.Tables.{table_named}
+use Rattle.rules.specs.Keywords.{itself, table_ended}
+use Rattle.rules.specs.Lines.{table_ends}
+use Rattle.columns.specs.Listing.{line_of, columns_of}
+use Rattle.tables.proofs.NamedLines.{step_named, known_tells, unknown_tells}
 use Rattle.tables.proofs.table_end_line.Statement.{statement}
 use Rattle.tables.proofs.table_end_line.Tie as tie
 
@@ -22,7 +22,7 @@ abbrev line : tie.After-table-on → Text
 line r = line_of (start r).args.file.now (start r).args.line
 
 abbrev name : tie.After-table-on → Option ℕ
-name r = tableNamed (written (columnsOf (start r).args.file.now (start r).args.line) 1)
+name r = table_named (written (columns_of (start r).args.file.now (start r).args.line) 1)
 
 abbrev asked-for : tie.After-known-told → tie.After-table-on
 asked-for k = k.before.before.before
@@ -33,26 +33,26 @@ itself-is k =
     ap (itself (start r).args.table) (known_tells (name r) _ (sym r.table_on.ensures ∙ k.before.name.given.1))
 
 returns : tie.Need-returns
-unfolding tableEnded
+unfolding table_ended
 returns c =
     let r = c.before.before.before in
     c.Wrong-name.ensures _ _
-    ∙ sym (step-named (λ m. tableEnds) (line r) _ (start r).requires.counted (ap (itself (start r).args.table) (unknown-tells (name r) (sym r.table_on.ensures ∙ c.before.enum_told.given.1))))
+    ∙ sym (step_named (λ m. table_ends) (line r) _ (start r).requires.counted (ap (itself (start r).args.table) (unknown_tells (name r) (sym r.table_on.ensures ∙ c.before.enum_told.given.1))))
 
 returns-2 : tie.Need-returns-2
-unfolding tableEnded
+unfolding table_ended
 returns-2 c =
     let k = c.before.before in
     let r = asked-for k in
     c.wrong-name2.ensures _ _
-    ∙ sym (step-named (λ m. tableEnds) (line r) _ (start r).pre.counted (itself-is k ∙ ne_eqb _ _ (λ z. c.before.if1.true (sym z))))
+    ∙ sym (step_named (λ m. table_ends) (line r) _ (start r).pre.counted (itself-is k ∙ ne_eqb _ _ (λ z. c.before.if1.true (sym z))))
 
 returns-3 : tie.Need-returns-3
-unfolding tableEnded
+unfolding table_ended
 returns-3 c =
     let k = c.before.before in
     let r = asked-for k in
-    c.with-name.ensures _ ∙ sym (step-named (λ m. tableEnds) (line r) _ (start r).pre.counted (itself-is k ∙ eq-eqb _ _ (sym c.before.if1.false)))
+    c.with-name.ensures _ ∙ sym (step_named (λ m. table_ends) (line r) _ (start r).pre.counted (itself-is k ∙ eq-eqb _ _ (sym c.before.if1.false)))
 
 pub table-end-line-spec : {M : Type 1} → statement M
 table-end-line-spec =

@@ -7,14 +7,14 @@ use mathlib.Core.Path.{◌≡◌, sym, ◌∙◌}
 use mathlib.Core.List.{List}
 use mathlib.Core.Logic.{⊎_elim}
 use lib.ListN.{length, drop}
-use Rattle.rules.specs.Texts.{frontBytes}
-use Rattle.texts.proofs.Percents.{front-stop, front-first, front-second, front-end}
+use Rattle.rules.specs.Texts.{front_bytes}
+use Rattle.texts.proofs.Percents.{front_stop, front_first, front_second, front_end}
 use Rattle.texts.proofs.percents_from.Statement.{statement}
 use Rattle.texts.proofs.percents_from.Tie as tie
 
 abbrev invariant-loop : tie.invariant-loop
 invariant-loop head at i₀ i =
-    (i ≤ length head) × (at + length (frontBytes (drop at head)) ≡ i + length (frontBytes (drop i head)))
+    (i ≤ length head) × (at + length (front_bytes (drop at head)) ≡ i + length (front_bytes (drop i head)))
 
 abbrev decreases-loop : tie.decreases-loop
 decreases-loop head at i₀ i = length head - i
@@ -46,7 +46,7 @@ shared-slice-read-if2 c = search rules
 returns : tie.Need-returns invariant-loop decreases-loop
 returns c =
     let t = c.before.before.before.before in
-    sym (t.before.loop.invariant.1 ∙ front-stop (head t) (i t) t.loop-test.true c.before.before.if1.true c.if2.true)
+    sym (t.before.loop.invariant.1 ∙ front_stop (head t) (i t) t.loop-test.true c.before.before.if1.true c.if2.true)
 
 add-i : tie.Need-overflow-add-i invariant-loop decreases-loop
 add-i c = search rules
@@ -59,13 +59,13 @@ loop-again c =
     let t = c.before.before in
     let h = t.loop-test.true in (
       omega arith,
-      t.before.loop.invariant.1 ∙ ⊎_elim (λ w. front-second (head t) (i t) h w.2.left) (λ w. front-first (head t) (i t) h w.left) c.if1.branch,
+      t.before.loop.invariant.1 ∙ ⊎_elim (λ w. front_second (head t) (i t) h w.2.left) (λ w. front_first (head t) (i t) h w.left) c.if1.branch,
     )
 
 returns-2 : tie.Need-returns-2 invariant-loop decreases-loop
 returns-2 c =
     let l = c.before in
-    sym (l.loop.invariant.1 ∙ front-end l.before.args.head.now l.loop.i l.loop.invariant.0 c.loop-test.false)
+    sym (l.loop.invariant.1 ∙ front_end l.before.args.head.now l.loop.i l.loop.invariant.0 c.loop-test.false)
 
 pub percents-from-spec : {M : Type 1} → statement M
 percents-from-spec =

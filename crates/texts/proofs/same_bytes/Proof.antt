@@ -7,7 +7,7 @@ use mathlib.Core.Path.{◌≡◌, sym, ◌∙◌}
 use mathlib.Core.List.{List}
 use lib.ListN.{length, drop}
 use Rattle.rules.specs.Lists.{same}
-use Rattle.rules.proofs.Same.{same_here, same-differ, same_end}
+use Rattle.rules.proofs.Same.{same_here, same_differ, same_end}
 use Rattle.texts.proofs.same_bytes.Statement.{statement}
 use Rattle.texts.proofs.same_bytes.Tie as tie
 
@@ -41,7 +41,7 @@ shared-slice-read-if1-2 c = search rules
 returns : tie.Need-returns invariant-loop decreases-loop
 returns c =
     let t = c.before.before.before in
-    sym (t.before.loop.invariant.1 ∙ same-differ (a t) (b t) (i t) t.loop-test.true (omega arith) c.if1.true)
+    sym (t.before.loop.invariant.1 ∙ same_differ (a t) (b t) (i t) t.loop-test.true (omega arith) c.if1.true)
 
 add-i : tie.Need-overflow-add-i invariant-loop decreases-loop
 add-i c = search rules

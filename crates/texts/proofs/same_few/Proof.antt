@@ -6,7 +6,7 @@ use mathlib.Core.Path.{sym}
 use mathlib.Core.List.{List}
 use lib.ListN.{length, get_or}
 use Rattle.rules.proofs.Same.{same_end}
-use Rattle.texts.proofs.AsNumbers.{numbers-differ}
+use Rattle.texts.proofs.AsNumbers.{numbers_differ}
 use Rattle.texts.proofs.same_few.Statement.{statement}
 use Rattle.texts.proofs.same_few.Tie as tie
 
@@ -18,7 +18,7 @@ returns c =
 returns-2 : tie.Need-returns-2
 returns-2 c =
     let a = c.before.before.before.before.before.before.args in
-    numbers-differ (λ (l : List ℕ) (i : ℕ). get_or l i 0) a.a.now a.b.now (length a.a.now - 1) c.if2.true
+    numbers_differ (λ (l : List ℕ) (i : ℕ). get_or l i 0) a.a.now a.b.now (length a.a.now - 1) c.if2.true
 
 pub same-few-spec : {M : Type 1} → statement M
 same-few-spec =

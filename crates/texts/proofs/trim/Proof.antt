@@ -4,7 +4,7 @@ use native.Mathlib.Omega.{arith}
 use Prim.Native.Nat.{◌≤◌}
 use mathlib.Core.Path.{sym}
 use lib.ListN.{length}
-use Rattle.texts.proofs.Trims.{span_none, span-some, end-inside}
+use Rattle.texts.proofs.Trims.{span_none, span_some, end_inside}
 use Rattle.texts.proofs.trim.Statement.{statement}
 use Rattle.texts.proofs.trim.Tie as tie
 
@@ -18,7 +18,7 @@ trimmed-end-requires : tie.Need-trimmed-end-requires
 trimmed-end-requires c κs = search rules
 
 ends : (c : tie.After-trimmed-end) → c.trimmed-end.result ≤ length c.before.before.before.before.args.head.now
-ends c = end-inside _ _ _ (omega (arith, c.before.if1.false)) c.trimmed-end.ensures
+ends c = end_inside _ _ _ (omega (arith, c.before.if1.false)) c.trimmed-end.ensures
 
 cast-t8 : tie.Need-overflow-cast-t8
 cast-t8 c = omega (arith, c.before.if1.false)
@@ -31,7 +31,7 @@ cast-t9 c = omega (arith, ends c)
 
 returns-2 : tie.Need-returns-2
 returns-2 c =
-    sym (span-some _ _ _ c.before.before.skip-run.ensures _ c.trimmed-end.ensures c.before.if1.false)
+    sym (span_some _ _ _ c.before.before.skip-run.ensures _ c.trimmed-end.ensures c.before.if1.false)
 
 pub trim-spec : {M : Type 1} → statement M
 trim-spec =

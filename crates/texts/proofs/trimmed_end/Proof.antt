@@ -7,14 +7,14 @@ use Prim.Native.Nat.{ℕ, ◌+◌, ◌≤◌}
 use mathlib.Core.Path.{◌≡◌, sym, ap, ◌∙◌}
 use mathlib.Core.List.{List}
 use lib.ListN.{length, drop}
-use Rattle.rules.specs.Texts.{rightTrim}
-use Rattle.texts.proofs.Trims.{between, end_whole, end-lost, end_stays, end_none}
+use Rattle.rules.specs.Texts.{right_trim}
+use Rattle.texts.proofs.Trims.{between, end_whole, end_lost, end_stays, end_none}
 use Rattle.texts.proofs.trimmed_end.Statement.{statement}
 use Rattle.texts.proofs.trimmed_end.Tie as tie
 
 abbrev invariant-loop : tie.invariant-loop
 invariant-loop head start classes end₀ end =
-    (start ≤ end) × (end ≤ length head) × (rightTrim (drop start head) ≡ rightTrim (between head start end))
+    (start ≤ end) × (end ≤ length head) × (right_trim (drop start head) ≡ right_trim (between head start end))
 
 abbrev decreases-loop : tie.decreases-loop
 decreases-loop head start classes end₀ end = end
@@ -65,7 +65,7 @@ loop-again c =
     let l = t.before.loop in (
       omega arith,
       omega arith,
-      l.invariant.2 ∙ end-lost (head t) (start t) (end t) t.loop-test.true l.invariant.1 (sym c.before.is_white.ensures ∙ not-false _ c.if1.false),
+      l.invariant.2 ∙ end_lost (head t) (start t) (end t) t.loop-test.true l.invariant.1 (sym c.before.is_white.ensures ∙ not-false _ c.if1.false),
     )
 
 returns-2 : tie.Need-returns-2 invariant-loop decreases-loop

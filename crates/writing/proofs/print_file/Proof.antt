@@ -1,7 +1,7 @@
 -- `writing::print_file` meets its contract: three texts, one behind the other.
 use borrow.Author.Rules.{rules}
 use native.Mathlib.Omega.{arith}
-use Rattle.writing.proofs.ReadFiles.{parts-put}
+use Rattle.writing.proofs.ReadFiles.{parts_put}
 use Rattle.writing.proofs.print_file.Statement.{statement}
 use Rattle.writing.proofs.print_file.Tie as tie
 
@@ -35,7 +35,7 @@ returns c =
     let q = r.before.before.before.before.before.before in
     let p = headed q in
     let e = r.print-sentences.ensures in
-    (parts-put _ _ _ p.put-text.ensures q.print-tables.ensures e.0, e.1, e.2)
+    (parts_put _ _ _ p.put-text.ensures q.print-tables.ensures e.0, e.1, e.2)
 
 pub print-file-spec : {M : Type 1} → statement M
 print-file-spec =

@@ -6,16 +6,16 @@ use mathlib.Core.Path.{◌≡◌, refl, sym, ap, ◌∙◌, subst}
 use mathlib.Core.Bool.{true}
 use mathlib.Core.List.{List}
 use lib.ListN.{length, length-replicate}
-use Rattle.rules.specs.Numbers.{rowLimit}
-use Rattle.rules.specs.Survey.{surveyOf, fileFits}
-use Rattle.rules.specs.Index.{indexSize}
-use Rattle.tidy_length.proofs.TidyRoom.{tidy-room}
+use Rattle.rules.specs.Numbers.{row_limit}
+use Rattle.rules.specs.Survey.{survey_of, file_fits}
+use Rattle.rules.specs.Index.{index_size}
+use Rattle.tidy_length.proofs.TidyRoom.{tidy_room}
 use Rattle.reading.specs.declared.Read.{Read}
 use Rattle.survey.proofs.Lent.{fitting}
 use Rattle.sentences.proofs.Answers.{cleared}
-use Rattle.opening.specs.Promise.{allFlatFit}
+use Rattle.opening.specs.Promise.{all_flat_fit}
 use Rattle.writing.proofs.WaysOut.{Sized, sizes, unfit, too_long, refused, written}
-use Rattle.writing.proofs.ReadFiles.{answer-is, tables-are, seen-is, told-tables, begins-ready, begins-few, text-is}
+use Rattle.writing.proofs.ReadFiles.{answer_is, tables_are, seen_is, told_tables, begins_ready, begins_few, text_is}
 use Rattle.writing.proofs.write_flat.Statement.{statement}
 use Rattle.writing.proofs.write_flat.Tie as tie
 
@@ -26,7 +26,7 @@ abbrev top : tie.Else1 → tie.Start
 top e = start e.before
 
 -- the buffers have their sizes
-sized : (e : tie.Else1) → allFlatFit (top e).args.tables.now (top e).args.seen.now (top e).args.sheet.now (top e).args.edges.now ≡ true
+sized : (e : tie.Else1) → all_flat_fit (top e).args.tables.now (top e).args.seen.now (top e).args.sheet.now (top e).args.edges.now ≡ true
 sized e = sym e.before.buffers-fit.ensures ∙ not-false _ e.if1.false
 
 all-sized : (e : tie.Else1) → Sized (top e).args.tables.now (top e).args.seen.now (top e).args.sheet.now (top e).args.edges.now
@@ -67,20 +67,20 @@ module _ (k : Read-then) where
   abbrev file : List ℕ
   file = (top short.before).args.file.now
 
-  fits : fileFits file ≡ true
+  fits : file_fits file ≡ true
   fits = le-leb (length file) 268435456 short.if2.left
 
-  accepted-by : whole.read-file.result.refusal ≡ 0 → (surveyOf file).refusal ≡ 0
-  accepted-by e = sym (ap (λ (x : Read). x.refusal) (answer-is file fits _ _ _ _ _ whole.read-file.ensures)) ∙ e
+  accepted-by : whole.read-file.result.refusal ≡ 0 → (survey_of file).refusal ≡ 0
+  accepted-by e = sym (ap (λ (x : Read). x.refusal) (answer_is file fits _ _ _ _ _ whole.read-file.ensures)) ∙ e
 
 returns-3 : tie.Need-returns-3
 returns-3 c =
     let k = c.before in
     let e = (short k).before in
     let f = (whole k).read-file.ensures in
-    let answer = answer-is (file k) (fits k) _ _ _ _ _ f in
-    refused _ _ _ _ _ _ _ (sized e) _ _ _ _ (fits k) (tables-are (file k) (fits k) _ _ _ _ _ f) (seen-is (file k) (fits k) _ _ _ _ _ f)
-    (cleared (page k).clear.ensures (all-sized e).sheet-size) (cleared (list k).clear2.ensures (all-sized e).edges-size)
+    let answer = answer_is (file k) (fits k) _ _ _ _ _ f in
+    refused _ _ _ _ _ _ _ (sized e) _ _ _ _ (fits k) (tables_are (file k) (fits k) _ _ _ _ _ f) (seen_is (file k) (fits k) _ _ _ _ _ f)
+    (cleared (page k).clear.ensures (all-sized e).sheet_size) (cleared (list k).clear2.ensures (all-sized e).edges_size)
     (λ z. c.if3.true (ap (λ (x : Read). x.refusal) answer ∙ z))
     (ap (λ (x : Read). record { refusal = x.refusal; place = x.place; written = 0 }) answer)
 
@@ -90,15 +90,15 @@ write-read-requires c κs =
     let k = g.before in
     let e = (short k).before in
     let f = (whole k).read-file.ensures in
-    let long = length-replicate {A = ℕ} indexSize 0 in
+    let long = length-replicate {A = ℕ} index_size 0 in
     let accepted = accepted-by k g.if3.false in (
       (short k).if2.false,
-      told-tables (file k) (fits k) _ _ _ _ _ f,
-      begins-ready (file k) (fits k) _ _ _ _ _ f long,
-      begins-few (file k) (fits k) _ _ _ _ _ f long,
-      cleared (page k).clear.ensures (all-sized e).sheet-size,
-      cleared (list k).clear2.ensures (all-sized e).edges-size,
-      subst (λ (t : List ℕ). length t ≤ length (file k) + 2 * rowLimit) (text-is (file k) (fits k) _ _ _ _ _ f long accepted) (tidy-room (file k) accepted),
+      told_tables (file k) (fits k) _ _ _ _ _ f,
+      begins_ready (file k) (fits k) _ _ _ _ _ f long,
+      begins_few (file k) (fits k) _ _ _ _ _ f long,
+      cleared (page k).clear.ensures (all-sized e).sheet_size,
+      cleared (list k).clear2.ensures (all-sized e).edges_size,
+      subst (λ (t : List ℕ). length t ≤ length (file k) + 2 * row_limit) (text_is (file k) (fits k) _ _ _ _ _ f long accepted) (tidy_room (file k) accepted),
     )
 
 returns-4 : tie.Need-returns-4
@@ -108,11 +108,11 @@ returns-4 c =
     let k = g.before in
     let e = (short k).before in
     let f = (whole k).read-file.ensures in
-    let long = length-replicate {A = ℕ} indexSize 0 in
+    let long = length-replicate {A = ℕ} index_size 0 in
     let accepted = accepted-by k g.if3.false in
     let done = w.write_read.ensures in
-    written _ _ _ _ _ _ _ (sized e) _ _ _ _ (fits k) (tables-are (file k) (fits k) _ _ _ _ _ f) (seen-is (file k) (fits k) _ _ _ _ _ f)
-    done.1 done.2 accepted _ _ (text-is (file k) (fits k) _ _ _ _ _ f long accepted) done.0
+    written _ _ _ _ _ _ _ (sized e) _ _ _ _ (fits k) (tables_are (file k) (fits k) _ _ _ _ _ f) (seen_is (file k) (fits k) _ _ _ _ _ f)
+    done.1 done.2 accepted _ _ (text_is (file k) (fits k) _ _ _ _ _ f long accepted) done.0
 
 pub write-flat-spec : {M : Type 1} → statement M
 write-flat-spec =

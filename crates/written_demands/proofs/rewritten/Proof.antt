@@ -2,9 +2,9 @@
 -- of the survey of its first bytes say.
 use borrow.Author.Rules.{rules}
 use mathlib.Core.Path.{refl, ap}
-use Rattle.written_demands.proofs.Alike.{asText}
+use Rattle.written_demands.proofs.Alike.{as_text}
 use Rattle.written_demands.proofs.AsRules.{as_called}
-use Rattle.written_demands.proofs.Granted.{output-as-lent, read_back}
+use Rattle.written_demands.proofs.Granted.{output_as_lent, read_back}
 use Rattle.written_demands.proofs.rewritten.Statement.{statement}
 use Rattle.written_demands.proofs.rewritten.Tie as tie
 
@@ -16,9 +16,9 @@ first c = (second c).before.before.before.before.before.before.before.before.bef
 
 returns : tie.Need-returns
 returns c =
-    let p = ap asText (first c).write-flat.ensures in
+    let p = ap as_text (first c).write-flat.ensures in
     let q = (second c).cut.ensures.1 in
-    (λ z sized. read_back _ _ _ _ _ _ _ p z _ q refl sized, (λ ne. output-as-lent _ _ _ _ _ _ _ p ne, (as_called _ _ _ _ _ _ _ p, q)))
+    (λ z sized. read_back _ _ _ _ _ _ _ p z _ q refl sized, (λ ne. output_as_lent _ _ _ _ _ _ _ p ne, (as_called _ _ _ _ _ _ _ p, q)))
 
 pub rewritten-spec : {M : Type 1} → statement M
 rewritten-spec =

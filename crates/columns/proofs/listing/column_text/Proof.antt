@@ -4,15 +4,15 @@ use Prim.Native.Nat.{◌+◌, ◌*◌, ◌≤◌}
 use mathlib.Core.Path.{ap}
 use lib.ListN.{get_or}
 use Rattle.rules.specs.Texts.{Text}
-use Rattle.columns.proofs.ListedColumns.{Bounded, bounds-at, text_at, columns-few}
+use Rattle.columns.proofs.ListedColumns.{Bounded, bounds_at, text_at, columns_few}
 use Rattle.columns.proofs.listing.column_text.Statement.{statement}
 use Rattle.columns.proofs.listing.column_text.Tie as tie
 
 few : (s : tie.Start) → s.args.line.columns ≤ 2048
-few s = columns-few _ _ _ s.requires.0
+few s = columns_few _ _ _ s.requires.0
 
 placed : (s : tie.Start) → Bounded s.args.line (get_or s.args.places.now (2 * s.args.k) 0) (get_or s.args.places.now (2 * s.args.k + 1) 0)
-placed s = bounds-at _ _ _ s.requires.0 s.args.k s.requires.1
+placed s = bounds_at _ _ _ s.requires.0 s.args.k s.requires.1
 
 returns : tie.Need-returns
 returns c = let s = c.before.before.before in ap (λ (t : Text). t.bytes) (text_at _ _ _ s.requires.0 s.args.k s.requires.1)

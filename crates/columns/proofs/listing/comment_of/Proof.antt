@@ -7,27 +7,27 @@ use mathlib.Core.Path.{◌≡◌, sym, ap, ◌∙◌}
 use lib.ListN.{length}
 use Rattle.rules.specs.Texts.{trim}
 use Rattle.rules.specs.Columns.{column, fields}
-use Rattle.columns.specs.Listing.{columnsOf, span_of}
-use Rattle.columns.proofs.FieldColumns.{fields-few, comment-behind}
-use Rattle.columns.proofs.ListedColumns.{columns-few}
+use Rattle.columns.specs.Listing.{columns_of, span_of}
+use Rattle.columns.proofs.FieldColumns.{fields_few, comment_behind}
+use Rattle.columns.proofs.ListedColumns.{columns_few}
 use Rattle.columns.proofs.listing.comment_of.Statement.{statement}
 use Rattle.columns.proofs.listing.comment_of.Tie as tie
 
 add-text-from : tie.Need-overflow-add-text-from
 add-text-from c =
-    let few = fields-few (columnsOf c.requires.0 c.args.line) in
-    omega (arith, columns-few _ _ _ c.requires.1, c.requires.1.counted, c.requires.2)
+    let few = fields_few (columns_of c.requires.0 c.args.line) in
+    omega (arith, columns_few _ _ _ c.requires.1, c.requires.1.counted, c.requires.2)
 
 text-from-requires : tie.Need-text-from-requires
 text-from-requires c κs = search rules
 
 returns : tie.Need-returns
 returns c = λ file h e.
-    let cs = columnsOf file c.before.args.line in
+    let cs = columns_of file c.before.args.line in
     let m : c.before.args.fields-count + 1 - 1 ≡ length (fields cs) = omega arith in
     c.text-from.ensures file h
     ∙ ap (λ (n : ℕ). span_of (trim (column cs n).after)) m
-    ∙ ap span_of (sym (comment-behind cs))
+    ∙ ap span_of (sym (comment_behind cs))
 
 pub comment-of-spec : {M : Type 1} → statement M
 comment-of-spec = tie.close (tie.spec add-text-from text-from-requires returns)

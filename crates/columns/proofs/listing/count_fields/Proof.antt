@@ -10,15 +10,15 @@ use native.Mathlib.Nat.{zero-add}
 use Rattle.rules.specs.Lists.{same}
 use Rattle.rules.specs.Bytes.{percents}
 use Rattle.rules.specs.Columns.{Column, fields}
-use Rattle.columns.specs.Listing.{columnsOf}
-use Rattle.columns.proofs.FieldColumns.{starts, fields-stop, fields-more, fields-end}
-use Rattle.columns.proofs.ListedColumns.{columns-few}
+use Rattle.columns.specs.Listing.{columns_of}
+use Rattle.columns.proofs.FieldColumns.{starts, fields_stop, fields_more, fields_end}
+use Rattle.columns.proofs.ListedColumns.{columns_few}
 use Rattle.columns.proofs.listing.count_fields.Statement.{statement}
 use Rattle.columns.proofs.listing.count_fields.Tie as tie
 
 abbrev invariant-loop : tie.invariant-loop
 invariant-loop file line places k₀ k =
-    (k ≤ line.columns) × (k + length (fields (drop k (columnsOf file line))) ≡ length (fields (columnsOf file line)))
+    (k ≤ line.columns) × (k + length (fields (drop k (columns_of file line))) ≡ length (fields (columns_of file line)))
 
 abbrev decreases-loop : tie.decreases-loop
 decreases-loop file line places k₀ k = line.columns - k
@@ -27,7 +27,7 @@ abbrev Asked : Type 0
 Asked = tie.After-is-twice invariant-loop decreases-loop
 
 abbrev cs : tie.Start invariant-loop decreases-loop → List Column
-cs s = columnsOf s.args.file.now s.args.line
+cs s = columns_of s.args.file.now s.args.line
 
 abbrev entry : Asked → tie.Start invariant-loop decreases-loop
 entry x = x.before.before.before.before.before.before
@@ -55,10 +55,10 @@ is-twice-requires c κs = search rules
 returns : tie.Need-returns invariant-loop decreases-loop
 returns c =
     let x = c.before in
-    sym (fields-stop (cs (entry x)) (loops x).loop.k (there x) (asked x ∙ c.if2.true)) ∙ (loops x).loop.invariant.1
+    sym (fields_stop (cs (entry x)) (loops x).loop.k (there x) (asked x ∙ c.if2.true)) ∙ (loops x).loop.invariant.1
 
 add-k : tie.Need-overflow-add-k invariant-loop decreases-loop
-add-k c = omega (arith, columns-few _ _ _ (entry c.before).pre)
+add-k c = omega (arith, columns_few _ _ _ (entry c.before).pre)
 
 loop-less : tie.Need-loop-smaller invariant-loop decreases-loop
 loop-less c = search rules
@@ -67,14 +67,14 @@ loop-again : tie.Need-loop-preserved invariant-loop decreases-loop
 loop-again c =
     let x = c.before in (
       omega (arith, x.before.before.if1.true),
-      sym (fields-more (cs (entry x)) (loops x).loop.k (there x) (asked x ∙ c.if2.false)) ∙ (loops x).loop.invariant.1,
+      sym (fields_more (cs (entry x)) (loops x).loop.k (there x) (asked x ∙ c.if2.false)) ∙ (loops x).loop.invariant.1,
     )
 
 returns-2 : tie.Need-returns-2 invariant-loop decreases-loop
 returns-2 c =
     let l = c.before.before in
     let s = l.before.before in
-    sym (fields-end (cs s) l.loop.k (omega (arith, c.if1.false, s.requires.counted))) ∙ l.loop.invariant.1
+    sym (fields_end (cs s) l.loop.k (omega (arith, c.if1.false, s.requires.counted))) ∙ l.loop.invariant.1
 
 pub count-fields-spec : {M : Type 1} → statement M
 count-fields-spec =

@@ -6,10 +6,10 @@ use Prim.Native.Nat.{ℕ, ◌+◌, ◌-◌, ◌*◌, ◌≤◌, ◌<◌}
 use mathlib.Core.Path.{◌≡◌, sym, ◌∙◌}
 use mathlib.Core.List.{List}
 use lib.ListN.{length, length-set}
-use Rattle.columns.specs.Cursors.{nextColumn}
+use Rattle.columns.specs.Cursors.{next_column}
 use Rattle.columns.specs.declared.Cursor.{Cursor}
 use Rattle.columns.specs.declared.Column.TheVariants.{Found}
-use Rattle.columns.proofs.Walks.{Walking, walking_start, walking-end, walking-bounds, walking-leaps, walking-room, walking-next}
+use Rattle.columns.proofs.Walks.{Walking, walking_start, walking_end, walking_bounds, walking_leaps, walking_room, walking_next}
 use Rattle.columns.proofs.listing.walk_columns.Statement.{statement}
 use Rattle.columns.proofs.listing.walk_columns.Tie as tie
 
@@ -48,17 +48,17 @@ end k = k.before.step.given.0.1.0
 abbrev behind : Kept → Cursor
 behind k = k.before.step.given.0.1.1.0
 
-found : (k : Kept) → nextColumn (line (entry k)) (entry k).before.loop.cursor.at ≡ Found (first k) (end k) (behind k)
+found : (k : Kept) → next_column (line (entry k)) (entry k).before.loop.cursor.at ≡ Found (first k) (end k) (behind k)
 found k = sym (entry k).next.ensures ∙ k.before.step.given.1
 
 reach : (k : Kept) → ((entry k).before.loop.cursor.at ≤ first k) × (first k < end k) × (end k ≤ length (line (entry k)))
-reach k = walking-bounds _ _ _ _ _ _ _ (walking (entry k)) _ _ _ (found k)
+reach k = walking_bounds _ _ _ _ _ _ _ (walking (entry k)) _ _ _ (found k)
 
 leaps : (k : Kept) → (behind k).at ≡ end k
-leaps k = walking-leaps _ _ _ _ _ _ _ (walking (entry k)) _ _ _ (found k)
+leaps k = walking_leaps _ _ _ _ _ _ _ (walking (entry k)) _ _ _ (found k)
 
 room : (k : Kept) → 2 * (entry k).before.loop.count + 1 < 4096
-room k = walking-room _ _ _ _ _ _ _ (walking (entry k)) _ _ _ (found k)
+room k = walking_room _ _ _ _ _ _ _ (walking (entry k)) _ _ _ (found k)
 
 new-requires : tie.Need-new-requires invariant-loop decreases-loop
 new-requires c κs = search rules
@@ -83,7 +83,7 @@ same_length c = (walking c.before.before).kept ∙ sym (walking c.before.before)
 returns : tie.Need-returns invariant-loop decreases-loop
 returns c =
     let x = c.before.before in
-    walking-end _ _ _ _ _ _ _ (walking x) (sym x.next.ensures ∙ c.enum_told.given.1)
+    walking_end _ _ _ _ _ _ _ (walking x) (sym x.next.ensures ∙ c.enum_told.given.1)
 
 add-places : tie.Need-overflow-add-places invariant-loop decreases-loop
 add-places c = omega (arith, reach c)
@@ -125,7 +125,7 @@ loop-less : tie.Need-loop-smaller invariant-loop decreases-loop
 loop-less c = omega (arith, reach c, leaps c)
 
 loop-again : tie.Need-loop-preserved invariant-loop decreases-loop
-loop-again c = walking-next _ _ _ _ _ _ _ (walking (entry c)) _ _ _ (found c)
+loop-again c = walking_next _ _ _ _ _ _ _ (walking (entry c)) _ _ _ (found c)
 
 pub walk-columns-spec : {M : Type 1} → statement M
 walk-columns-spec =

@@ -42,9 +42,9 @@ use denote.Triple.Table.{entered, cited}
 use denote.Triple.Walked.{says, needs, Stays, stay_none, stay_none_ref, gave_slice, walk_of, Goes-none, Goes-none_ref, Goes-gave_slice, Walks, ends_at, walked, walk_Meets}
 use denote.Exit.{yes}
 use denote.Triple.Clauses.{ensured, lasts}
-use Rattle.rules.specs.Bytes.{classTable}
-use Rattle.rules.specs.Numbers.{lineLimit, fileLimit}
-use Rattle.rules.specs.Columns.{columnsFrom}
+use Rattle.rules.specs.Bytes.{class_table}
+use Rattle.rules.specs.Numbers.{line_limit, file_limit}
+use Rattle.rules.specs.Columns.{columns_from}
 use Rattle.columns.specs.Splices.{splice}
 use Rattle.columns.specs.Listing.{places_of}
 use Rattle.columns.specs.declared.reader.Reader.{Reader}
@@ -71,10 +71,10 @@ stayed = (stay_none B yes, (stay_none (λ _. usize) yes, (stay_none_ref (1 ∷ [
 
 -- what is asked and what is said, of a reader and of the function that it is handed to alike
 abbrev Asked : Reader → ℕ → List ℕ → List ℕ → Type 0
-Asked d n table ys = (table ≡ classTable) × (length d.line.now ≤ lineLimit) × (n + length d.line.now ≤ fileLimit) × (d.at ≤ length d.line.now) × (length ys ≡ 4096)
+Asked d n table ys = (table ≡ class_table) × (length d.line.now ≤ line_limit) × (n + length d.line.now ≤ file_limit) × (d.at ≤ length d.line.now) × (length ys ≡ 4096)
 
 abbrev Said : Reader → ℕ → List ℕ → ℕ → List ℕ → Type 0
-Said d n ys r zs = (r ≡ length (columnsFrom (n + d.at) (drop d.at d.line.now))) × (zs ≡ splice 0 (places_of (columnsFrom (n + d.at) (drop d.at d.line.now))) ys)
+Said d n ys r zs = (r ≡ length (columns_from (n + d.at) (drop d.at d.line.now))) × (zs ≡ splice 0 (places_of (columns_from (n + d.at) (drop d.at d.line.now))) ys)
 
 -- the contract that the proof cites
 abbrev Walk : {M : Type 1} {𝓤 : Ura M} (𝓛 : Logic 𝓤) (mem : Memory → SProp 𝓤) (run : Routine → Fun 𝓤) → Contract 𝓤

@@ -41,9 +41,9 @@ use denote.Triple.Table.{entered, cited}
 use denote.Triple.Walked.{says, needs, Stays, stay_none, stay_none_ref, stay_none_slice, gave_slice, walk_of, Goes-none, Goes-none_ref, Goes-none_slice, Goes-gave_slice, Walks, ends_at, walked, walk_Meets}
 use denote.Exit.{yes}
 use denote.Triple.Clauses.{ensured, lasts}
-use Rattle.rules.specs.Bytes.{classTable}
-use Rattle.rules.specs.Numbers.{lineLimit, fileLimit}
-use Rattle.rules.specs.Columns.{columnsFrom}
+use Rattle.rules.specs.Bytes.{class_table}
+use Rattle.rules.specs.Numbers.{line_limit, file_limit}
+use Rattle.rules.specs.Columns.{columns_from}
 use Rattle.columns.specs.Splices.{splice}
 use Rattle.columns.specs.Listing.{places_of}
 use Rattle.columns.specs.declared.reader.Reader.{Reader}
@@ -70,10 +70,10 @@ stayed = (stay_none_slice (0 ∷ []) tt (plain (λ _. u8)) yes, (stay_none (λ _
 
 -- what is asked, and what is said of columns from a place on
 abbrev Asked : List ℕ → ℕ → List ℕ → List ℕ → Type 0
-Asked bs n table ys = (table ≡ classTable) × (length bs ≤ lineLimit) × (n + length bs ≤ fileLimit) × (length ys ≡ 4096)
+Asked bs n table ys = (table ≡ class_table) × (length bs ≤ line_limit) × (n + length bs ≤ file_limit) × (length ys ≡ 4096)
 
 abbrev Said : List ℕ → ℕ → List ℕ → ℕ → List ℕ → Type 0
-Said bs n ys r zs = (r ≡ length (columnsFrom n bs)) × (zs ≡ splice 0 (places_of (columnsFrom n bs)) ys)
+Said bs n ys r zs = (r ≡ length (columns_from n bs)) × (zs ≡ splice 0 (places_of (columns_from n bs)) ys)
 
 -- the contract that the proof cites
 abbrev All : {M : Type 1} {𝓤 : Ura M} (𝓛 : Logic 𝓤) (mem : Memory → SProp 𝓤) (run : Routine → Fun 𝓤) → Contract 𝓤

@@ -8,30 +8,30 @@ use lib.ListN.{length}
 use Rattle.rules.specs.Lists.{same}
 use Rattle.rules.specs.Bytes.{percents}
 use Rattle.rules.specs.Columns.{Column}
-use Rattle.columns.specs.Listing.{columnsOf}
-use Rattle.headings.proofs.BosLines.{whole-short, whole-five, whole-more}
+use Rattle.columns.specs.Listing.{columns_of}
+use Rattle.headings.proofs.BosLines.{whole_short, whole_five, whole_more}
 use Rattle.headings.proofs.bos.has_columns.Statement.{statement}
 use Rattle.headings.proofs.bos.has_columns.Tie as tie
 
 abbrev cols : tie.After-struct-known → List Column
-cols x = columnsOf x.before.before.args.file.now x.before.before.args.line
+cols x = columns_of x.before.before.args.file.now x.before.before.args.line
 
 returns : tie.Need-returns
 returns c =
     let h : length (cols c.before) < 5 = omega arith in
-    sym (whole-short (cols c.before) h)
+    sym (whole_short (cols c.before) h)
 
 returns-2 : tie.Need-returns-2
 returns-2 c =
     let x = c.before.before.before in
     let h : length (cols x) ≡ 5 = omega arith in
-    sym (whole-five (cols x) h)
+    sym (whole_five (cols x) h)
 
 returns-3 : tie.Need-returns-3
 returns-3 c =
     let x = c.before.before.before.before.before in
     let h : 5 < length (cols x) = omega arith in
-    c.is-twice.ensures ∙ ap (λ (t : List ℕ). same t percents) c.before.column-text.ensures ∙ sym (whole-more (cols x) h)
+    c.is-twice.ensures ∙ ap (λ (t : List ℕ). same t percents) c.before.column-text.ensures ∙ sym (whole_more (cols x) h)
 
 pub has-columns-spec : {M : Type 1} → statement M
 has-columns-spec =

@@ -6,17 +6,17 @@ use mathlib.Core.Bool.{true, false}
 use mathlib.Core.List.{List}
 use borrow.Author.Tests.{not-true, not-false}
 use Rattle.rules.specs.Tables.{Tables, origins, editors, present}
-use Rattle.rules.specs.Sentences.{knownEditor}
-use Rattle.table_sheet.specs.SheetRows.{tablesIn}
+use Rattle.rules.specs.Sentences.{known_editor}
+use Rattle.table_sheet.specs.SheetRows.{tables_in}
 use Rattle.seen.specs.Bits.{bit_at}
-use Rattle.steps.specs.Faults.{faultIn}
-use Rattle.headings.specs.Headings.{judgedHeading}
+use Rattle.steps.specs.Faults.{fault_in}
+use Rattle.headings.specs.Headings.{judged_heading}
 use Rattle.headings.proofs.bos.judge_cited.Statement.{statement}
 use Rattle.headings.proofs.bos.judge_cited.Tie as tie
 
 module _ (file : List ℕ) where
   abbrev tables : tie.After-shared-slice-known2 → Tables
-  tables x = tablesIn file x.before.before.args.sheet.now
+  tables x = tables_in file x.before.before.args.sheet.now
 
   with-origins : (e : tie.Else1) → present origins (tables e.before.before) ≡ true
   with-origins e = sym (e.before.is-present.ensures file) ∙ not-false e.before.is-present.result e.if1.false
@@ -25,7 +25,7 @@ module _ (file : List ℕ) where
   with-editors e = sym (e.before.is-present2.ensures file) ∙ not-false e.before.is-present2.result e.if2.false
 
   editor-known : (e : tie.Else4) → let x = e.before.before.before.before.before.before.before.before in
-      knownEditor (tables x) x.before.before.args.said.editor1 ≡ true
+      known_editor (tables x) x.before.before.args.said.editor1 ≡ true
   editor-known e = sym (e.before.knows-editor.ensures file) ∙ not-false e.before.knows-editor.result e.if4.false
 
 unused : (e : tie.Else3) → let x = e.before.before.before.before.before.before in
@@ -33,26 +33,26 @@ unused : (e : tie.Else3) → let x = e.before.before.before.before.before.before
 unused e = sym e.before.has.ensures ∙ e.if3.false
 
 returns : tie.Need-returns
-unfolding judgedHeading faultIn
+unfolding judged_heading fault_in
 returns c file listed =
     let w = c.before.before in
     rw (sym (w.is-present.ensures file) ∙ not-true w.is-present.result c.before.if1.true) c.refused.ensures
 
 returns-2 : tie.Need-returns-2
-unfolding judgedHeading faultIn
+unfolding judged_heading fault_in
 returns-2 c file listed =
     let w = c.before.before in
     rw (with-origins file w.before, sym (w.is-present2.ensures file) ∙ not-true w.is-present2.result c.before.if2.true) c.refused2.ensures
 
 returns-3 : tie.Need-returns-3
-unfolding judgedHeading faultIn
+unfolding judged_heading fault_in
 returns-3 c file listed =
     let w = c.before.before in
     let e2 = w.before in
     rw (with-origins file e2.before.before, with-editors file e2, sym w.has.ensures ∙ c.before.if3.true) c.refused3.ensures
 
 returns-4 : tie.Need-returns-4
-unfolding judgedHeading faultIn
+unfolding judged_heading fault_in
 returns-4 c file listed =
     let w = c.before.before in
     let e3 = w.before in
@@ -61,7 +61,7 @@ returns-4 c file listed =
     (c.refused-at.ensures file listed)
 
 returns-5 : tie.Need-returns-5
-unfolding judgedHeading faultIn
+unfolding judged_heading fault_in
 returns-5 c file listed =
     let w = c.before.before in
     let e4 = w.before in
@@ -71,7 +71,7 @@ returns-5 c file listed =
     (c.refused-at2.ensures file listed)
 
 returns-6 : tie.Need-returns-6
-unfolding judgedHeading faultIn
+unfolding judged_heading fault_in
 returns-6 c file listed =
     let w = c.before in
     let e4 = w.before in

@@ -1,14 +1,14 @@
 -- `judging::kinds::starts_word` meets its contract.
 use borrow.Author.Rules.{rules}
 use mathlib.Core.Path.{sym, ◌∙◌}
-use Rattle.judging.proofs.FirstColumns.{word-hash, word_row}
+use Rattle.judging.proofs.FirstColumns.{word_hash, word_row}
 use Rattle.judging.proofs.kinds.starts_word.Statement.{statement}
 use Rattle.judging.proofs.kinds.starts_word.Tie as tie
 
 returns : tie.Need-returns
 returns c =
     let s = c.before in
-    λ n. sym (word-hash n s.before.before.before.args.first.now (sym s.same_text.ensures ∙ c.if1.true))
+    λ n. sym (word_hash n s.before.before.before.args.first.now (sym s.same_text.ensures ∙ c.if1.true))
 
 returns-2 : tie.Need-returns-2
 returns-2 c =

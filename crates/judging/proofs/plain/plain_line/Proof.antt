@@ -3,7 +3,7 @@ use borrow.Author.Rules.{rules}
 use mathlib.Core.Path.{◌≡◌, subst}
 use Rattle.judging.specs.Judging.{Judgeable}
 use Rattle.judging.specs.declared.state.Phase.{Phase}
-use Rattle.judging.proofs.PlainTakings.{plain-judged}
+use Rattle.judging.proofs.PlainTakings.{plain_judged}
 use Rattle.judging.proofs.plain.plain_line.Statement.{statement}
 use Rattle.judging.proofs.plain.plain_line.Tie as tie
 
@@ -21,7 +21,7 @@ returns-4 : tie.Need-returns-4
 returns-4 c seen =
     let k = c.before.before in
     let a = k.before.before.before.before.args in
-    plain-judged a.file.now a.line a.s a.sheet.now seen a.marks.now _ c.plain-node.result k.phase.given.1 (c.plain-node.ensures a.s.format)
+    plain_judged a.file.now a.line a.s a.sheet.now seen a.marks.now _ c.plain-node.result k.phase.given.1 (c.plain-node.ensures a.s.format)
 
 pub plain-line-spec : {M : Type 1} → statement M
 plain-line-spec =

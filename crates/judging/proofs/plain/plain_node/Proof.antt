@@ -3,7 +3,7 @@ use borrow.Author.Rules.{rules}
 use native.Mathlib.Omega.{arith}
 use Prim.Native.Nat.{◌+◌}
 use lib.ListN.{get_or}
-use Rattle.columns.proofs.ListedColumns.{Bounded, bounds-at}
+use Rattle.columns.proofs.ListedColumns.{Bounded, bounds_at}
 use Rattle.judging.specs.PlainStarts.{StartsPlain}
 use Rattle.judging.proofs.plain.plain_node.Statement.{statement}
 use Rattle.judging.proofs.plain.plain_node.Tie as tie
@@ -16,7 +16,7 @@ abbrev start : tie.After-shared-slice-known3 → tie.Start
 start c = five c.before.before.before
 
 placed : (c : tie.Else1) → Bounded (five c).args.line (get_or (five c).args.places.now 0 0) (get_or (five c).args.places.now 1 0)
-placed c = bounds-at _ _ _ (five c).requires.0 0 (omega (arith, c.if1.false))
+placed c = bounds_at _ _ _ (five c).requires.0 0 (omega (arith, c.if1.false))
 
 starts : (c : tie.After-shared-slice-known3) → StartsPlain (start c).args.file.now (start c).args.line (start c).args.places.now
 starts c = record { listed = (start c).requires.0; five = c.before.before.before.if1.false; here = c.before.if2.false }

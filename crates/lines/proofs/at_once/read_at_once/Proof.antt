@@ -7,8 +7,8 @@ use mathlib.Core.Path.{◌≡◌, refl, sym, ◌∙◌}
 use mathlib.Core.List.{List}
 use lib.Bits.{bit_xor}
 use lib.ListN.{length, get_or, set, length-set}
-use Rattle.rules.specs.Numbers.{lineLimit}
-use Rattle.lines.proofs.Passing.{Passing, passing-start, few-kept, inside-few, passing-next, passing-end, passing-outside, room-inside, passing-inside}
+use Rattle.rules.specs.Numbers.{line_limit}
+use Rattle.lines.proofs.Passing.{Passing, passing_start, few_kept, inside_few, passing_next, passing_end, passing_outside, room_inside, passing_inside}
 use Rattle.lines.proofs.at_once.read_at_once.Statement.{statement}
 use Rattle.lines.proofs.at_once.read_at_once.Tie as tie
 
@@ -53,17 +53,17 @@ byte t = get_or (file (here t)) (at t) 0
 below : (t : Byte) → at t < length (file (here t))
 below t = omega (arith, t.before.before.loop-test.taken, (here t).before.last-place.ensures)
 
-short : (t : Byte) → at t < from (here t) + lineLimit
+short : (t : Byte) → at t < from (here t) + line_limit
 short t = omega (arith, t.before.before.loop-test.taken, (here t).before.last-place.ensures)
 
 is_byte : (t : Byte) → byte t < 256
 is_byte t = omega (arith, t.before.shared-slice-known2.given (at t))
 
 few : (t : Byte) → (here t).loop.kept < 4096
-few t = few-kept (file (here t)) (from (here t)) _ (at t) _ _ (passing (here t)) (below t) (short t)
+few t = few_kept (file (here t)) (from (here t)) _ (at t) _ _ (passing (here t)) (below t) (short t)
 
 bit : (t : Byte) → (here t).loop.inside ≤ 1
-bit t = inside-few (file (here t)) (from (here t)) _ (at t) _ _ (passing (here t)) (below t) (short t)
+bit t = inside_few (file (here t)) (from (here t)) _ (at t) _ _ (passing (here t)) (below t) (short t)
 
 -- a byte that is not illegal
 abbrev Legal : Type 0
@@ -77,12 +77,12 @@ next : (c : Legal)
     × Passing (file (here c.before)) (from (here c.before)) (set (here c.before).loop.places (here c.before).loop.kept (at c.before)) (at c.before + 1) ((here c.before).loop.kept + bit_xor (solid c) (here c.before).loop.inside) (solid c)
 next c =
     let t = c.before in
-    passing-next (file (here t)) (from (here t)) _ (at t) _ _ (passing (here t)) (below t) (short t) (is_byte t) _ t.class_of.ensures c.if1.false
+    passing_next (file (here t)) (from (here t)) _ (at t) _ _ (passing (here t)) (below t) (short t) (is_byte t) _ t.class_of.ensures c.if1.false
 
 loop-holds : tie.Need-loop-init invariant-loop decreases-loop
 loop-holds c =
     let s = c.before.before.before in
-    (c.last-place.ensures.0, passing-start s.args.file.now s.args.from s.args.places.now s.requires.3)
+    (c.last-place.ensures.0, passing_start s.args.file.now s.args.from s.args.places.now s.requires.3)
 
 shared-slice-read-b : tie.Need-shared-slice-read-b invariant-loop decreases-loop
 shared-slice-read-b c =
@@ -119,7 +119,7 @@ returns-2 c =
     let t = x.before.before in
     let l = here t in
     rw c.line-between.ensures
-    (passing-end (file l) (from l) _ (at t) _ _ (passing l) (below t) (omega (arith, short t)) x.if2.false (start l).pre.2 (short t) _ refl)
+    (passing_end (file l) (from l) _ (at t) _ _ (passing l) (below t) (omega (arith, short t)) x.if2.false (start l).pre.2 (short t) _ refl)
 
 cast-kept : tie.Need-overflow-cast-kept invariant-loop decreases-loop
 cast-kept c = omega (arith, (next c).0)
@@ -146,14 +146,14 @@ there c = c.before.before.before.before
 inside-file : (c : Left) → (there c).loop.at < length (file (there c))
 inside-file c = omega (arith, c.before.before.if3.false)
 
-fits : (c : Left) → (there c).loop.at ≤ from (there c) + lineLimit
+fits : (c : Left) → (there c).loop.at ≤ from (there c) + line_limit
 fits c = omega (arith, (there c).loop.invariant.0, (there c).before.last-place.ensures)
 
 room : (c : tie.Else5 invariant-loop decreases-loop) → (there c.before).loop.kept < 4096
 room c =
     let x = c.before in
     let l = there x in
-    room-inside (file l) (from l) _ l.loop.at _ _ (passing l) (inside-file x) (fits x) x.if4.false (start l).pre.2 c.if5.false
+    room_inside (file l) (from l) _ l.loop.at _ _ (passing l) (inside-file x) (fits x) x.if4.false (start l).pre.2 c.if5.false
 
 shared-slice-read-if4 : tie.Need-shared-slice-read-if4 invariant-loop decreases-loop
 shared-slice-read-if4 c = omega (arith, c.before.if3.false)
@@ -163,7 +163,7 @@ returns-5 c =
     let x = c.before.before in
     let l = there x in
     rw c.line-between2.ensures
-    (passing-outside (file l) (from l) _ l.loop.at _ _ (passing l) (inside-file x) (fits x) x.if4.false (start l).pre.2 c.before.if5.true _ refl)
+    (passing_outside (file l) (from l) _ l.loop.at _ _ (passing l) (inside-file x) (fits x) x.if4.false (start l).pre.2 c.before.if5.true _ refl)
 
 cast-places-2 : tie.Need-overflow-cast-places-2 invariant-loop decreases-loop
 cast-places-2 c = omega (arith, inside-file c.before, (start (there c.before)).pre.2)
@@ -176,7 +176,7 @@ returns-6 c =
     let x = c.before.before in
     let l = there x in
     rw c.line-between3.ensures
-    (passing-inside (file l) (from l) _ l.loop.at _ _ (passing l) (inside-file x) (fits x) x.if4.false (start l).pre.2 c.before.if5.false _ refl)
+    (passing_inside (file l) (from l) _ l.loop.at _ _ (passing l) (inside-file x) (fits x) x.if4.false (start l).pre.2 c.before.if5.false _ refl)
 
 pub read-at-once-spec : {M : Type 1} → statement M
 read-at-once-spec =

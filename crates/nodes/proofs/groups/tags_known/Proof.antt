@@ -4,9 +4,9 @@ use mathlib.Core.Path.{◌≡◌, sym, ◌∙◌}
 use Prim.Native.Nat.{ℕ}
 use borrow.Author.Tests.{not-true, not-false}
 use lib.ListN.{drop}
-use Rattle.rules.specs.Nodes.{tagsKnown}
-use Rattle.table_sheet.specs.SheetRows.{tablesIn}
-use Rattle.steps.specs.Faults.{faultIn}
+use Rattle.rules.specs.Nodes.{tags_known}
+use Rattle.table_sheet.specs.SheetRows.{tables_in}
+use Rattle.steps.specs.Faults.{fault_in}
 use Rattle.nodes.specs.NodeLines.{fields_of, Whole}
 use Rattle.nodes.proofs.ListedFields.{first_of}
 use Rattle.nodes.proofs.Judgements.{stops, passes}
@@ -17,13 +17,13 @@ abbrev lined : (k : tie.After-is-known) → let s = k.before.before.before in Wh
 lined k = k.before.before.before.requires.0
 
 returns : tie.Need-returns
-unfolding tagsKnown
+unfolding tags_known
 returns c format =
     let k = c.before.before in
     c.fault-at.ensures _ _ (first_of (lined k) 1 (omega arith)) ∙ sym (stops _ _ (sym k.is_Known.ensures ∙ not-true _ c.before.if1.true))
 
 returns-2 : tie.Need-returns-2
-unfolding tagsKnown
+unfolding tags_known
 returns-2 c format =
     let k = c.before.before in
     let j = k.before.before in
@@ -32,25 +32,25 @@ returns-2 c format =
 
 -- the first two have kept the rule
 two-kept : (k : tie.After-is-known3) (format : ℕ) → let a = k.before.before.before.before.before.before.before.args in
-    faultIn (tagsKnown format (fields_of a.file.now a.line) (tablesIn a.file.now a.sheet.now) a.table) ≡ faultIn (drop 2 (tagsKnown format (fields_of a.file.now a.line) (tablesIn a.file.now a.sheet.now) a.table))
-unfolding tagsKnown
+    fault_in (tags_known format (fields_of a.file.now a.line) (tables_in a.file.now a.sheet.now) a.table) ≡ fault_in (drop 2 (tags_known format (fields_of a.file.now a.line) (tables_in a.file.now a.sheet.now) a.table))
+unfolding tags_known
 two-kept k format =
     let j = k.before.before in
     let i = j.before.before in
     passes _ _ (sym i.is_Known.ensures ∙ not-false _ j.before.if1.false) ∙ passes _ _ (sym j.is-known2.ensures ∙ not-false _ k.before.if2.false)
 
 returns-3 : tie.Need-returns-3
-unfolding tagsKnown
+unfolding tags_known
 returns-3 c format =
     let k = c.before.before in
     c.fault-at3.ensures _ _ (first_of (lined k.before.before.before.before) 3 (omega arith))
     ∙ sym (two-kept k format ∙ stops _ _ (sym k.is-known3.ensures ∙ not-true _ c.before.if3.true))
 
 returns-4 : tie.Need-returns-4
-unfolding tagsKnown
+unfolding tags_known
 returns-4 c format =
     let k = c.before.before in
-    c.labels-known.ensures ∙ sym (two-kept k format ∙ passes _ _ (sym k.is-known3.ensures ∙ not-false _ c.before.if3.false))
+    c.labels_known.ensures ∙ sym (two-kept k format ∙ passes _ _ (sym k.is-known3.ensures ∙ not-false _ c.before.if3.false))
 
 pub tags-known-spec : {M : Type 1} → statement M
 tags-known-spec = tie.close (tie.spec (λ c κs. search rules) (λ c κs. search rules) returns (λ c κs. search rules) (λ c κs. search rules) returns-2 (λ c κs. search rules) (λ c κs. search rules) returns-3 (λ c κs. search rules) returns-4)

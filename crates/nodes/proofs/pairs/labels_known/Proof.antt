@@ -2,14 +2,14 @@ use borrow.Author.Rules.{rules}
 use mathlib.Core.Path.{sym, ◌∙◌}
 use Prim.Native.Nat.{◌-◌}
 use borrow.Author.Tests.{not-true, not-false}
-use Rattle.table_sheet.specs.SheetRows.{tablesIn}
-use Rattle.nodes.specs.NodeLines.{fields_of, labelKnown}
-use Rattle.nodes.proofs.PairWalks.{Along, label-field, along-start, along-more, along-stop, along-end}
+use Rattle.table_sheet.specs.SheetRows.{tables_in}
+use Rattle.nodes.specs.NodeLines.{fields_of, label_known}
+use Rattle.nodes.proofs.PairWalks.{Along, label_field, along_start, along_more, along_stop, along_end}
 use Rattle.nodes.proofs.pairs.labels_known.Statement.{statement}
 use Rattle.nodes.proofs.pairs.labels_known.Tie as tie
 
 abbrev invariant-loop : tie.invariant-loop
-invariant-loop file line places count sheet hints k₀ k = Along (labelKnown (tablesIn file sheet)) (fields_of file line) k
+invariant-loop file line places count sheet hints k₀ k = Along (label_known (tables_in file sheet)) (fields_of file line) k
 
 abbrev decreases-loop : tie.decreases-loop
 decreases-loop file line places count sheet hints k₀ k = count - k
@@ -21,17 +21,17 @@ returns : tie.Need-returns invariant-loop decreases-loop
 returns c =
     let k = c.before.before in
     let l = k.before.before in
-    c.fault-at.ensures _ _ (label-field (start l).requires.0 l.loop.invariant k.before.loop-test.true)
-    ∙ along-stop (start l).requires.0 l.loop.invariant k.before.loop-test.true (sym k.is_Known.ensures ∙ not-true _ c.before.if1.true)
+    c.fault-at.ensures _ _ (label_field (start l).requires.0 l.loop.invariant k.before.loop-test.true)
+    ∙ along_stop (start l).requires.0 l.loop.invariant k.before.loop-test.true (sym k.is_Known.ensures ∙ not-true _ c.before.if1.true)
 
 loop-again : tie.Need-loop-preserved invariant-loop decreases-loop
 loop-again c =
     let k = c.before in
     let l = k.before.before in
-    along-more (start l).requires.0 l.loop.invariant k.before.loop-test.true (sym k.is_Known.ensures ∙ not-false _ c.if1.false)
+    along_more (start l).requires.0 l.loop.invariant k.before.loop-test.true (sym k.is_Known.ensures ∙ not-false _ c.if1.false)
 
 returns-2 : tie.Need-returns-2 invariant-loop decreases-loop
-returns-2 c = let l = c.before in along-end (start l).requires.0 l.loop.invariant c.loop-test.false
+returns-2 c = let l = c.before in along_end (start l).requires.0 l.loop.invariant c.loop-test.false
 
 pub labels-known-spec : {M : Type 1} → statement M
-labels-known-spec = tie.close (tie.spec invariant-loop decreases-loop (λ c. along-start c.before.before.requires.0 _) (λ c κs. (label-field (start c.before).pre.0 c.before.loop.invariant c.loop-test.true, (start c.before).pre.1, search rules)) (λ c κs. search rules) returns (λ c. search rules) (λ c. search rules) loop-again returns-2)
+labels-known-spec = tie.close (tie.spec invariant-loop decreases-loop (λ c. along_start c.before.before.requires.0 _) (λ c κs. (label_field (start c.before).pre.0 c.before.loop.invariant c.loop-test.true, (start c.before).pre.1, search rules)) (λ c κs. search rules) returns (λ c. search rules) (λ c. search rules) loop-again returns-2)

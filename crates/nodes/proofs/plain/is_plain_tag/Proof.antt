@@ -3,16 +3,16 @@ use native.Mathlib.Omega.{arith}
 use Prim.Native.Nat.{◌+◌, ◌*◌, ◌≤◌}
 use mathlib.Core.Bool.{false≢true}
 use lib.ListN.{get_or}
-use Rattle.columns.proofs.ListedColumns.{Bounded, bounds-at, columns-few}
-use Rattle.nodes.proofs.PlainColumns.{plain-tag}
+use Rattle.columns.proofs.ListedColumns.{Bounded, bounds_at, columns_few}
+use Rattle.nodes.proofs.PlainColumns.{plain_tag}
 use Rattle.nodes.proofs.plain.is_plain_tag.Statement.{statement}
 use Rattle.nodes.proofs.plain.is_plain_tag.Tie as tie
 
 few : (s : tie.Start) → s.args.line.columns ≤ 2048
-few s = columns-few _ _ _ s.requires.0
+few s = columns_few _ _ _ s.requires.0
 
 placed : (s : tie.Start) → Bounded s.args.line (get_or s.args.places.now (2 * s.args.k) 0) (get_or s.args.places.now (2 * s.args.k + 1) 0)
-placed s = bounds-at _ _ _ s.requires.0 s.args.k s.requires.2
+placed s = bounds_at _ _ _ s.requires.0 s.args.k s.requires.2
 
 returns : tie.Need-returns
 returns c = λ e. absurd (false≢true e)
@@ -36,7 +36,7 @@ returns-3 c =
     let l = d.before.before in
     let s = l.before.before.before.before.before.before in
     λ e.
-    plain-tag _ _ _ s.requires.0 _ s.requires.2 _ _
+    plain_tag _ _ _ s.requires.0 _ s.requires.2 _ _
     (omega (arith, l.if1.false, l.before.tag-limit.ensures)) d.if2.false (c.is-surely-known.ensures e)
 
 pub is-plain-tag-spec : {M : Type 1} → statement M

@@ -4,9 +4,9 @@ use Prim.Native.Nat.{◌<◌}
 use mathlib.Core.Path.{refl, ap, ◌∙◌}
 use borrow.Author.Tests.{not-false}
 use lib.ListN.{get_or}
-use Rattle.rules.specs.Numbers.{parentNumber}
-use Rattle.columns.proofs.ListedColumns.{Bounded, bounds-at}
-use Rattle.nodes.proofs.PlainColumns.{three-bytes}
+use Rattle.rules.specs.Numbers.{parent_number}
+use Rattle.columns.proofs.ListedColumns.{Bounded, bounds_at}
+use Rattle.nodes.proofs.PlainColumns.{three_bytes}
 use Rattle.nodes.proofs.plain.plain_parent.Statement.{statement}
 use Rattle.nodes.proofs.plain.plain_parent.Tie as tie
 
@@ -14,7 +14,7 @@ there : (s : tie.Start) → 4 < s.args.line.columns
 there s = omega (arith, s.requires.2)
 
 placed : (s : tie.Start) → Bounded s.args.line (get_or s.args.places.now 8 0) (get_or s.args.places.now 9 0)
-placed s = bounds-at _ _ _ s.requires.0 4 (there s)
+placed s = bounds_at _ _ _ s.requires.0 4 (there s)
 
 three-digits-requires : tie.Need-three-digits-requires
 three-digits-requires c κs =
@@ -34,7 +34,7 @@ returns-6 c n =
       tag = tag.is-plain-tag.ensures (not-false _ morphology.before.if3.false);
       morphology = morphology.is-plain-tag2.ensures (not-false _ passed.if4.false);
       edge = edge.is-plain-tag3.ensures (not-false _ c.if5.false);
-      parent = ap parentNumber (three-bytes _ _ _ s.requires.0 4 (there s) read.before.if1.false) ∙ digits.0;
+      parent = ap parent_number (three_bytes _ _ _ s.requires.0 4 (there s) read.before.if1.false) ∙ digits.0;
       phrase = digits.2;
     }
 

@@ -9,7 +9,7 @@ use Rattle.rules.specs.Lists.{bytes, same}
 use Rattle.rules.specs.Numbers.{number}
 use Rattle.numbers.specs.Answers.{as_number, kind}
 use Rattle.numbers.specs.declared.Number.TheVariants.{Good}
-use Rattle.numbers.proofs.Signed.{signed-minus, signed-good, signed-bad, signed-fits}
+use Rattle.numbers.proofs.Signed.{signed_minus, signed_good, signed_bad, signed_fits}
 use Rattle.numbers.proofs.EditorId.read.Statement.{statement}
 use Rattle.numbers.proofs.EditorId.read.Tie as tie
 
@@ -32,7 +32,7 @@ cast-t7 : tie.Need-overflow-cast-t7
 cast-t7 c = search rules
 
 returns : tie.Need-returns
-returns c = sym (signed-minus c.before.before.before.args.s.now (sym c.before.is-minus-one.ensures ∙ c.if1.true))
+returns c = sym (signed_minus c.before.before.before.args.s.now (sym c.before.is-minus-one.ensures ∙ c.if1.true))
 
 cast-read-within : tie.Need-overflow-cast-read-within
 cast-read-within c = search rules
@@ -44,7 +44,7 @@ enum-known-read : tie.Need-enum-known-read
 enum-known-read c = search rules
 
 add-t10 : tie.Need-overflow-add-t10
-add-t10 c = omega (arith, signed-fits (column c.before.before.before) 65535 refl c.before.read.given.0.0 (read-good c))
+add-t10 c = omega (arith, signed_fits (column c.before.before.before) 65535 refl c.before.read.given.0.0 (read-good c))
 
 enum_told : tie.Need-enum-told
 enum_told c = search rules
@@ -52,12 +52,12 @@ enum_told c = search rules
 returns-2 : tie.Need-returns-2
 returns-2 c =
     let r = c.before.before.before in
-    sym (signed-good (column r) 65535 refl (other r) c.before.read.given.0.0 (read-good c))
+    sym (signed_good (column r) 65535 refl (other r) c.before.read.given.0.0 (read-good c))
 
 returns-3 : tie.Need-returns-3
 returns-3 c =
     let r = c.before.before in
-    sym (signed-bad (column r) 65535 refl (other r) (sym r.read-within.ensures ∙ c.enum_told.given.1))
+    sym (signed_bad (column r) 65535 refl (other r) (sym r.read-within.ensures ∙ c.enum_told.given.1))
 
 pub read_spec : {M : Type 1} → statement M
 read_spec =

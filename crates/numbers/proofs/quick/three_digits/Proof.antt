@@ -6,8 +6,8 @@ use Prim.Native.Nat.{ℕ, ◌+◌}
 use mathlib.Core.Path.{refl, ap, ◌∙◌}
 use mathlib.Core.List.{List}
 use lib.ListN.{get_or}
-use Rattle.rules.specs.Numbers.{phraseNumber, number, parentNumber}
-use Rattle.numbers.proofs.ThreeDigits.{ThreeDigits, three-there, from-500, to-999, three-phrase, three-parent}
+use Rattle.rules.specs.Numbers.{phrase_number, number, parent_number}
+use Rattle.numbers.proofs.ThreeDigits.{ThreeDigits, three_there, from_500, to_999, three_phrase, three_parent}
 use Rattle.numbers.proofs.quick.three_digits.Statement.{statement}
 use Rattle.numbers.proofs.quick.three_digits.Tie as tie
 
@@ -88,12 +88,12 @@ add-result-2 c = let t = three c in omega arith
 returns-4 : tie.Need-returns-4
 returns-4 c =
     let t = three c in
-    let there = three-there (file c) (place c) (omega arith) in
+    let there = three_there (file c) (place c) (omega arith) in
     λ n. (
-      ap parentNumber there ∙ three-parent (first c) (second c) (third c) t,
-      ap (number phraseNumber) there ∙ three-phrase (first c) (second c) (third c) t,
-      from-500 (first c) (second c) (third c) t,
-      to-999 (first c) (second c) (third c) t,
+      ap parent_number there ∙ three_parent (first c) (second c) (third c) t,
+      ap (number phrase_number) there ∙ three_phrase (first c) (second c) (third c) t,
+      from_500 (first c) (second c) (third c) t,
+      to_999 (first c) (second c) (third c) t,
     )
 
 pub three-digits-spec : {M : Type 1} → statement M

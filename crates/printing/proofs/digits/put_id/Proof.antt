@@ -4,7 +4,7 @@ use borrow.Author.Rules.{rules}
 use native.Mathlib.Omega.{arith}
 use Prim.Native.Nat.{suc, ◌-◌}
 use mathlib.Core.Path.{◌≡◌}
-use Rattle.printing.proofs.PutLaws.{put-wider}
+use Rattle.printing.proofs.PutLaws.{put_wider}
 use Rattle.printing.proofs.digits.put_id.Statement.{statement}
 use Rattle.printing.proofs.digits.put_id.Tie as tie
 
@@ -21,7 +21,7 @@ returns : tie.Need-returns
 returns c =
     let a = c.before.before.before.before.before.before.before.args in
     let e : a.id1 ≡ 0 = omega arith in
-    rw e (put-wider (omega arith) c.before.before.put-text.ensures)
+    rw e (put_wider (omega arith) c.before.before.put-text.ensures)
 
 sub-put-number : tie.Need-overflow-sub-put-number
 sub-put-number c = search rules

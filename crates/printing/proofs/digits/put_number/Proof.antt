@@ -4,8 +4,8 @@ use borrow.Author.Rules.{rules}
 use native.Mathlib.Omega.{arith}
 use Prim.Native.Nat.{ℕ, ◌+◌}
 use mathlib.Core.Path.{sym, ap}
-use Rattle.rules.specs.Tidy.{digitsOf}
-use Rattle.printing.proofs.OverLaws.{over-behind}
+use Rattle.rules.specs.Tidy.{digits_of}
+use Rattle.printing.proofs.OverLaws.{over_behind}
 use Rattle.printing.proofs.digits.put_number.Statement.{statement}
 use Rattle.printing.proofs.digits.put_number.Tie as tie
 
@@ -21,7 +21,7 @@ returns c =
     let n = c.before.count-digits.ensures in
     record {
       place = ap (λ (k : ℕ). a.at + k) n.0;
-      bytes = sym (over-behind a.at (digitsOf a.n) a.out.now (omega arith));
+      bytes = sym (over_behind a.at (digits_of a.n) a.out.now (omega arith));
       within = omega arith;
     }
 

@@ -7,14 +7,14 @@ use mathlib.Core.Path.{ap}
 use mathlib.Core.List.{List}
 use Rattle.rules.specs.Tidy.{commented}
 use Rattle.printing.specs.Further.{further, text_of}
-use Rattle.printing.proofs.PutLaws.{put_as, put-wider}
+use Rattle.printing.proofs.PutLaws.{put_as, put_wider}
 use Rattle.printing.proofs.fields.put_note.Statement.{statement}
 use Rattle.printing.proofs.fields.put_note.Tie as tie
 
 returns : tie.Need-returns
 returns c =
     let t = c.before.before.before.before.text_at.ensures in
-    put-wider (omega (arith, t.1))
+    put_wider (omega (arith, t.1))
     (put_as (ap (λ (x : List ℕ). further c.before.before.before.before.before.before.before.before.args.by (commented (text_of x))) t.0) c.before.before.put-comment.ensures)
 
 pub put-note-spec : {M : Type 1} → statement M

@@ -4,7 +4,7 @@ use borrow.Author.Rules.{rules}
 use native.Mathlib.Omega.{arith}
 use Prim.Native.Nat.{◌+◌, ◌-◌}
 use lib.ListN.{get_or, drop}
-use Rattle.printing.proofs.FieldLaws.{take-most, part-is}
+use Rattle.printing.proofs.FieldLaws.{take_most, part_is}
 use Rattle.printing.proofs.fields.text_at.Statement.{statement}
 use Rattle.printing.proofs.fields.text_at.Tie as tie
 
@@ -13,7 +13,7 @@ returns c =
     let a = c.before.before.before.args in
     let start = get_or a.sheet.now a.start 0 in
     let len = get_or a.sheet.now a.len 0 in
-    (part-is a.file.now start len, omega (arith, take-most (start + len - start) (drop start a.file.now), c.before.shared-slice-known2.given a.len))
+    (part_is a.file.now start len, omega (arith, take_most (start + len - start) (drop start a.file.now), c.before.shared-slice-known2.given a.len))
 
 pub text-at-spec : {M : Type 1} → statement M
 text-at-spec =

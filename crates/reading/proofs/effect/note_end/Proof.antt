@@ -9,15 +9,15 @@ use Rattle.steps.specs.declared.Step.{Step}
 use Rattle.steps.specs.declared.Step.TheVariants.{Ignored, Format, TableBegins, Row, TableEnds, SentenceBegins, Word, Phrase, SentenceEnds, Refused}
 use Rattle.steps.specs.contracts.Step.{the_type}
 use Rattle.judging.specs.declared.state.State.{State}
-use Rattle.reading.specs.Effects.{effect, notedBy}
-use Rattle.lines.proofs.Variants.{not-among}
+use Rattle.reading.specs.Effects.{effect, noted_by}
+use Rattle.lines.proofs.Variants.{not_among}
 use Rattle.reading.proofs.effect.note_end.Statement.{statement}
 use Rattle.reading.proofs.effect.note_end.Tie as tie
 
 abbrev others : List ℕ
 others = 0 ∷ 1 ∷ 2 ∷ 3 ∷ 4 ∷ 5 ∷ 6 ∷ 7 ∷ 9 ∷ []
 
-none-noted : (from : ℕ) (y : Step) (s : State) (begins : List ℕ) → OneOf others (tag_of the_type y) → begins ≡ notedBy from y s begins
+none-noted : (from : ℕ) (y : Step) (s : State) (begins : List ℕ) → OneOf others (tag_of the_type y) → begins ≡ noted_by from y s begins
 unfolding effect
 none-noted from Ignored s begins o = refl
 none-noted from (Format n) s begins o = refl
@@ -27,7 +27,7 @@ none-noted from TableEnds s begins o = refl
 none-noted from (SentenceBegins h) s begins o = refl
 none-noted from (Word n) s begins o = refl
 none-noted from (Phrase n) s begins o = refl
-none-noted from SentenceEnds s begins o = absurd (not-among 8 others refl o)
+none-noted from SentenceEnds s begins o = absurd (not_among 8 others refl o)
 none-noted from (Refused f) s begins o = refl
 
 returns : tie.Need-returns

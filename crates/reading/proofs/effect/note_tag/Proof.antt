@@ -7,26 +7,26 @@ use mathlib.Core.List.{List, [], ◌∷◌}
 use lib.ListN.{length, take, drop}
 use types.Run.{OneOf}
 use denote.Enum.Declared.{tag_of}
-use Rattle.rules.specs.Sheets.{tableCount}
-use Rattle.table_sheet.specs.Outlines.{withOutline}
+use Rattle.rules.specs.Sheets.{table_count}
+use Rattle.table_sheet.specs.Outlines.{with_outline}
 use Rattle.steps.specs.declared.Step.{Step}
 use Rattle.steps.specs.declared.Step.TheVariants.{Ignored, Format, TableBegins, Row, TableEnds, SentenceBegins, Word, Phrase, SentenceEnds, Refused}
 use Rattle.steps.specs.contracts.Step.{the_type}
-use Rattle.judging.specs.States.{tableOpen}
+use Rattle.judging.specs.States.{table_open}
 use Rattle.judging.specs.declared.state.State.{State}
-use Rattle.reading.specs.NotedTags.{outlinesBy}
-use Rattle.lines.proofs.Variants.{not-among}
+use Rattle.reading.specs.NotedTags.{outlines_by}
+use Rattle.lines.proofs.Variants.{not_among}
 use Rattle.reading.proofs.effect.note_tag.Statement.{statement}
 use Rattle.reading.proofs.effect.note_tag.Tie as tie
 
 abbrev others : List ℕ
 others = 0 ∷ 1 ∷ 2 ∷ 4 ∷ 5 ∷ 6 ∷ 7 ∷ 8 ∷ 9 ∷ []
 
-none-noted : (y : Step) (s : State) (file outlines : List ℕ) → OneOf others (tag_of the_type y) → outlines ≡ outlinesBy y s file outlines
+none-noted : (y : Step) (s : State) (file outlines : List ℕ) → OneOf others (tag_of the_type y) → outlines ≡ outlines_by y s file outlines
 none-noted Ignored s file outlines o = refl
 none-noted (Format n) s file outlines o = refl
 none-noted (TableBegins n) s file outlines o = refl
-none-noted (Row r) s file outlines o = absurd (not-among 3 others refl o)
+none-noted (Row r) s file outlines o = absurd (not_among 3 others refl o)
 none-noted TableEnds s file outlines o = refl
 none-noted (SentenceBegins h) s file outlines o = refl
 none-noted (Word n) s file outlines o = refl
@@ -42,7 +42,7 @@ abbrev row : tie.After-table-in → tie.After-step
 row t = t.before.before.before.before.before.before
 
 fits : (k : tie.After-step) → let x = k.before.before.before in let r = k.step.given.0.0 in
-    (tableOpen x.args.s.phase < tableCount) × (r.first.start + r.first.len ≤ length x.args.file.now)
+    (table_open x.args.s.phase < table_count) × (r.first.start + r.first.len ≤ length x.args.file.now)
 fits k = k.before.before.before.requires _ k.step.given.1
 
 part-note-start : tie.Need-slice-bounds-note-start
@@ -62,7 +62,7 @@ returns-2 c =
     let first = k.step.given.0.0.first in
     rw k.step.given.1
     (c.note.ensures
-    ∙ ap₂ (λ (n len : ℕ). withOutline n (take len (drop first.start a.file.now)) a.outlines.now) t.table-in.ensures
+    ∙ ap₂ (λ (n len : ℕ). with_outline n (take len (drop first.start a.file.now)) a.outlines.now) t.table-in.ensures
     (add-sub_cancel_left first.start first.len))
 
 pub note-tag-spec : {M : Type 1} → statement M

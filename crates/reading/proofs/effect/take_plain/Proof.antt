@@ -3,12 +3,12 @@ use borrow.Author.Rules.{rules}
 use mathlib.Core.Path.{◌≡◌, subst}
 use mathlib.Core.List.{[]}
 use Rattle.judging.specs.declared.plain.Plain.{Plain}
-use Rattle.reading.specs.Effects.{kept, effect, plainStep, Applicable}
+use Rattle.reading.specs.Effects.{kept, effect, plain_step, Applicable}
 use Rattle.reading.proofs.effect.take_plain.Statement.{statement}
 use Rattle.reading.proofs.effect.take_plain.Tie as tie
 
-needs-of : (d : tie.Start) (x : Plain) → d.args.plain ≡ x → Applicable (plainStep x) 0 (kept d.args.s [] [] d.args.marks.now [])
-needs-of d x e = subst (λ (y : Plain). Applicable (plainStep y) 0 (kept d.args.s [] [] d.args.marks.now [])) e d.requires
+needs-of : (d : tie.Start) (x : Plain) → d.args.plain ≡ x → Applicable (plain_step x) 0 (kept d.args.s [] [] d.args.marks.now [])
+needs-of d x e = subst (λ (y : Plain). Applicable (plain_step y) 0 (kept d.args.s [] [] d.args.marks.now [])) e d.requires
 
 with-word-requires : tie.Need-with-word-requires
 with-word-requires c κs =

@@ -6,28 +6,28 @@ use Prim.Native.Nat.{ℕ, ◌+◌, ◌-◌, ◌≤◌, ◌<◌}
 use mathlib.Core.Path.{◌≡◌, refl, ap, ◌∙◌}
 use mathlib.Core.List.{List}
 use lib.ListN.{take, drop}
-use Rattle.rules.specs.Sheets.{rowPlace}
+use Rattle.rules.specs.Sheets.{row_place}
 use Rattle.columns.specs.Splices.{splice}
 use Rattle.table_sheet.specs.TagOrders.{with_row}
 use Rattle.steps.specs.declared.RowSaid.{RowSaid}
-use Rattle.reading.specs.Effects.{sixOf}
-use Rattle.reading.specs.NotedTags.{tagSaid, hintsWith}
+use Rattle.reading.specs.Effects.{six_of}
+use Rattle.reading.specs.NotedTags.{tag_said, hints_with}
 use Rattle.reading.proofs.rows.put_row.Statement.{statement}
 use Rattle.reading.proofs.rows.put_row.Tie as tie
 
 put : (p : tie.After-put) → let a = p.before.before.before.before.before.before.before.before.args in
-    p.put.new.0 ≡ splice (rowPlace a.table a.rows) (sixOf a.row) a.sheet.now
+    p.put.new.0 ≡ splice (row_place a.table a.rows) (six_of a.row) a.sheet.now
 put p =
     let d = p.before.before in
     let a = d.before.before.before.before.before.before.args in
-    p.put.ensures ∙ ap (λ (place : ℕ). splice place (sixOf a.row) a.sheet.now) d.row-place.ensures
+    p.put.ensures ∙ ap (λ (place : ℕ). splice place (six_of a.row) a.sheet.now) d.row-place.ensures
 
 module _ (row : RowSaid) (table rows : ℕ) (file sheet hints : List ℕ) where
-  unhinted : table < 2 → hints ≡ hintsWith row table rows file sheet hints
+  unhinted : table < 2 → hints ≡ hints_with row table rows file sheet hints
   unhinted h = rw (lt-ltb table 2 h) refl
 
-  hinted : 2 ≤ table → (left tag : List ℕ) → tag ≡ tagSaid row file → left ≡ with_row hints file sheet table rows tag
-      → left ≡ hintsWith row table rows file sheet hints
+  hinted : 2 ≤ table → (left tag : List ℕ) → tag ≡ tag_said row file → left ≡ with_row hints file sheet table rows tag
+      → left ≡ hints_with row table rows file sheet hints
   hinted h left tag e l = rw (le-ltb table 2 h) (l ∙ ap (with_row hints file sheet table rows) e)
 
 returns : tie.Need-returns

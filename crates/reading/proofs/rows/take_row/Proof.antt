@@ -2,7 +2,7 @@
 use borrow.Author.Rules.{rules}
 use Prim.Native.Nat.{ℕ}
 use mathlib.Core.Path.{refl, ap₂, ◌∙◌}
-use Rattle.reading.specs.NotedTags.{hintsWith}
+use Rattle.reading.specs.NotedTags.{hints_with}
 use Rattle.reading.proofs.rows.take_row.Statement.{statement}
 use Rattle.reading.proofs.rows.take_row.Tie as tie
 
@@ -14,7 +14,7 @@ returns c =
       rw (c.moved.ensures, r.rows_in.ensures, r.before.table-in.ensures) refl,
       rw (p.put-row.ensures.0, r.rows_in.ensures, r.before.table-in.ensures) refl,
       p.put-row.ensures.1
-          ∙ ap₂ (λ (t n : ℕ). hintsWith a.row t n a.file.now p.put-row.new.1.1.1.1.0 a.hints.now)
+          ∙ ap₂ (λ (t n : ℕ). hints_with a.row t n a.file.now p.put-row.new.1.1.1.1.0 a.hints.now)
           r.before.table-in.ensures r.rows_in.ensures,
     )
 

@@ -5,7 +5,7 @@ use mathlib.Core.Path.{◌≡◌, sym, ap, ◌∙◌}
 use mathlib.Core.List.{List}
 use lib.ListN.{get_or}
 use borrow.Author.Tests.{eq-eqb, ne_eqb}
-use Rattle.reading.specs.Closing.{closingNumber}
+use Rattle.reading.specs.Closing.{closing_number}
 use Rattle.judging.specs.declared.state.Phase.{Phase}
 use Rattle.judging.specs.declared.state.Phase.TheVariants.{Top}
 use Rattle.reading.proofs.stopping.closing.Statement.{statement}
@@ -14,8 +14,8 @@ use Rattle.reading.proofs.stopping.closing.Tie as tie
 abbrev sheet : tie.After-enum-told2 → List ℕ
 sheet t = t.before.before.args.sheet.now
 
-top-is : (t : tie.After-enum-told2) {n : ℕ} → n ≡ closingNumber Top (sheet t) → n ≡ closingNumber t.before.before.args.phase (sheet t)
-top-is t q = q ∙ ap (λ (y : Phase). closingNumber y (sheet t)) (sym t.enum-told2.given.1)
+top-is : (t : tie.After-enum-told2) {n : ℕ} → n ≡ closing_number Top (sheet t) → n ≡ closing_number t.before.before.args.phase (sheet t)
+top-is t q = q ∙ ap (λ (y : Phase). closing_number y (sheet t)) (sym t.enum-told2.given.1)
 
 returns : tie.Need-returns
 returns c =

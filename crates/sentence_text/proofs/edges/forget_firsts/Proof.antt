@@ -5,16 +5,16 @@ use native.Mathlib.Omega.{arith}
 use Prim.Native.Nat.{◌+◌, ◌-◌, ◌*◌, ◌≤◌}
 use mathlib.Core.Path.{◌≡◌, refl, sym}
 use lib.ListN.{length-set, length}
-use Rattle.sentence_sheet.specs.FlatEdges.{edgeWidth}
-use Rattle.sentence_text.specs.EdgesRead.{edgeRecordAt, edgesFrom}
-use Rattle.sentence_text.proofs.ForgottenFirsts.{Forgetting, forgetting-start, forgetting-more, forgetting-end}
-use Rattle.sentence_text.proofs.EdgesAlong.{edges-cons, edges-over}
+use Rattle.sentence_sheet.specs.FlatEdges.{edge_width}
+use Rattle.sentence_text.specs.EdgesRead.{edge_record_at, edges_from}
+use Rattle.sentence_text.proofs.ForgottenFirsts.{Forgetting, forgetting_start, forgetting_more, forgetting_end}
+use Rattle.sentence_text.proofs.EdgesAlong.{edges_cons, edges_over}
 use Rattle.sentence_text.proofs.edges.forget_firsts.Statement.{statement}
 use Rattle.sentence_text.proofs.edges.forget_firsts.Tie as tie
 
 abbrev invariant-loop : tie.invariant-loop
 invariant-loop edges count firsts₀ k₀ firsts k =
-    (k ≤ count) × Forgetting (edgesFrom edges (edgeWidth * k) (count - k)) firsts × (length firsts ≡ length firsts₀)
+    (k ≤ count) × Forgetting (edges_from edges (edge_width * k) (count - k)) firsts × (length firsts ≡ length firsts₀)
 
 abbrev decreases-loop : tie.decreases-loop
 decreases-loop edges count firsts₀ k₀ firsts k = count - k
@@ -24,7 +24,7 @@ loop-holds c =
     let a = c.args in
     let n : a.count - 0 ≡ a.count = omega arith in (
       omega arith,
-      rw n (forgetting-start (edgesFrom a.edges.now 0 a.count) 0 _ c.requires.2),
+      rw n (forgetting_start (edges_from a.edges.now 0 a.count) 0 _ c.requires.2),
       refl,
     )
 
@@ -58,8 +58,8 @@ loop-again c =
     let l = c.before.before.loop in
     let k = l.k in (
       omega arith,
-      forgetting-more (edgeRecordAt a.edges.now (edgeWidth * k)) _ l.firsts (c.before.before.before.requires.3 k (omega arith))
-          (rw (sym (edges-cons a.edges.now k a.count (omega arith))) l.invariant.1),
+      forgetting_more (edge_record_at a.edges.now (edge_width * k)) _ l.firsts (c.before.before.before.requires.3 k (omega arith))
+          (rw (sym (edges_cons a.edges.now k a.count (omega arith))) l.invariant.1),
       simp length-set l.invariant.2,
     )
 
@@ -70,7 +70,7 @@ returns : tie.Need-returns invariant-loop decreases-loop
 returns c =
     let a = c.before.before.args in
     let l = c.before.loop in
-    forgetting-end l.firsts (rw (edges-over a.edges.now (edgeWidth * l.k) l.k a.count (omega arith)) at l.invariant.1)
+    forgetting_end l.firsts (rw (edges_over a.edges.now (edge_width * l.k) l.k a.count (omega arith)) at l.invariant.1)
 
 pub forget-firsts-spec : {M : Type 1} → statement M
 forget-firsts-spec =

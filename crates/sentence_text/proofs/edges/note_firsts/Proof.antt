@@ -5,16 +5,16 @@ use native.Mathlib.Omega.{arith}
 use Prim.Native.Nat.{suc, ◌+◌, ◌-◌, ◌*◌, ◌≤◌}
 use mathlib.Core.Path.{◌≡◌, refl}
 use lib.ListN.{length-set, length}
-use Rattle.sentence_sheet.specs.FlatEdges.{edgeWidth}
-use Rattle.sentence_text.specs.EdgesRead.{edgeRecordAt, edgesFrom, Firsts}
-use Rattle.sentence_text.proofs.FirstEdges.{firsts-none, firsts_more}
-use Rattle.sentence_text.proofs.EdgesAlong.{edges-cons, edges-over}
+use Rattle.sentence_sheet.specs.FlatEdges.{edge_width}
+use Rattle.sentence_text.specs.EdgesRead.{edge_record_at, edges_from, Firsts}
+use Rattle.sentence_text.proofs.FirstEdges.{firsts_none, firsts_more}
+use Rattle.sentence_text.proofs.EdgesAlong.{edges_cons, edges_over}
 use Rattle.sentence_text.proofs.edges.note_firsts.Statement.{statement}
 use Rattle.sentence_text.proofs.edges.note_firsts.Tie as tie
 
 abbrev invariant-loop : tie.invariant-loop
 invariant-loop edges count firsts₀ left₀ firsts left =
-    (left ≤ count) × Firsts (edgesFrom edges (edgeWidth * left) (count - left)) left firsts × (length firsts ≡ length firsts₀)
+    (left ≤ count) × Firsts (edges_from edges (edge_width * left) (count - left)) left firsts × (length firsts ≡ length firsts₀)
 
 abbrev decreases-loop : tie.decreases-loop
 decreases-loop edges count firsts₀ left₀ firsts left = left
@@ -23,7 +23,7 @@ loop-holds : tie.Need-loop-init invariant-loop decreases-loop
 loop-holds c =
     let a = c.args in (
       omega arith,
-      rw (edges-over a.edges.now (edgeWidth * a.count) a.count a.count (omega arith), c.requires.2) (firsts-none a.count),
+      rw (edges_over a.edges.now (edge_width * a.count) a.count a.count (omega arith), c.requires.2) (firsts_none a.count),
       refl,
     )
 
@@ -62,8 +62,8 @@ loop-again c =
     let up : k + 1 ≡ l.left = omega arith in
     let sup : suc k ≡ l.left = omega arith in (
       omega arith,
-      rw (edges-cons a.edges.now k a.count (omega arith), up)
-          (firsts_more (edgeRecordAt a.edges.now (edgeWidth * k)) _ k l.firsts (c.before.before.before.requires.3 k (omega arith)) (rw sup l.invariant.1)),
+      rw (edges_cons a.edges.now k a.count (omega arith), up)
+          (firsts_more (edge_record_at a.edges.now (edge_width * k)) _ k l.firsts (c.before.before.before.requires.3 k (omega arith)) (rw sup l.invariant.1)),
       simp length-set l.invariant.2,
     )
 

@@ -2,8 +2,8 @@
 -- No loop.
 use borrow.Author.Rules.{rules}
 use native.Mathlib.Omega.{arith}
-use Rattle.sentence_text.proofs.EdgesAlong.{edge-text}
-use Rattle.printing.proofs.PutLaws.{put_then, put_as, put-wider}
+use Rattle.sentence_text.proofs.EdgesAlong.{edge_text}
+use Rattle.printing.proofs.PutLaws.{put_then, put_as, put_wider}
 use Rattle.sentence_text.proofs.edges.put_edge.Statement.{statement}
 use Rattle.sentence_text.proofs.edges.put_edge.Tie as tie
 
@@ -33,7 +33,7 @@ same_length c = search rules
 
 returns : tie.Need-returns
 returns c =
-    put-wider (omega arith) (put_as (edge-text c.before.before.before.before.before.before.before.before.before.before.before.before.args.file.now c.before.before.before.before.before.before.before.before.before.before.before.before.args.edges.now c.before.before.before.before.before.before.before.before.before.before.before.before.args.place) (put_then c.before.before.before.before.before.before.before.put-field.ensures c.before.before.put-number-column.ensures))
+    put_wider (omega arith) (put_as (edge_text c.before.before.before.before.before.before.before.before.before.before.before.before.args.file.now c.before.before.before.before.before.before.before.before.before.before.before.before.args.edges.now c.before.before.before.before.before.before.before.before.before.before.before.before.args.place) (put_then c.before.before.before.before.before.before.before.put-field.ensures c.before.before.put-number-column.ensures))
 
 pub put-edge-spec : {M : Type 1} → statement M
 put-edge-spec =

@@ -3,8 +3,8 @@
 use borrow.Author.Rules.{rules}
 use native.Mathlib.Omega.{arith}
 use Prim.Native.Nat.{◌-◌}
-use Rattle.printing.proofs.PutLaws.{put-wider, put-length}
-use Rattle.sentence_text.proofs.EdgesAlong.{Going, going_start, going_next, going-stop, going_end}
+use Rattle.printing.proofs.PutLaws.{put_wider, put_length}
+use Rattle.sentence_text.proofs.EdgesAlong.{Going, going_start, going_next, going_stop, going_end}
 use Rattle.sentence_text.proofs.edges.put_edges.Statement.{statement}
 use Rattle.sentence_text.proofs.edges.put_edges.Tie as tie
 
@@ -29,13 +29,13 @@ shared-slice-read-if1 : tie.Need-shared-slice-read-if1 invariant-loop decreases-
 shared-slice-read-if1 c = omega (arith, (c.before.before.before.before.before.before.requires.0 c.before.before.loop.k (omega arith)).room)
 
 same_length : tie.Need-same-length invariant-loop decreases-loop
-same_length c = put-length c.before.before.before.loop.invariant.put
+same_length c = put_length c.before.before.before.loop.invariant.put
 
 returns : tie.Need-returns invariant-loop decreases-loop
 returns c =
     let a = c.before.before.before.before.before.before.before.args in
     let l = c.before.before.before.loop in
-    put-wider (omega (arith, l.invariant.to)) (going-stop a.file.now a.edges.now a.node a.first a.count a.at a.out.now l.k l.end l.out l.invariant (omega arith) (λ z. omega (arith, z)))
+    put_wider (omega (arith, l.invariant.to)) (going_stop a.file.now a.edges.now a.node a.first a.count a.at a.out.now l.k l.end l.out l.invariant (omega arith) (λ z. omega (arith, z)))
 
 put-edge-requires : tie.Need-put-edge-requires invariant-loop decreases-loop
 put-edge-requires c κs =
@@ -55,13 +55,13 @@ loop-again c =
     going_next a.file.now a.edges.now a.node a.first a.count a.at a.out.now l.k l.end l.out l.invariant (omega arith) (omega arith) c.before.before.put-edge.ensures
 
 same-length-2 : tie.Need-same-length-2 invariant-loop decreases-loop
-same-length-2 c = put-length c.before.loop.invariant.put
+same-length-2 c = put_length c.before.loop.invariant.put
 
 returns-2 : tie.Need-returns-2 invariant-loop decreases-loop
 returns-2 c =
     let a = c.before.before.before.before.before.args in
     let l = c.before.loop in
-    put-wider (omega (arith, l.invariant.to)) (going_end a.file.now a.edges.now a.node a.first a.count a.at a.out.now l.k l.end l.out l.invariant (omega arith))
+    put_wider (omega (arith, l.invariant.to)) (going_end a.file.now a.edges.now a.node a.first a.count a.at a.out.now l.k l.end l.out l.invariant (omega arith))
 
 pub put-edges-spec : {M : Type 1} → statement M
 put-edges-spec =

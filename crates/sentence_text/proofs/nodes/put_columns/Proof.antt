@@ -5,11 +5,11 @@ use Prim.Native.Nat.{ℕ}
 use mathlib.Core.Path.{ap, ◌∙◌}
 use mathlib.Core.List.{◌∷◌, ◌++◌}
 use lib.ListN.{get_or}
-use Rattle.rules.specs.SheetFields.{tagStart, morphologyStart, edgeStart}
-use Rattle.rules.specs.Tidy.{tab, digitsOf}
+use Rattle.rules.specs.SheetFields.{tag_start, morphology_start, edge_start}
+use Rattle.rules.specs.Tidy.{tab, digits_of}
 use Rattle.printing.proofs.PutLaws.{put_then, put_as}
-use Rattle.sentence_text.specs.SheetRead.{nodeText}
-use Rattle.sentence_text.proofs.LineTexts.{columns-text}
+use Rattle.sentence_text.specs.SheetRead.{node_text}
+use Rattle.sentence_text.proofs.LineTexts.{columns_text_lem}
 use Rattle.sentence_text.proofs.nodes.put_columns.Statement.{statement}
 use Rattle.sentence_text.proofs.nodes.put_columns.Tie as tie
 
@@ -41,8 +41,8 @@ returns : tie.Need-returns
 returns c =
     let a = c.before.before.before.before.before.before.before.before.before.before.before.before.before.before.before.before.before.before.before.before.before.args in
     put_as
-    (ap (λ (i : ℕ). (tab ∷ nodeText a.file.now a.sheet.now tagStart a.node) ++ (tab ∷ nodeText a.file.now a.sheet.now morphologyStart a.node) ++ (tab ∷ nodeText a.file.now a.sheet.now edgeStart a.node) ++ (tab ∷ digitsOf (get_or a.sheet.now i 0))) c.before.before.before.before.before.field-place.ensures
-    ∙ columns-text a.file.now a.sheet.now a.node)
+    (ap (λ (i : ℕ). (tab ∷ node_text a.file.now a.sheet.now tag_start a.node) ++ (tab ∷ node_text a.file.now a.sheet.now morphology_start a.node) ++ (tab ∷ node_text a.file.now a.sheet.now edge_start a.node) ++ (tab ∷ digits_of (get_or a.sheet.now i 0))) c.before.before.before.before.before.field-place.ensures
+    ∙ columns_text_lem a.file.now a.sheet.now a.node)
     (put_then
     (put_then (put_then c.before.before.before.before.before.before.before.before.before.before.before.before.before.before.before.before.put-text.ensures c.before.before.before.before.before.before.before.before.before.before.before.before.put-text2.ensures) c.before.before.before.before.before.before.before.before.put-text3.ensures)
     c.before.before.put-number-column.ensures)

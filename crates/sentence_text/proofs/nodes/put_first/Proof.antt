@@ -3,9 +3,9 @@
 use borrow.Author.Rules.{rules}
 use native.Mathlib.Omega.{arith}
 use mathlib.Core.Path.{ap₂, ◌∙◌}
-use Rattle.printing.specs.Fields.{fieldText}
-use Rattle.printing.proofs.PutLaws.{put_then, put_as, put-wider}
-use Rattle.sentence_text.proofs.LineTexts.{word-text, phrase-text}
+use Rattle.printing.specs.Fields.{field_text}
+use Rattle.printing.proofs.PutLaws.{put_then, put_as, put_wider}
+use Rattle.sentence_text.proofs.LineTexts.{word_text_lem, phrase_text}
 use Rattle.sentence_text.proofs.nodes.put_first.Statement.{statement}
 use Rattle.sentence_text.proofs.nodes.put_first.Tie as tie
 
@@ -36,8 +36,8 @@ returns c =
     let start = c.before.before.before.before.before.before.before.field-place.ensures in
     let len = c.before.before.before.before.before.before.field-place2.ensures in
     put_as
-    (ap₂ (fieldText a.file.now a.sheet.now) start len
-    ∙ word-text a.file.now a.sheet.now a.node c.before.before.before.before.before.before.before.before.before.before.before.requires.1 (rw len at c.before.before.before.before.if1.true))
+    (ap₂ (field_text a.file.now a.sheet.now) start len
+    ∙ word_text_lem a.file.now a.sheet.now a.node c.before.before.before.before.before.before.before.before.before.before.before.requires.1 (rw len at c.before.before.before.before.if1.true))
     c.before.before.put-name.ensures
 
 put-byte-requires : tie.Need-put-byte-requires
@@ -55,8 +55,8 @@ same-length-2 c = search rules
 returns-2 : tie.Need-returns-2
 returns-2 c =
     let a = c.before.before.before.before.before.before.before.before.before.before.before.before.before.before.before.args in
-    put-wider (omega arith)
-    (put_as (phrase-text a.file.now a.sheet.now a.node _ c.before.before.before.before.before.before.before.before.before.before.field-place2.ensures c.before.before.before.before.before.before.before.before.before.before.before.before.before.before.before.requires.1 (omega arith))
+    put_wider (omega arith)
+    (put_as (phrase_text a.file.now a.sheet.now a.node _ c.before.before.before.before.before.before.before.before.before.before.field-place2.ensures c.before.before.before.before.before.before.before.before.before.before.before.before.before.before.before.requires.1 (omega arith))
     (put_then c.before.before.before.before.before.before.put_byte.ensures c.before.before.put-number.ensures))
 
 pub put-first-spec : {M : Type 1} → statement M

@@ -5,17 +5,17 @@ use native.Mathlib.Omega.{arith}
 use Prim.Native.Nat.{◌≤◌}
 use lib.ListN.{get_or}
 use Rattle.printing.proofs.PutLaws.{put_then, put_as}
-use Rattle.sentence_text.specs.SheetRead.{edgesOnSheet, edgesCounted}
-use Rattle.sentence_text.proofs.LineTexts.{node-text}
-use Rattle.sentence_text.proofs.FirstEdges.{first-low, length-edges}
+use Rattle.sentence_text.specs.SheetRead.{edges_on_sheet, edges_counted}
+use Rattle.sentence_text.proofs.LineTexts.{node_text_lem}
+use Rattle.sentence_text.proofs.FirstEdges.{first_low, length_edges}
 use Rattle.sentence_text.proofs.nodes.put_node.Statement.{statement}
 use Rattle.sentence_text.proofs.nodes.put_node.Tie as tie
 
 put-first-requires : tie.Need-put-first-requires
-put-first-requires c κs = (c.before.before.before.before.before.before.requires.2, (c.before.before.before.before.before.before.requires.0.each-node c.before.before.before.before.before.before.args.node (omega arith)).word, omega arith)
+put-first-requires c κs = (c.before.before.before.before.before.before.requires.2, (c.before.before.before.before.before.before.requires.0.each_node c.before.before.before.before.before.before.args.node (omega arith)).word, omega arith)
 
 put-columns-requires : tie.Need-put-columns-requires
-put-columns-requires c κs = (c.before.before.before.before.before.before.before.before.before.before.requires.2, c.before.before.before.before.before.before.before.before.before.before.requires.0.size, c.before.before.before.before.before.before.before.before.before.before.requires.0.each-node c.before.before.before.before.before.before.before.before.before.before.args.node (omega arith), omega arith)
+put-columns-requires c κs = (c.before.before.before.before.before.before.before.before.before.before.requires.2, c.before.before.before.before.before.before.before.before.before.before.requires.0.size, c.before.before.before.before.before.before.before.before.before.before.requires.0.each_node c.before.before.before.before.before.before.before.before.before.before.args.node (omega arith), omega arith)
 
 mul-first : tie.Need-overflow-mul-first
 mul-first c = search rules
@@ -39,13 +39,13 @@ put-edges-requires : tie.Need-put-edges-requires
 put-edges-requires c κs =
     let a = c.before.before.before.before.before.before.before.before.before.before.before.before.before.before.before.before.args in
     let p = c.before.before.before.before.before.before.before.before.before.before.before.before.before.before.before.before.requires in
-    let es = edgesOnSheet a.sheet.now a.list.now in
-    let first : get_or a.firsts.now a.node 0 ≤ edgesCounted a.sheet.now =
-    omega (arith, p.1.first a.node (omega arith), first-low 0 a.node es, length-edges a.list.now 0 (edgesCounted a.sheet.now)) in
-    (p.0.each-edge, first, p.0.few, omega arith)
+    let es = edges_on_sheet a.sheet.now a.list.now in
+    let first : get_or a.firsts.now a.node 0 ≤ edges_counted a.sheet.now =
+    omega (arith, p.1.first a.node (omega arith), first_low 0 a.node es, length_edges a.list.now 0 (edges_counted a.sheet.now)) in
+    (p.0.each_edge, first, p.0.few, omega arith)
 
 put-rest-requires : tie.Need-put-rest-requires
-put-rest-requires c κs = (c.before.before.before.before.before.before.before.before.before.before.before.before.before.before.before.before.before.before.before.before.requires.2, (c.before.before.before.before.before.before.before.before.before.before.before.before.before.before.before.before.before.before.before.before.requires.0.each-node c.before.before.before.before.before.before.before.before.before.before.before.before.before.before.before.before.before.before.before.before.args.node (omega arith)).comment, omega arith)
+put-rest-requires c κs = (c.before.before.before.before.before.before.before.before.before.before.before.before.before.before.before.before.before.before.before.before.requires.2, (c.before.before.before.before.before.before.before.before.before.before.before.before.before.before.before.before.before.before.before.before.requires.0.each_node c.before.before.before.before.before.before.before.before.before.before.before.before.before.before.before.before.before.before.before.before.args.node (omega arith)).comment, omega arith)
 
 same_length : tie.Need-same-length
 same_length c = search rules
@@ -54,7 +54,7 @@ returns : tie.Need-returns
 returns c =
     let a = c.before.before.before.before.before.before.before.before.before.before.before.before.before.before.before.before.before.before.before.before.before.before.before.args in
     let p = c.before.before.before.before.before.before.before.before.before.before.before.before.before.before.before.before.before.before.before.before.before.before.before.requires in
-    put_as (node-text a.file.now a.sheet.now a.list.now a.node _ (p.1.first a.node p.2))
+    put_as (node_text_lem a.file.now a.sheet.now a.list.now a.node _ (p.1.first a.node p.2))
     (put_then
     (put_then (put_then c.before.before.before.before.before.before.before.before.before.before.before.before.before.before.before.before.put_first.ensures c.before.before.before.before.before.before.before.before.before.before.before.before.put-columns.ensures) c.before.before.before.before.before.before.put-edges.ensures)
     c.before.before.put_rest.ensures)

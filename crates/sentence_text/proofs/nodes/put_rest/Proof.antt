@@ -8,9 +8,9 @@ use mathlib.Core.List.{[], ◌∷◌, ◌++◌}
 use Rattle.rules.specs.Bytes.{newline}
 use Rattle.rules.specs.Tidy.{tab, commented}
 use Rattle.printing.specs.Further.{further, text_of}
-use Rattle.printing.specs.Fields.{fieldText}
+use Rattle.printing.specs.Fields.{field_text}
 use Rattle.printing.proofs.PutLaws.{put_then, put_as}
-use Rattle.sentence_text.proofs.LineTexts.{rest-text}
+use Rattle.sentence_text.proofs.LineTexts.{rest_text_lem}
 use Rattle.sentence_text.proofs.nodes.put_rest.Statement.{statement}
 use Rattle.sentence_text.proofs.nodes.put_rest.Tie as tie
 
@@ -36,8 +36,8 @@ returns : tie.Need-returns
 returns c =
     let a = c.before.before.before.before.before.before.before.before.before.before.before.before.before.args in
     put_as
-    (ap₂ (λ (i j : ℕ). further tab (commented (text_of (fieldText a.file.now a.sheet.now i j))) ++ (newline ∷ [])) c.before.before.before.before.before.before.before.before.before.field-place.ensures c.before.before.before.before.before.before.before.before.field-place2.ensures
-    ∙ rest-text a.file.now a.sheet.now a.node)
+    (ap₂ (λ (i j : ℕ). further tab (commented (text_of (field_text a.file.now a.sheet.now i j))) ++ (newline ∷ [])) c.before.before.before.before.before.before.before.before.before.field-place.ensures c.before.before.before.before.before.before.before.before.field-place2.ensures
+    ∙ rest_text_lem a.file.now a.sheet.now a.node)
     (put_then c.before.before.before.before.before.before.put-note.ensures c.before.before.put_byte.ensures)
 
 pub put-rest-spec : {M : Type 1} → statement M

@@ -6,7 +6,7 @@ use Prim.Native.Nat.{ℕ}
 use mathlib.Core.Path.{ap₂}
 use mathlib.Core.List.{◌∷◌}
 use Rattle.rules.specs.Tidy.{tab}
-use Rattle.printing.specs.Fields.{fieldText}
+use Rattle.printing.specs.Fields.{field_text}
 use Rattle.printing.proofs.PutLaws.{put_as}
 use Rattle.sentence_text.proofs.nodes.put_text.Statement.{statement}
 use Rattle.sentence_text.proofs.nodes.put_text.Tie as tie
@@ -29,7 +29,7 @@ same_length c = search rules
 returns : tie.Need-returns
 returns c =
     let a = c.before.before.before.before.before.before.before.before.before.args in
-    put_as (ap₂ (λ (i j : ℕ). tab ∷ fieldText a.file.now a.sheet.now i j) c.before.before.before.before.before.field-place.ensures c.before.before.before.before.field-place2.ensures) c.before.before.put-field.ensures
+    put_as (ap₂ (λ (i j : ℕ). tab ∷ field_text a.file.now a.sheet.now i j) c.before.before.before.before.before.field-place.ensures c.before.before.before.before.field-place2.ensures) c.before.before.put-field.ensures
 
 pub put-text-spec : {M : Type 1} → statement M
 put-text-spec =

@@ -6,20 +6,20 @@ use mathlib.Core.Path.{◌≡◌, refl, sym, ap, ◌∙◌}
 use mathlib.Core.List.{List}
 use lib.ListN.{length}
 use borrow.Author.Tests.{not-true, not-false}
-use Rattle.rules.specs.Bytes.{classTable}
-use Rattle.rules.specs.Numbers.{fileLimit}
+use Rattle.rules.specs.Bytes.{class_table}
+use Rattle.rules.specs.Numbers.{file_limit}
 use Rattle.rules.specs.Texts.{Text}
 use Rattle.rules.specs.Rules.{checked}
-use Rattle.rules.specs.Sentences.{headingWritten, headingIn}
-use Rattle.rules.specs.Keywords.{firstColumn}
-use Rattle.rules.specs.Lines.{takenAs, sentenceBegins}
-use Rattle.lines.specs.LineEnds.{lineEnd}
+use Rattle.rules.specs.Sentences.{heading_written, heading_in}
+use Rattle.rules.specs.Keywords.{first_column}
+use Rattle.rules.specs.Lines.{taken_as, sentence_begins}
+use Rattle.lines.specs.LineEnds.{line_end}
 use Rattle.lines.specs.declared.LineEnd.TheVariants.{At}
-use Rattle.lines.proofs.Lines.{at-below}
+use Rattle.lines.proofs.Lines.{at_below}
 use Rattle.columns.specs.Listing as listing
 use Rattle.steps.specs.Steps.{step_of}
-use Rattle.sentences.proofs.ListedLines.{order, inside, limited, read-listed}
-use Rattle.sentences.proofs.FirstLines.{begun-unread, begun-other, begun-refused, begun-headed}
+use Rattle.sentences.proofs.ListedLines.{order, inside, limited, read_listed}
+use Rattle.sentences.proofs.FirstLines.{begun_unread, begun_other, begun_refused, begun_headed}
 use Rattle.sentences.proofs.beginning.begin.Statement.{statement}
 use Rattle.sentences.proofs.beginning.begin.Tie as tie
 
@@ -42,17 +42,17 @@ place k = (top k).args.place
 abbrev end : Ended → ℕ
 end k = k.before.found.given.0.0
 
-ends : (k : Ended) → lineEnd (file k) (place k) ≡ At (end k)
-ends k = sym k.before.before.before.line-end.ensures ∙ k.before.found.given.1
+ends : (k : Ended) → line_end (file k) (place k) ≡ At (end k)
+ends k = sym k.before.before.before.line_end.ensures ∙ k.before.found.given.1
 
-short : (k : Ended) → length (file k) ≤ fileLimit
+short : (k : Ended) → length (file k) ≤ file_limit
 short k = (top k).requires.1
 
-classes : (k : Ended) → (top k).args.classes.now ≡ classTable
+classes : (k : Ended) → (top k).args.classes.now ≡ class_table
 classes k = (top k).requires.0
 
 below : (k : Ended) → end k < length (file k)
-below k = at-below (file k) (place k) (end k) (ends k)
+below k = at_below (file k) (place k) (end k) (ends k)
 
 -- the line, listed
 abbrev Read : Type 0
@@ -61,14 +61,14 @@ Read = tie.After-read-line
 abbrev ended : Read → Ended
 ended r = r.before.before
 
-line-is : (r : Read) → listing.line_of (file (ended r)) r.read-line.result ≡ listing.textBetween (file (ended r)) (place (ended r)) (end (ended r))
+line-is : (r : Read) → listing.line_of (file (ended r)) r.read-line.result ≡ listing.text_between (file (ended r)) (place (ended r)) (end (ended r))
 line-is r = ap (listing.line_of (file (ended r))) r.read-line.ensures.0
 
 returns : tie.Need-returns
 returns c =
     let l = c.before in
     let a = (start l).args in
-    (begun-unread a.file.now a.place l.line-end.result (sym l.line-end.ensures) c.match.keys2, refl)
+    (begun_unread a.file.now a.place l.line_end.result (sym l.line_end.ensures) c.match.keys2, refl)
 
 read-line-requires : tie.Need-read-line-requires
 read-line-requires c κs =
@@ -79,7 +79,7 @@ first-column-requires : tie.Need-first-column-requires
 first-column-requires c κs =
     let r = c.before in
     let k = ended r in
-    read-listed (file k) (place k) (end k) (ends k) (short k) _ _ _ r.read-line.ensures
+    read_listed (file k) (place k) (end k) (ends k) (short k) _ _ _ r.read-line.ensures
 
 -- its first column is compared
 abbrev Compared : Type 0
@@ -94,20 +94,20 @@ read s = (column s).before.before
 abbrev line : Compared → Ended
 line s = ended (read s)
 
-first-is : (s : Compared) → (column s).first-column.result.now ≡ (firstColumn (listing.textBetween (file (line s)) (place (line s)) (end (line s)))).bytes
-first-is s = (column s).first-column.ensures ∙ ap (λ (x : Text). (firstColumn x).bytes) (line-is (read s))
+first-is : (s : Compared) → (column s).first-column.result.now ≡ (first_column (listing.text_between (file (line s)) (place (line s)) (end (line s)))).bytes
+first-is s = (column s).first-column.ensures ∙ ap (λ (x : Text). (first_column x).bytes) (line-is (read s))
 
 returns-2 : tie.Need-returns-2
 returns-2 c =
     let s = c.before in
     let k = line s in
-    (begun-other (file k) (place k) (end k) (ends k) _ _ (first-is s) s.same_text.ensures (not-true _ c.if1.true), refl)
+    (begun_other (file k) (place k) (end k) (ends k) _ _ (first-is s) s.same_text.ensures (not-true _ c.if1.true), refl)
 
 heading-alone-requires : tie.Need-heading-alone-requires
 heading-alone-requires c κs =
     let r = read c.before.before in
     let k = ended r in
-    (classes k, read-listed (file k) (place k) (end k) (ends k) (short k) _ _ _ r.read-line.ensures)
+    (classes k, read_listed (file k) (place k) (end k) (ends k) (short k) _ _ _ r.read-line.ensures)
 
 -- the heading is judged
 abbrev Judged : Type 0
@@ -116,15 +116,15 @@ Judged = tie.After-heading-alone
 abbrev compared : Judged → Compared
 compared j = j.before.before.before
 
-told : (j : Judged) → j.heading-alone.result ≡ step_of (takenAs sentenceBegins (checked (headingWritten (listing.textBetween (file (line (compared j))) (place (line (compared j))) (end (line (compared j))))) (headingIn (listing.textBetween (file (line (compared j))) (place (line (compared j))) (end (line (compared j)))))))
-told j = j.heading-alone.ensures ∙ ap (λ (x : Text). step_of (takenAs sentenceBegins (checked (headingWritten x) (headingIn x)))) (line-is (read (compared j)))
+told : (j : Judged) → j.heading-alone.result ≡ step_of (taken_as sentence_begins (checked (heading_written (listing.text_between (file (line (compared j))) (place (line (compared j))) (end (line (compared j))))) (heading_in (listing.text_between (file (line (compared j))) (place (line (compared j))) (end (line (compared j)))))))
+told j = j.heading-alone.ensures ∙ ap (λ (x : Text). step_of (taken_as sentence_begins (checked (heading_written x) (heading_in x)))) (line-is (read (compared j)))
 
 returns-3 : tie.Need-returns-3
 returns-3 c =
     let j = c.before in
     let s = compared j in
     let k = line s in
-    (begun-refused (file k) (place k) (end k) (ends k) _ _ (first-is s) s.same_text.ensures (not-false _ j.before.before.if1.false) _ (told j) c.match2.keys2, refl)
+    (begun_refused (file k) (place k) (end k) (ends k) _ _ (first-is s) s.same_text.ensures (not-false _ j.before.before.if1.false) _ (told j) c.match2.keys2, refl)
 
 put-heading-requires : tie.Need-put-heading-requires
 put-heading-requires c κs =
@@ -159,7 +159,7 @@ returns-4 c =
     let s = compared j in
     let k = line s in
     let h = p.before.before.before.before in
-    begun-headed (file k) (place k) (end k) (ends k) _ _ (first-is s) s.same_text.ensures (not-false _ j.before.before.if1.left) _ (told j) _ h.step.given.1 _ c.first-tally.ensures _ _ p.put-heading.ensures
+    begun_headed (file k) (place k) (end k) (ends k) _ _ (first-is s) s.same_text.ensures (not-false _ j.before.before.if1.left) _ (told j) _ h.step.given.1 _ c.first-tally.ensures _ _ p.put-heading.ensures
 
 pub begin-spec : {M : Type 1} → statement M
 begin-spec =

@@ -1,7 +1,7 @@
 -- `sentences::clearing::clear_used` meets its contract.
 use borrow.Author.Rules.{rules}
 use mathlib.Core.Path.{◌≡◌, ◌∙◌}
-use Rattle.sentences.proofs.Unused.{sheet-cleared, edges-cleared}
+use Rattle.sentences.proofs.Unused.{sheet_cleared, edges_cleared}
 use Rattle.sentences.proofs.clearing.clear_used.Statement.{statement}
 use Rattle.sentences.proofs.clearing.clear_used.Tie as tie
 
@@ -11,8 +11,8 @@ returns c =
     let back = front.before.before.before.before in
     let list = back.before.before.before.before in
     let u = list.before.before.before.before.before.before.before.requires in (
-      sheet-cleared _ _ u _ _ back.clear-rows2.ensures front.clear-rows3.ensures back.clear-rows2.auto.0 front.clear-rows3.auto.0,
-      edges-cleared _ _ u _ list.clear-rows.ensures list.clear-rows.auto.0,
+      sheet_cleared _ _ u _ _ back.clear-rows2.ensures front.clear-rows3.ensures back.clear-rows2.auto.0 front.clear-rows3.auto.0,
+      edges_cleared _ _ u _ list.clear-rows.ensures list.clear-rows.auto.0,
     )
 
 pub clear-used-spec : {M : Type 1} → statement M

@@ -4,10 +4,10 @@ use borrow.Author.Rules.{rules}
 use native.Mathlib.Omega.{arith}
 use mathlib.Core.Path.{ap, ◌∙◌}
 use Rattle.columns.specs.declared.listing.Span.{Span}
-use Rattle.columns.specs.Listing.{columnsOf}
-use Rattle.citations.proofs.NoTables.{no-tables}
-use Rattle.nodes.specs.PlainNodes.{plainSaid}
-use Rattle.sentences.proofs.PlainTakings.{word-taken, phrase-taken}
+use Rattle.columns.specs.Listing.{columns_of}
+use Rattle.citations.proofs.NoTables.{no_tables_lem}
+use Rattle.nodes.specs.PlainNodes.{plain_said}
+use Rattle.sentences.proofs.PlainTakings.{word_taken, phrase_taken}
 use Rattle.sentences.proofs.judging_lines.judge.Statement.{statement}
 use Rattle.sentences.proofs.judging_lines.judge.Tie as tie
 
@@ -20,7 +20,7 @@ five p = p.before.before
 plain-node-requires : tie.Need-plain-node-requires
 plain-node-requires c κs =
     let s = start c.before in
-    (s.pre.1, (no-tables s.args.file.now).0, s.pre.2)
+    (s.pre.1, (no_tables_lem s.args.file.now).0, s.pre.2)
 
 column-span-requires : tie.Need-column-span-requires
 column-span-requires c κs =
@@ -45,9 +45,9 @@ returns-2 c =
     let s = start (five p) in
     let a = s.args in
     let listed = s.pre.1 in
-    word-taken a.file.now a.line a.t a.marks.now _ p.plain-node.result (p.plain-node.ensures 3) _ g.plain.given.1
+    word_taken a.file.now a.line a.t a.marks.now _ p.plain-node.result (p.plain-node.ensures 3) _ g.plain.given.1
     (c.plain-said.ensures _ listed
-    ∙ ap (λ (word : Span). plainSaid (columnsOf a.file.now a.line) word a.t.words g.plain.given.0.0) (w.column-span.ensures _ listed))
+    ∙ ap (λ (word : Span). plain_said (columns_of a.file.now a.line) word a.t.words g.plain.given.0.0) (w.column-span.ensures _ listed))
 
 returns-3 : tie.Need-returns-3
 returns-3 c =
@@ -55,7 +55,7 @@ returns-3 c =
     let p = g.before.before in
     let s = start (five p) in
     let a = s.args in
-    phrase-taken a.file.now a.line a.t a.marks.now _ p.plain-node.result (p.plain-node.ensures 3) _ _ g.plain2.given.1
+    phrase_taken a.file.now a.line a.t a.marks.now _ p.plain-node.result (p.plain-node.ensures 3) _ _ g.plain2.given.1
     (c.plain-said2.ensures _ s.pre.1)
 
 pub judge-spec : {M : Type 1} → statement M

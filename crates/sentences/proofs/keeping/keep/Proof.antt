@@ -4,7 +4,7 @@ use native.Mathlib.Omega.{arith}
 use mathlib.Core.Path.{◌≡◌, subst}
 use Rattle.nodes.specs.NodeLines.{fields_of}
 use Rattle.steps.specs.declared.Step.{Step}
-use Rattle.sentences.specs.Keeping.{Stored, stored, storedBy, Storable}
+use Rattle.sentences.specs.Keeping.{Stored, stored, stored_by, Storable}
 use Rattle.sentences.proofs.OtherSteps.{others_keep}
 use Rattle.sentences.proofs.keeping.keep.Statement.{statement}
 use Rattle.sentences.proofs.keeping.keep.Tie as tie
@@ -60,14 +60,14 @@ with-phrase-requires c κs =
     (q.1, omega (arith, q.0.few))
 
 returns : tie.Need-returns
-unfolding storedBy
+unfolding stored_by
 returns c =
     let p = c.before.before.before.before.before in
     let k = p.before.before.before.before in
     rw (k.step.given.1, c.with-word.ensures, p.put-node.ensures.0, p.put-node.ensures.1)
 
 returns-2 : tie.Need-returns-2
-unfolding storedBy
+unfolding stored_by
 returns-2 c =
     let m = c.before in
     let p = m.before.before.before.before.before.before in

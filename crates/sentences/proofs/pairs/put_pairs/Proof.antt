@@ -6,11 +6,11 @@ use Prim.Native.Nat.{ℕ, ◌+◌, ◌-◌, ◌*◌}
 use mathlib.Core.Path.{sym, ap, ◌∙◌}
 use mathlib.Core.List.{List}
 use Rattle.rules.specs.Texts.{Text}
-use Rattle.rules.specs.Numbers.{phraseNumber, number, value}
+use Rattle.rules.specs.Numbers.{phrase_number, number, value}
 use Rattle.columns.specs.Listing.{span_of}
 use Rattle.nodes.specs.NodeLines.{fields_of, FieldAt}
-use Rattle.nodes.proofs.ListedFields.{at-column, at_field}
-use Rattle.sentences.proofs.PairEdges.{Putting, putting-start, label_at, parent-at, putting-more, putting-end}
+use Rattle.nodes.proofs.ListedFields.{at_column, at_field}
+use Rattle.sentences.proofs.PairEdges.{Putting, putting_start, label_at, parent_at, putting_more, putting_end}
 use Rattle.sentences.proofs.pairs.put_pairs.Statement.{statement}
 use Rattle.sentences.proofs.pairs.put_pairs.Tie as tie
 
@@ -36,13 +36,13 @@ label : (c : Turn) → At c (5 + 2 * c.before.loop.j)
 label c = label_at _ (start c.before).pre.1 c.before.loop.invariant c.loop-test.true
 
 parent : (c : Turn) → At c (5 + 2 * c.before.loop.j + 1)
-parent c = parent-at _ (start c.before).pre.1 c.before.loop.invariant c.loop-test.true
+parent c = parent_at _ (start c.before).pre.1 c.before.loop.invariant c.loop-test.true
 
 column-span-requires : tie.Need-column-span-requires invariant-loop decreases-loop
-column-span-requires c κs = (at-column (label c), (_, (label c).listed))
+column-span-requires c κs = (at_column (label c), (_, (label c).listed))
 
 column-text-requires : tie.Need-column-text-requires invariant-loop decreases-loop
-column-text-requires c κs = let t = c.before in ((parent t).listed, at-column (parent t))
+column-text-requires c κs = let t = c.before in ((parent t).listed, at_column (parent t))
 
 put-edge-requires : tie.Need-put-edge-requires invariant-loop decreases-loop
 put-edge-requires c κs =
@@ -57,13 +57,13 @@ loop-again c =
     let s = p.before.before in
     let t = s.before in
     let l = t.before in
-    putting-more _ (start l).requires.1 l.loop.invariant t.loop-test.true (start l).requires.2 _ _ _
+    putting_more _ (start l).requires.1 l.loop.invariant t.loop-test.true (start l).requires.2 _ _ _
     (s.column-span.ensures _ (label t).listed ∙ ap span_of (at_field (label t)))
-    (p.parent_in_lem.ensures ∙ ap (λ (bs : List ℕ). value (number phraseNumber bs)) (p.before.column-text.ensures ∙ ap (λ (x : Text). x.bytes) (at_field (parent t))))
+    (p.parent_in_lem.ensures ∙ ap (λ (bs : List ℕ). value (number phrase_number bs)) (p.before.column-text.ensures ∙ ap (λ (x : Text). x.bytes) (at_field (parent t))))
     e.put-edge.ensures e.put-edge.auto.0
 
 returns : tie.Need-returns invariant-loop decreases-loop
-returns c = let l = c.before in putting-end _ (start l).requires.1 l.loop.invariant c.loop-test.false
+returns c = let l = c.before in putting_end _ (start l).requires.1 l.loop.invariant c.loop-test.false
 
 pub put-pairs-spec : {M : Type 1} → statement M
 put-pairs-spec =
@@ -72,7 +72,7 @@ put-pairs-spec =
     invariant-loop
     decreases-loop
     (λ c. search rules)
-    (λ c. let s = c.before.before.before in putting-start _ _ _ _ s.requires.3)
+    (λ c. let s = c.before.before.before in putting_start _ _ _ _ s.requires.3)
     (λ c. search rules)
     (λ c. search rules)
     column-span-requires

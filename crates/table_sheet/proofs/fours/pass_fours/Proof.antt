@@ -7,18 +7,18 @@ use native.Mathlib.Omega.{arith}
 use Prim.Native.Nat.{ℕ, ◌+◌, ◌-◌, ◌*◌, ◌≤◌}
 use mathlib.Core.Path.{◌≡◌, ◌∙◌, subst}
 use mathlib.Core.List.{List}
-use Rattle.rules.specs.Sheets.{rowWidth}
+use Rattle.rules.specs.Sheets.{row_width}
 use Rattle.table_sheet.specs.SheetRows.{rows_from}
-use Rattle.table_sheet.specs.LookUps.{idFrom, idFound}
-use Rattle.table_sheet.proofs.LookUps.{ids-miss}
+use Rattle.table_sheet.specs.LookUps.{id_from, id_found}
+use Rattle.table_sheet.proofs.LookUps.{ids_miss}
 use Rattle.table_sheet.proofs.fours.pass_fours.Statement.{statement}
 use Rattle.table_sheet.proofs.fours.pass_fours.Tie as tie
 
 abbrev invariant-loop : tie.invariant-loop
 invariant-loop sheet place rows id1 row₀ at₀ row at =
     (row ≤ rows)
-    × (at ≡ place + rowWidth * row)
-    × ((file : List ℕ) → idFrom row id1 (rows_from file sheet at (rows - row)) ≡ idFound id1 (rows_from file sheet place rows))
+    × (at ≡ place + row_width * row)
+    × ((file : List ℕ) → id_from row id1 (rows_from file sheet at (rows - row)) ≡ id_found id1 (rows_from file sheet place rows))
 
 abbrev decreases-loop : tie.decreases-loop
 decreases-loop sheet place rows id1 row₀ at₀ row at = rows - row
@@ -28,12 +28,12 @@ loop-holds c = (omega arith, omega arith, λ file. rw sub-zero)
 
 -- the rows from the loop's place on, by their number
 rest : (l : tie.At-loop invariant-loop decreases-loop) (file : List ℕ)
-    → idFrom l.loop.row l.before.before.args.id1 (rows_from file l.before.before.args.sheet.now (l.before.before.args.place + rowWidth * l.loop.row) (l.before.before.args.rows - l.loop.row))
-    ≡ idFound l.before.before.args.id1 (rows_from file l.before.before.args.sheet.now l.before.before.args.place l.before.before.args.rows)
+    → id_from l.loop.row l.before.before.args.id1 (rows_from file l.before.before.args.sheet.now (l.before.before.args.place + row_width * l.loop.row) (l.before.before.args.rows - l.loop.row))
+    ≡ id_found l.before.before.args.id1 (rows_from file l.before.before.args.sheet.now l.before.before.args.place l.before.before.args.rows)
 rest l file =
     let a = l.before.before.args in
     let row = l.loop.row in
-    subst (λ (at : ℕ). idFrom row a.id1 (rows_from file a.sheet.now at (a.rows - row)) ≡ idFound a.id1 (rows_from file a.sheet.now a.place a.rows))
+    subst (λ (at : ℕ). id_from row a.id1 (rows_from file a.sheet.now at (a.rows - row)) ≡ id_found a.id1 (rows_from file a.sheet.now a.place a.rows))
     l.loop.invariant.1 (l.loop.invariant.2 file)
 
 returns : tie.Need-returns invariant-loop decreases-loop
@@ -47,7 +47,7 @@ loop-again c =
       omega arith,
       omega arith,
       λ file.
-          ids-miss file a.sheet.now l.loop.at l.loop.row a.rows a.id1 t.loop-test.true (c.before.four-without.ensures (not-false _ c.if1.false))
+          ids_miss file a.sheet.now l.loop.at l.loop.row a.rows a.id1 t.loop-test.true (c.before.four-without.ensures (not-false _ c.if1.false))
           ∙ l.loop.invariant.2 file,
     )
 

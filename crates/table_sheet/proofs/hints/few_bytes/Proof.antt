@@ -4,12 +4,12 @@ use Prim.Native.Nat.{ℕ, ◌+◌, ◌-◌, ◌*◌, ◌/◌}
 use mathlib.Core.Path.{ap₂}
 use lib.Bits.{bit_or}
 use lib.ListN.{length}
-use Rattle.table_sheet.specs.Hints.{moved, fewBytes}
+use Rattle.table_sheet.specs.Hints.{moved, few_bytes}
 use Rattle.table_sheet.proofs.hints.few_bytes.Statement.{statement}
 use Rattle.table_sheet.proofs.hints.few_bytes.Tie as tie
 
 returns : tie.Need-returns
-unfolding fewBytes
+unfolding few_bytes
 returns c =
     let two = c.before.before in
     let one = two.before.before in

@@ -4,12 +4,12 @@ use Prim.Native.Nat.{ℕ, ◌-◌, ◌*◌}
 use mathlib.Core.Path.{ap₂}
 use lib.Bits.{bit_or}
 use lib.ListN.{length}
-use Rattle.table_sheet.specs.Hints.{moved, someBytes}
+use Rattle.table_sheet.specs.Hints.{moved, some_bytes}
 use Rattle.table_sheet.proofs.hints.some_bytes.Statement.{statement}
 use Rattle.table_sheet.proofs.hints.some_bytes.Tie as tie
 
 returns : tie.Need-returns
-unfolding someBytes
+unfolding some_bytes
 returns c =
     ap₂ (λ (x y : ℕ). bit_or (moved x (64 - 8 * length c.before.before.before.args.tag.now)) (moved y 32))
     c.before.four-at.ensures.0 c.four-at2.ensures.0

@@ -6,8 +6,8 @@ use mathlib.Core.Path.{sym, ap, ◌∙◌}
 use mathlib.Core.Bool.{not}
 use lib.ListN.{get_or}
 use Rattle.table_sheet.specs.SheetRows.{rows_from}
-use Rattle.table_sheet.proofs.LookUps.{tag-found}
-use Rattle.table_sheet.proofs.NotedOutlines.{unnoted-new}
+use Rattle.table_sheet.proofs.LookUps.{tag_found}
+use Rattle.table_sheet.proofs.NotedOutlines.{unnoted_new}
 use Rattle.table_sheet.proofs.outlines.is_new.Statement.{statement}
 use Rattle.table_sheet.proofs.outlines.is_new.Tie as tie
 
@@ -17,7 +17,7 @@ returns c =
     let s = p.before.before.before.before in
     let a = s.args in
     sym (ap not
-    (unnoted-new a.outlines.now a.file.now a.sheet.now a.table a.tag.now
+    (unnoted_new a.outlines.now a.file.now a.sheet.now a.table a.tag.now
     (ap (λ (n : ℕ). get_or a.outlines.now n 0) (sym p.place_of.ensures.0) ∙ c.if1.true) a.place a.rows s.requires.3.noted))
 
 returns-2 : tie.Need-returns-2
@@ -26,7 +26,7 @@ returns-2 c =
     let a = t.before.before.before.before.before.before.before.args in
     ap not
     (c.is_row.ensures
-    ∙ tag-found a.tag.now (rows_from a.file.now a.sheet.now a.place a.rows) t.seek-tag.result t.seek-tag.ensures)
+    ∙ tag_found a.tag.now (rows_from a.file.now a.sheet.now a.place a.rows) t.seek-tag.result t.seek-tag.ensures)
 
 pub is-new-spec : {M : Type 1} → statement M
 is-new-spec =

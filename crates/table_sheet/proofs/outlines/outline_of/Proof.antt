@@ -6,14 +6,14 @@ use native.Mathlib.Omega.{arith}
 use Prim.Native.Nat.{◌-◌, ◌≤◌, ◌<◌}
 use mathlib.Core.Path.{◌≡◌, refl, sym, ap, ◌∙◌}
 use lib.ListN.{length, drop, drop_of_length-le}
-use Rattle.table_sheet.specs.Outlines.{outlineCount, outlineFrom, outlineOf}
-use Rattle.table_sheet.proofs.NotedOutlines.{outline-on}
+use Rattle.table_sheet.specs.Outlines.{outline_count, outline_from, outline_of}
+use Rattle.table_sheet.proofs.NotedOutlines.{outline_on}
 use Rattle.table_sheet.proofs.outlines.outline_of.Statement.{statement}
 use Rattle.table_sheet.proofs.outlines.outline_of.Tie as tie
 
 abbrev invariant-loop : tie.invariant-loop
 invariant-loop tag outline₀ i₀ outline i =
-    (i ≤ length tag) × (outline < outlineCount) × (outlineFrom outline (drop i tag) ≡ outlineOf tag)
+    (i ≤ length tag) × (outline < outline_count) × (outline_from outline (drop i tag) ≡ outline_of tag)
 
 abbrev decreases-loop : tie.decreases-loop
 decreases-loop tag outline₀ i₀ outline i = length tag - i
@@ -32,15 +32,15 @@ loop-again c =
     let l = c.before.before in (
       omega arith,
       mod-lt _ (omega arith),
-      outline-on l.before.args.tag.now l.loop.i l.loop.outline c.before.loop-test.true ∙ l.loop.invariant.2,
+      outline_on l.before.args.tag.now l.loop.i l.loop.outline c.before.loop-test.true ∙ l.loop.invariant.2,
     )
 
 returns : tie.Need-returns invariant-loop decreases-loop
-unfolding outlineFrom
+unfolding outline_from
 returns c =
     let l = c.before in
     let e = drop_of_length-le l.before.args.tag.now c.loop-test.false in
-    (ap (outlineFrom l.loop.outline) (sym e) ∙ l.loop.invariant.2, l.loop.invariant.1)
+    (ap (outline_from l.loop.outline) (sym e) ∙ l.loop.invariant.2, l.loop.invariant.1)
 
 pub outline-of-spec : {M : Type 1} → statement M
 outline-of-spec =

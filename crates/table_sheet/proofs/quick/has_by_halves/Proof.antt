@@ -7,10 +7,10 @@ use mathlib.Core.Path.{◌≡◌, sym, ◌∙◌}
 use mathlib.Core.Bool.{false≢true}
 use lib.ListN.{take, drop}
 use Rattle.rules.specs.Lists.{same}
-use Rattle.rules.specs.Sheets.{rowWidth}
+use Rattle.rules.specs.Sheets.{row_width}
 use Rattle.table_sheet.specs.SheetRows.{row_at, rows_from}
 use Rattle.table_sheet.specs.declared.Found.TheVariants as found
-use Rattle.table_sheet.proofs.LookUps.{tag-hit, tag-found}
+use Rattle.table_sheet.proofs.LookUps.{tag_hit, tag_found}
 use Rattle.table_sheet.proofs.quick.has_by_halves.Statement.{statement}
 use Rattle.table_sheet.proofs.quick.has_by_halves.Tie as tie
 
@@ -28,10 +28,10 @@ returns-2 c e =
     let a = asked.before.before.before.before.args in
     let row = asked.row-by-halves.result in
     let tag = take a.len (drop a.start a.file.now) in
-    let told : c.tag_at.result ≡ same tag (row_at a.file.now a.sheet.now (a.place + rowWidth * row)).first.bytes =
+    let told : c.tag_at.result ≡ same tag (row_at a.file.now a.sheet.now (a.place + row_width * row)).first.bytes =
     c.tag_at.ensures ∙ rw add-sub_cancel_left in
-    sym (tag-found tag (rows_from a.file.now a.sheet.now a.place a.rows) (found.Row row)
-    (tag-hit tag a.file.now a.sheet.now a.place row a.rows c.before.if1.false (sym told ∙ e)))
+    sym (tag_found tag (rows_from a.file.now a.sheet.now a.place a.rows) (found.Row row)
+    (tag_hit tag a.file.now a.sheet.now a.place row a.rows c.before.if1.false (sym told ∙ e)))
 
 pub has-by-halves-spec : {M : Type 1} → statement M
 has-by-halves-spec =

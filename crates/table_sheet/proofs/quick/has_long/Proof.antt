@@ -3,7 +3,7 @@ use borrow.Author.Rules.{rules}
 use borrow.Author.Tests.{not-false}
 use native.Mathlib.Omega.{arith}
 use mathlib.Core.Bool.{false≢true}
-use Rattle.table_sheet.proofs.LookUps.{tag-among}
+use Rattle.table_sheet.proofs.LookUps.{tag_among_lem}
 use Rattle.table_sheet.proofs.quick.has_long.Statement.{statement}
 use Rattle.table_sheet.proofs.quick.has_long.Tie as tie
 
@@ -33,7 +33,7 @@ returns-2 c e =
     let near = asked.before in
     let a = (entry near).args in
     let told = asked.has-length.ensures (not-false _ begun.before.if1.false) in
-    tag-among a.file.now a.sheet.now a.place near.row_Near.result a.rows a.start begun.start_of_lem.result a.len
+    tag_among_lem a.file.now a.sheet.now a.place near.row_Near.result a.rows a.start begun.start_of_lem.result a.len
     told.0
     told.1
     begun.start_of_lem.ensures

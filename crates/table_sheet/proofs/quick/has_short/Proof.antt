@@ -5,7 +5,7 @@ use native.Mathlib.Omega.{arith}
 use mathlib.Core.Path.{sym, ◌∙◌}
 use mathlib.Core.Bool.{false≢true}
 use Rattle.texts.proofs.SamePlaces.{front_same}
-use Rattle.table_sheet.proofs.LookUps.{tag-among}
+use Rattle.table_sheet.proofs.LookUps.{tag_among_lem}
 use Rattle.table_sheet.proofs.quick.has_short.Statement.{statement}
 use Rattle.table_sheet.proofs.quick.has_short.Tie as tie
 
@@ -34,7 +34,7 @@ returns-3 c e =
     let first = begun.start_of_lem.result in
     let told = asked.has-length.ensures (not-false _ begun.before.if1.false) in
     let inside = (s.pre.2 row told.0).first in
-    tag-among a.file.now a.sheet.now a.place row a.rows a.start first a.len told.0 told.1 begun.start_of_lem.ensures
+    tag_among_lem a.file.now a.sheet.now a.place row a.rows a.start first a.len told.0 told.1 begun.start_of_lem.ensures
     (front_same a.file.now (λ i. omega (arith, near.before.before.before.shared-slice-known.given i)) a.start first a.len
     (omega arith)
     (omega (arith, told.1, inside, begun.start_of_lem.ensures))

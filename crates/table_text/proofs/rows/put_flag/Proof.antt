@@ -3,16 +3,16 @@
 use borrow.Author.Rules.{rules}
 use native.Mathlib.Omega.{arith}
 use mathlib.Core.List.{[]}
-use Rattle.printing.proofs.PutLaws.{put_as, put-wider, put-none}
+use Rattle.printing.proofs.PutLaws.{put_as, put_wider, put_none}
 use Rattle.table_sheet.specs.SheetRows.{row_at}
-use Rattle.table_text.proofs.RowTexts.{no_flag, flag-yes, flag-no}
+use Rattle.table_text.proofs.RowTexts.{no_flag, flag_yes, flag_no}
 use Rattle.table_text.proofs.rows.put_flag.Statement.{statement}
 use Rattle.table_text.proofs.rows.put_flag.Tie as tie
 
 returns : tie.Need-returns
 returns c =
     let a = c.before.before.before.args in
-    put-wider (omega arith) (put_as (no_flag a.table (row_at [] a.sheet.now a.place) (λ z. omega (arith, z))) (put-none a.at a.out.now))
+    put_wider (omega arith) (put_as (no_flag a.table (row_at [] a.sheet.now a.place) (λ z. omega (arith, z))) (put_none a.at a.out.now))
 
 add-if2 : tie.Need-overflow-add-if2
 add-if2 c = search rules
@@ -35,7 +35,7 @@ same_length c = search rules
 returns-2 : tie.Need-returns-2
 returns-2 c =
     let a = c.before.before.before.before.before.before.before.before.before.before.args in
-    put_as (flag-yes a.table (row_at [] a.sheet.now a.place) (omega arith) (omega arith)) c.before.before.put-column.ensures
+    put_as (flag_yes a.table (row_at [] a.sheet.now a.place) (omega arith) (omega arith)) c.before.before.put-column.ensures
 
 slice-aggregate-put-column-2 : tie.Need-slice-aggregate-put-column-2
 slice-aggregate-put-column-2 c = search rules
@@ -49,7 +49,7 @@ same-length-2 c = search rules
 returns-3 : tie.Need-returns-3
 returns-3 c =
     let a = c.before.before.before.before.before.before.before.before.before.before.args in
-    put_as (flag-no a.table (row_at [] a.sheet.now a.place) (omega arith) (λ z. omega (arith, z))) c.before.before.put-column2.ensures
+    put_as (flag_no a.table (row_at [] a.sheet.now a.place) (omega arith) (λ z. omega (arith, z))) c.before.before.put-column2.ensures
 
 pub put-flag-spec : {M : Type 1} → statement M
 put-flag-spec =

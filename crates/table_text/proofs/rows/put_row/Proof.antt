@@ -6,11 +6,11 @@ use Prim.Native.Nat.{ℕ}
 use mathlib.Core.Path.{ap, ◌∙◌}
 use mathlib.Core.List.{List, [], ◌∷◌, ◌++◌}
 use Rattle.rules.specs.Bytes.{newline}
-use Rattle.rules.specs.Tidy.{tab, idDigits, flagged, secondText}
+use Rattle.rules.specs.Tidy.{tab, id_digits, flagged, second_text}
 use Rattle.printing.specs.Further.{further}
 use Rattle.printing.proofs.PutLaws.{put_then, put_as}
 use Rattle.table_sheet.specs.SheetRows.{row_at}
-use Rattle.table_text.proofs.RowTexts.{row-line, first-inside}
+use Rattle.table_text.proofs.RowTexts.{row_line_lem, first_inside}
 use Rattle.table_text.proofs.rows.put_row.Statement.{statement}
 use Rattle.table_text.proofs.rows.put_row.Tie as tie
 
@@ -32,7 +32,7 @@ add-put-field-2 c = search rules
 put-field-requires : tie.Need-put-field-requires
 put-field-requires c κs =
     let a = c.before.before.before.before.before.before.before.before.before.args in
-    (first-inside a.file.now a.sheet.now a.place c.before.before.before.before.before.before.before.before.before.requires.0 c.before.before.before.before.before.before.before.before.before.requires.1, omega arith)
+    (first_inside a.file.now a.sheet.now a.place c.before.before.before.before.before.before.before.before.before.requires.0 c.before.before.before.before.before.before.before.before.before.requires.1, omega arith)
 
 put-flag-requires : tie.Need-put-flag-requires
 put-flag-requires c κs = search rules
@@ -51,7 +51,7 @@ returns c =
     let a = c.before.before.before.before.before.before.before.before.before.before.before.before.before.before.before.before.before.before.before.before.before.before.before.before.args in
     let r = row_at a.file.now a.sheet.now a.place in
     put_as
-    (row-line a.table r)
+    (row_line_lem a.table r)
     (put_then
     (put_then (put_then (put_then c.before.before.before.before.before.before.before.before.before.before.before.before.before.before.before.before.before.before.put_id.ensures c.before.before.before.before.before.before.before.before.before.before.before.before.before.before.put-field.ensures) c.before.before.before.before.before.before.before.before.before.before.put-flag.ensures) c.before.before.before.before.before.before.put_second.ensures)
     c.before.before.put_byte.ensures)

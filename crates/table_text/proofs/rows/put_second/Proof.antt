@@ -7,9 +7,9 @@ use mathlib.Core.Path.{ap, ◌∙◌}
 use mathlib.Core.List.{List, ◌∷◌}
 use Rattle.rules.specs.Tidy.{tab, commented}
 use Rattle.printing.specs.Further.{further, text_of}
-use Rattle.printing.proofs.PutLaws.{put_as, put-wider}
+use Rattle.printing.proofs.PutLaws.{put_as, put_wider}
 use Rattle.table_sheet.specs.SheetRows.{row_at}
-use Rattle.table_text.proofs.RowTexts.{note-second, text-second, second-inside}
+use Rattle.table_text.proofs.RowTexts.{note_second, text_second, second_inside}
 use Rattle.table_text.proofs.rows.put_second.Statement.{statement}
 use Rattle.table_text.proofs.rows.put_second.Tie as tie
 
@@ -22,7 +22,7 @@ add-put-note-2 c = search rules
 put-note-requires : tie.Need-put-note-requires
 put-note-requires c κs =
     let a = c.before.before.before.before.before.args in
-    (second-inside a.file.now a.sheet.now a.place c.before.before.before.before.before.requires.0 c.before.before.before.before.before.requires.1, omega arith)
+    (second_inside a.file.now a.sheet.now a.place c.before.before.before.before.before.requires.0 c.before.before.before.before.before.requires.1, omega arith)
 
 same_length : tie.Need-same-length
 same_length c = search rules
@@ -30,7 +30,7 @@ same_length c = search rules
 returns : tie.Need-returns
 returns c =
     let a = c.before.before.before.before.before.before.before.before.args in
-    put_as (note-second a.table (row_at a.file.now a.sheet.now a.place) (omega arith)) c.before.before.put-note.ensures
+    put_as (note_second a.table (row_at a.file.now a.sheet.now a.place) (omega arith)) c.before.before.put-note.ensures
 
 add-put-field : tie.Need-overflow-add-put-field
 add-put-field c = search rules
@@ -41,7 +41,7 @@ add-put-field-2 c = search rules
 put-field-requires : tie.Need-put-field-requires
 put-field-requires c κs =
     let a = c.before.before.before.before.before.args in
-    (second-inside a.file.now a.sheet.now a.place c.before.before.before.before.before.requires.0 c.before.before.before.before.before.requires.1, omega arith)
+    (second_inside a.file.now a.sheet.now a.place c.before.before.before.before.before.requires.0 c.before.before.before.before.before.requires.1, omega arith)
 
 same-length-2 : tie.Need-same-length-2
 same-length-2 c = search rules
@@ -49,8 +49,8 @@ same-length-2 c = search rules
 returns-2 : tie.Need-returns-2
 returns-2 c =
     let a = c.before.before.before.before.before.before.before.before.args in
-    put-wider (omega arith)
-    (put_as (text-second a.table (row_at a.file.now a.sheet.now a.place) (λ z. omega (arith, z))) c.before.before.put-field.ensures)
+    put_wider (omega arith)
+    (put_as (text_second a.table (row_at a.file.now a.sheet.now a.place) (λ z. omega (arith, z))) c.before.before.put-field.ensures)
 
 pub put-second-spec : {M : Type 1} → statement M
 put-second-spec =

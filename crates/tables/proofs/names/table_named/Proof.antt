@@ -4,15 +4,15 @@ use Prim.Native.Nat.{ℕ}
 use mathlib.Core.Path.{◌≡◌, sym, ◌∙◌}
 use mathlib.Core.List.{List}
 use lib.ListN.{drop}
-use Rattle.rules.specs.Tables.{tableNames, placeFrom}
-use Rattle.tables.specs.Names.{nameAnswer}
+use Rattle.rules.specs.Tables.{table_names, place_from}
+use Rattle.tables.specs.Names.{name_answer}
 use Rattle.tables.specs.declared.names.TableName.{TableName}
 use Rattle.tables.proofs.names.table_named.Statement.{statement}
 use Rattle.tables.proofs.names.table_named.Tie as tie
 
 -- the answer if the name is none of the first n
 abbrev from : ℕ → List ℕ → ℕ → TableName
-from n name start = nameAnswer (placeFrom n (record { start = start; bytes = name }) (drop n tableNames))
+from n name start = name_answer (place_from n (record { start = start; bytes = name }) (drop n table_names))
 
 abbrev name1 : tie.After-same-text → List ℕ
 name1 s = s.before.before.before.args.name.now

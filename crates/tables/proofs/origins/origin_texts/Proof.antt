@@ -7,8 +7,8 @@ use mathlib.Core.Path.{refl, sym}
 use mathlib.Core.List.{List}
 use lib.ListN.{length, take, get_or}
 use lib.Seq.{length-take-le}
-use Rattle.rules.specs.Numbers.{fileLimit}
-use Rattle.tables.proofs.RowTexts.{whole-fits, first-inside, signs-inside, origin-cut}
+use Rattle.rules.specs.Numbers.{file_limit}
+use Rattle.tables.proofs.RowTexts.{whole_fits, first_inside, signs_inside, origin_cut}
 use Rattle.tables.proofs.origins.origin_texts.Statement.{statement}
 use Rattle.tables.proofs.origins.origin_texts.Tie as tie
 
@@ -19,13 +19,13 @@ abbrev whole : tie.After-behind → List ℕ
 whole b = take (start b).args.line.end (start b).args.file.now
 
 first : (b : tie.After-behind) → get_or (start b).args.places.now 1 0 ≤ length (whole b)
-first b = first-inside _ _ _ (start b).requires.1 (start b).requires.2 _ refl
+first b = first_inside _ _ _ (start b).requires.1 (start b).requires.2 _ refl
 
-fits : (b : tie.After-behind) → length (whole b) ≤ fileLimit
-fits b = whole-fits _ _ _ (start b).requires.1 (start b).requires.2 _ refl
+fits : (b : tie.After-behind) → length (whole b) ≤ file_limit
+fits b = whole_fits _ _ _ (start b).requires.1 (start b).requires.2 _ refl
 
 signs : (p : tie.After-percents-from) → p.percents-from.result ≤ length (whole p.before)
-signs p = let s = start p.before in signs-inside _ _ _ s.pre.1 s.pre.2 _ refl _ p.percents-from.ensures
+signs p = let s = start p.before in signs_inside _ _ _ s.pre.1 s.pre.2 _ refl _ p.percents-from.ensures
 
 slice-aggregate-head : tie.Need-slice-aggregate-head
 slice-aggregate-head c = sym (length-take-le _ _ c.before.before.requires.1.inside)
@@ -54,7 +54,7 @@ returns : tie.Need-returns
 returns c =
     let p = c.before.before.before in
     let s = start p.before in
-    origin-cut _ _ _ s.pre.1 s.pre.2 _ refl _ p.percents-from.ensures _ _ c.before.trim.ensures c.trim2.ensures
+    origin_cut _ _ _ s.pre.1 s.pre.2 _ refl _ p.percents-from.ensures _ _ c.before.trim.ensures c.trim2.ensures
 
 pub origin-texts-spec : {M : Type 1} → statement M
 origin-texts-spec =

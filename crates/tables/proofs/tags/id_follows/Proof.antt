@@ -1,6 +1,6 @@
 -- `tables::tags::id_follows` meets its contract: there is no row yet, or the id of the last one tells.
 use borrow.Author.Rules.{rules}
-use Rattle.tables.proofs.RowsSoFar.{follows-none, follows_next, follows-unknown, follows-not}
+use Rattle.tables.proofs.RowsSoFar.{follows_none, follows_next, follows_unknown, follows_not}
 use native.Mathlib.Omega.{arith}
 use Prim.Native.Nat.{ℕ, ◌+◌, ◌-◌, ◌*◌}
 use mathlib.Core.List.{List}
@@ -18,7 +18,7 @@ abbrev place : tie.Start → ℕ
 place s = s.args.place + 6 * (s.args.rows - 1)
 
 returns : tie.Need-returns
-returns c file = follows-none file (sheet c.before) c.before.args.place c.before.args.rows c.if1.true c.before.args.id1
+returns c file = follows_none file (sheet c.before) c.before.args.place c.before.args.rows c.if1.true c.before.args.id1
 
 cast-last : tie.Need-overflow-cast-last
 cast-last c = omega (arith, c.shared-slice-known.given (place (start c)))
@@ -30,10 +30,10 @@ returns-2 : tie.Need-returns-2
 returns-2 c file = let s = start c.before in follows_next file (sheet s) s.args.place s.args.rows c.before.before.if1.false s.args.id1 c.if2.true
 
 returns-3 : tie.Need-returns-3
-returns-3 c file = let s = start c.before.before in follows-unknown file (sheet s) s.args.place s.args.rows c.before.before.before.if1.false s.args.id1 c.before.if2.false c.if3.true
+returns-3 c file = let s = start c.before.before in follows_unknown file (sheet s) s.args.place s.args.rows c.before.before.before.if1.false s.args.id1 c.before.if2.false c.if3.true
 
 returns-4 : tie.Need-returns-4
-returns-4 c file = let s = start c.before.before in follows-not file (sheet s) s.args.place s.args.rows c.before.before.before.if1.false s.args.id1 c.before.if2.false c.if3.false
+returns-4 c file = let s = start c.before.before in follows_not file (sheet s) s.args.place s.args.rows c.before.before.before.if1.false s.args.id1 c.before.if2.false c.if3.false
 
 pub id-follows-spec : {M : Type 1} → statement M
 id-follows-spec =

@@ -4,15 +4,15 @@ use borrow.Author.Tests.{eq-eqb, ne_eqb}
 use mathlib.Core.Path.{◌≡◌, sym, ◌∙◌}
 use mathlib.Core.Bool.{true}
 use lib.Dec.{eqb}
-use Rattle.rules.specs.Tables.{wordTags}
+use Rattle.rules.specs.Tables.{word_tags}
 use Rattle.tables.proofs.tags.read_flag.Statement.{statement}
 use Rattle.tables.proofs.tags.read_flag.Tie as tie
 
-flagged : (e : tie.Else1) → eqb e.before.before.args.table wordTags ≡ true
-flagged e = eq-eqb _ wordTags e.if1.false
+flagged : (e : tie.Else1) → eqb e.before.before.args.table word_tags ≡ true
+flagged e = eq-eqb _ word_tags e.if1.false
 
 returns : tie.Need-returns
-returns c = rw (ne_eqb _ wordTags c.if1.true)
+returns c = rw (ne_eqb _ word_tags c.if1.true)
 
 column-text-requires : tie.Need-column-text-requires
 column-text-requires c κs = (c.before.before.requires.0, c.before.before.requires.1 c.if1.false)

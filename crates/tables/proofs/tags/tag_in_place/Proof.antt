@@ -4,9 +4,9 @@ use borrow.Author.Tests.{not-true, not-false}
 use mathlib.Core.Path.{◌≡◌, sym}
 use mathlib.Core.List.{List}
 use Rattle.rules.specs.Tables.{Row}
-use Rattle.rules.specs.Rows.{lastId, follows}
+use Rattle.rules.specs.Rows.{last_id, follows}
 use Rattle.table_sheet.specs.SheetRows.{rows_from}
-use Rattle.table_sheet.proofs.LookUps.{tag-by-bytes}
+use Rattle.table_sheet.proofs.LookUps.{tag_by_bytes}
 use Rattle.tables.proofs.tags.tag_in_place.Statement.{statement}
 use Rattle.tables.proofs.tags.tag_in_place.Tie as tie
 
@@ -16,7 +16,7 @@ start i = i.before.before.before.before
 abbrev rows : tie.After-id-follows → List Row
 rows i = let a = (start i).args in rows_from a.file.now a.sheet.now a.place a.rows
 
-id-is : (i : tie.After-id-follows) → follows (lastId (rows i)) (start i).args.id1 ≡ i.id-follows.result
+id-is : (i : tie.After-id-follows) → follows (last_id (rows i)) (start i).args.id1 ≡ i.id-follows.result
 id-is i = sym (i.id-follows.ensures (start i).args.file.now)
 
 returns : tie.Need-returns
@@ -31,7 +31,7 @@ returns-3 : tie.Need-returns-3
 returns-3 c at =
     let o = c.before.before in
     let i = o.before.before in
-    rw (id-is i, not-false i.id-follows.result o.before.if1.false, ← (o.own-tag.ensures at), not-false o.own-tag.result c.before.if2.false, tag-by-bytes)
+    rw (id-is i, not-false i.id-follows.result o.before.if1.false, ← (o.own-tag.ensures at), not-false o.own-tag.result c.before.if2.false, tag_by_bytes)
     c.is-new.ensures
 
 pub tag-in-place-spec : {M : Type 1} → statement M

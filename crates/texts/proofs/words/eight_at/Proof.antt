@@ -1,7 +1,7 @@
 -- `texts::words::eight_at` meets its contract: the sum of eight bytes with their weights.
 use borrow.Author.Rules.{rules}
 use native.Mathlib.Omega.{arith}
-use Rattle.texts.proofs.AsNumbers.{eight-sum}
+use Rattle.texts.proofs.AsNumbers.{eight_sum}
 use Rattle.texts.proofs.words.eight_at.Statement.{statement}
 use Rattle.texts.proofs.words.eight_at.Tie as tie
 
@@ -17,7 +17,7 @@ returns c =
     let a = one.before.before.before.args in
     omega (
       arith,
-      eight-sum a.text.now a.at,
+      eight_sum a.text.now a.at,
       one.long.ensures.0,
       two.long2.ensures.0,
       three.long3.ensures.0,

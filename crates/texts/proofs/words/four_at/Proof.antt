@@ -3,12 +3,12 @@ use borrow.Author.Rules.{rules}
 use native.Mathlib.Omega.{arith}
 use Prim.Native.Nat.{ℕ, ◌+◌, ◌*◌}
 use mathlib.Core.Path.{ap₂}
-use Rattle.texts.specs.Words.{fourAt}
+use Rattle.texts.specs.Words.{four_at}
 use Rattle.texts.proofs.words.four_at.Statement.{statement}
 use Rattle.texts.proofs.words.four_at.Tie as tie
 
 returns : tie.Need-returns
-unfolding fourAt
+unfolding four_at
 returns c =
     let back = c.before.two_at.ensures in
     let front = c.two-at2.ensures in

@@ -2,12 +2,12 @@
 use borrow.Author.Rules.{rules}
 use Prim.Native.Nat.{ℕ, ◌-◌, ◌*◌, ◌%◌, ◌^◌}
 use mathlib.Core.Path.{ap}
-use Rattle.texts.specs.Words.{frontAt}
+use Rattle.texts.specs.Words.{front_at}
 use Rattle.texts.proofs.words.front_at.Statement.{statement}
 use Rattle.texts.proofs.words.front_at.Tie as tie
 
 returns : tie.Need-returns
-unfolding frontAt
+unfolding front_at
 returns c = ap (λ (x : ℕ). x * 2 ^ ((64 - 8 * c.before.before.args.len) % 64) % 2 ^ 64) c.eight-at.ensures
 
 pub front-at-spec : {M : Type 1} → statement M

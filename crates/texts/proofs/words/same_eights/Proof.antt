@@ -5,8 +5,8 @@ use Prim.Native.Nat.{ℕ, ◌-◌, ◌<◌}
 use mathlib.Core.Path.{◌≡◌, sym, ◌∙◌}
 use mathlib.Core.List.{List}
 use lib.ListN.{length, get_or}
-use Rattle.texts.specs.Words.{eightAt}
-use Rattle.texts.proofs.AsNumbers.{eight-alike, numbers-differ, numbers-tell}
+use Rattle.texts.specs.Words.{eight_at}
+use Rattle.texts.proofs.AsNumbers.{eight_alike, numbers_differ, numbers_tell}
 use Rattle.texts.proofs.words.same_eights.Statement.{statement}
 use Rattle.texts.proofs.words.same_eights.Tie as tie
 
@@ -22,10 +22,10 @@ a x = (start x).args.a.now
 abbrev b : Compared → List ℕ
 b x = (start x).args.b.now
 
-back_a : (x : Compared) → x.before.eight-at.result ≡ eightAt (a x) (length (a x) - 8)
+back_a : (x : Compared) → x.before.eight-at.result ≡ eight_at (a x) (length (a x) - 8)
 back_a x = x.before.eight-at.ensures
 
-back-b : (x : Compared) → x.eight-at2.result ≡ eightAt (b x) (length (a x) - 8)
+back-b : (x : Compared) → x.eight-at2.result ≡ eight_at (b x) (length (a x) - 8)
 back-b x = x.eight-at2.ensures
 
 small : (x : Compared) (i : ℕ) → get_or (a x) i 0 < 256
@@ -37,7 +37,7 @@ few x i = omega (arith, x.before.before.shared-slice-known2.given i)
 returns : tie.Need-returns
 returns c =
     let x = c.before in
-    numbers-differ eightAt (a x) (b x) (length (a x) - 8) (λ e. c.if1.true (back_a x ∙ e ∙ sym (back-b x)))
+    numbers_differ eight_at (a x) (b x) (length (a x) - 8) (λ e. c.if1.true (back_a x ∙ e ∙ sym (back-b x)))
 
 returns-2 : tie.Need-returns-2
 returns-2 c =
@@ -45,7 +45,7 @@ returns-2 c =
     let x = e.before in
     let p = (start x).requires in
     rw (c.before.eight-at3.ensures, c.eight-at4.ensures)
-    (numbers-tell eightAt (a x) (b x) 8 (eight-alike (a x) (b x) (small x) (few x)) p.0 p.1 p.2 (sym (back_a x) ∙ e.if1.false ∙ back-b x))
+    (numbers_tell eight_at (a x) (b x) 8 (eight_alike (a x) (b x) (small x) (few x)) p.0 p.1 p.2 (sym (back_a x) ∙ e.if1.false ∙ back-b x))
 
 pub same-eights-spec : {M : Type 1} → statement M
 same-eights-spec =

@@ -4,7 +4,7 @@ use native.Mathlib.Omega.{arith}
 use mathlib.Core.Path.{sym, ◌∙◌}
 use mathlib.Core.Bool.{false≢true}
 use borrow.Author.Tests.{eqb-true}
-use Rattle.texts.proofs.SamePlaces.{eights-same}
+use Rattle.texts.proofs.SamePlaces.{eights_same}
 use Rattle.texts.proofs.words.same_places.Statement.{statement}
 use Rattle.texts.proofs.words.same_places.Tie as tie
 
@@ -16,7 +16,7 @@ returns-2 c e =
     let x = c.before.before.before in
     let s = x.before.before.before in
     let a = s.args in
-    eights-same a.text.now (λ i. omega (arith, x.before.before.shared-slice-known.given i)) a.a a.b a.len s.requires.2 s.requires.3 s.requires.0 s.requires.1
+    eights_same a.text.now (λ i. omega (arith, x.before.before.shared-slice-known.given i)) a.a a.b a.len s.requires.2 s.requires.3 s.requires.0 s.requires.1
     (sym c.before.eight-at3.ensures ∙ eqb-true _ _ e ∙ c.eight-at4.ensures)
     (sym x.before.eight-at.ensures ∙ c.before.before.if1.false ∙ x.eight-at2.ensures)
 

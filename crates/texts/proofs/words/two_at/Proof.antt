@@ -3,12 +3,12 @@ use borrow.Author.Rules.{rules}
 use native.Mathlib.Omega.{arith}
 use Prim.Native.Nat.{ℕ, ◌+◌, ◌*◌}
 use mathlib.Core.Path.{ap₂}
-use Rattle.texts.specs.Words.{twoAt}
+use Rattle.texts.specs.Words.{two_at}
 use Rattle.texts.proofs.words.two_at.Statement.{statement}
 use Rattle.texts.proofs.words.two_at.Tie as tie
 
 returns : tie.Need-returns
-unfolding twoAt
+unfolding two_at
 returns c =
     let back = c.before.before.wide.ensures in
     let front = c.wide2.ensures in

@@ -2,8 +2,8 @@
 use borrow.Author.Rules.{rules}
 use native.Mathlib.Omega.{arith}
 use Prim.Native.Nat.{◌<◌}
-use Rattle.sentences.proofs.StampedMarks.{marked-further}
-use Rattle.writing.proofs.FoundTexts.{none-put, found-readable, found-used, found-put}
+use Rattle.sentences.proofs.StampedMarks.{marked_further}
+use Rattle.writing.proofs.FoundTexts.{none_put, found_readable, found_used, found_put}
 use Rattle.writing.proofs.found.print_begun.Statement.{statement}
 use Rattle.writing.proofs.found.print_begun.Tie as tie
 
@@ -13,7 +13,7 @@ first c = c.before.before.before.before.before
 returns : tie.Need-returns
 returns c =
     let s = first c.before in
-    (none-put s.args.file.now s.args.begin c.if1.true _ _, s.pre.3, s.pre.4, s.pre.5, marked-further s.pre.8)
+    (none_put s.args.file.now s.args.begin c.if1.true _ _, s.pre.3, s.pre.4, s.pre.5, marked_further s.pre.8)
 
 abbrev start : tie.Else1 → tie.Start
 start e = first e.before
@@ -33,7 +33,7 @@ print-sentence-requires : tie.Need-print-sentence-requires
 print-sentence-requires c κs =
     let r = c.before.before.before.before.before.before.before.before in
     let s = start (beginning r) in
-    (found-readable s.args.file.now s.args.begin s.pre.2 (given (beginning r)) _ _ _ r.read-into.ensures.0, s.pre.5, s.pre.6)
+    (found_readable s.args.file.now s.args.begin s.pre.2 (given (beginning r)) _ _ _ r.read-into.ensures.0, s.pre.5, s.pre.6)
 
 abbrev read : tie.After-print-sentence → tie.After-read-into
 read p = p.before.before.before.before.before.before.before.before.before
@@ -42,7 +42,7 @@ clear-used-requires : tie.Need-clear-used-requires
 clear-used-requires c κs =
     let r = read c.before.before.before.before.before.before in
     let s = start (beginning r) in
-    found-used s.args.file.now s.args.begin s.pre.2 (given (beginning r)) _ _ _ r.read-into.ensures.0
+    found_used s.args.file.now s.args.begin s.pre.2 (given (beginning r)) _ _ _ r.read-into.ensures.0
 
 returns-2 : tie.Need-returns-2
 returns-2 c =
@@ -50,7 +50,7 @@ returns-2 c =
     let p = d.before.before.before.before.before.before.before in
     let r = read p in
     let s = start (beginning r) in (
-      found-put s.args.file.now s.args.begin s.pre.2 (given (beginning r)) _ _ _ r.read-into.ensures.0 _ _ _ _ p.print-sentence.ensures.0,
+      found_put s.args.file.now s.args.begin s.pre.2 (given (beginning r)) _ _ _ r.read-into.ensures.0 _ _ _ _ p.print-sentence.ensures.0,
       d.clear-used.ensures.0,
       d.clear-used.ensures.1,
       p.print-sentence.ensures.1,

@@ -6,28 +6,28 @@ use Prim.Native.Nat.{ℕ, ◌+◌, ◌-◌, ◌*◌, ◌≤◌}
 use mathlib.Core.Path.{◌≡◌, refl, sym, ap, ◌∙◌}
 use mathlib.Core.List.{List}
 use lib.ListN.{length, replicate, take, length-replicate}
-use Rattle.rules.specs.Numbers.{edgeLimit}
-use Rattle.rules.specs.SheetFields.{nodeRoom}
-use Rattle.rules.specs.Sheets.{sentenceSheetSize}
+use Rattle.rules.specs.Numbers.{edge_limit}
+use Rattle.rules.specs.SheetFields.{node_room}
+use Rattle.rules.specs.Sheets.{sentence_sheet_size}
 use Rattle.rules.proofs.Rooms.{each_at}
-use Rattle.sentence_sheet.specs.FlatEdges.{edgeWidth}
+use Rattle.sentence_sheet.specs.FlatEdges.{edge_width}
 use Rattle.sentences.specs.Keeping.{MarkedUpTo}
-use Rattle.sentences.proofs.StampedMarks.{zeros-marked}
+use Rattle.sentences.proofs.StampedMarks.{zeros_marked}
 use Rattle.printing.specs.Over.{Put}
-use Rattle.printing.proofs.PutLaws.{put-length}
-use Rattle.writing.specs.TextParts.{sentencesText, sentenceLong, sentencesMost}
+use Rattle.printing.proofs.PutLaws.{put_length}
+use Rattle.writing.specs.TextParts.{sentences_text, sentence_long, sentences_most}
 use Rattle.writing.specs.Ready.{Entry}
-use Rattle.writing.proofs.FoundTexts.{all_start, all_more, all-put}
+use Rattle.writing.proofs.FoundTexts.{all_start, all_more, all_put}
 use Rattle.writing.proofs.found.print_sentences.Statement.{statement}
 use Rattle.writing.proofs.found.print_sentences.Tie as tie
 
 -- so many numbers are printed
 record Going (file begins : List ℕ) (at : ℕ) (lent sheet edges out firsts marks : List ℕ) (end n : ℕ) : Type 0 where
   pub in_list : n ≤ length begins
-  pub put : Put (sentenceLong * n) (sentencesText file (take n begins)) at lent end out
-  pub sheet-zero : sheet ≡ replicate sentenceSheetSize 0
-  pub edges-zero : edges ≡ replicate (edgeLimit * edgeWidth) 0
-  pub firsts-zero : firsts ≡ replicate nodeRoom 0
+  pub put : Put (sentence_long * n) (sentences_text file (take n begins)) at lent end out
+  pub sheet-zero : sheet ≡ replicate sentence_sheet_size 0
+  pub edges-zero : edges ≡ replicate (edge_limit * edge_width) 0
+  pub firsts-zero : firsts ≡ replicate node_room 0
   pub marked : MarkedUpTo n marks
 
 abbrev invariant-loop : tie.invariant-loop
@@ -56,13 +56,13 @@ loop-holds c =
       sheet-zero = s.requires.3;
       edges-zero = s.requires.4;
       firsts-zero = refl;
-      marked = zeros-marked;
+      marked = zeros_marked;
     }
 
 slice-aggregate-print-begun : tie.Need-slice-aggregate-print-begun invariant-loop decreases-loop
 slice-aggregate-print-begun c =
     let l = c.before.before.before.before.before in
-    sym (ap length l.loop.invariant.firsts-zero ∙ length-replicate {A = ℕ} nodeRoom 0)
+    sym (ap length l.loop.invariant.firsts-zero ∙ length-replicate {A = ℕ} node_room 0)
 
 print-begun-requires : tie.Need-print-begun-requires invariant-loop decreases-loop
 print-begun-requires c κs =
@@ -108,7 +108,7 @@ returns c =
     let l = c.before in
     let s = start l in
     let g = l.loop.invariant in (
-      all-put s.args.file.now s.args.begins.now l.loop.n sentencesMost (omega (arith, g.in_list, c.loop-test.false)) (omega (arith, g.in_list, s.pre.2)) g.put,
+      all_put s.args.file.now s.args.begins.now l.loop.n sentences_most (omega (arith, g.in_list, c.loop-test.false)) (omega (arith, g.in_list, s.pre.2)) g.put,
       g.sheet-zero,
       g.edges-zero,
     )
@@ -129,7 +129,7 @@ print-sentences-spec =
     (λ c. search rules)
     (λ c. let i = turn (printed c) in omega (arith, i.loop-test.taken))
     loop-again
-    (λ c. zeros-long sentenceSheetSize _ _ c.before.loop.invariant.sheet-zero (start c.before).pre.3)
-    (λ c. zeros-long (edgeLimit * edgeWidth) _ _ c.before.loop.invariant.edges-zero (start c.before).pre.4)
-    (λ c. put-length c.before.loop.invariant.put)
+    (λ c. zeros-long sentence_sheet_size _ _ c.before.loop.invariant.sheet-zero (start c.before).pre.3)
+    (λ c. zeros-long (edge_limit * edge_width) _ _ c.before.loop.invariant.edges-zero (start c.before).pre.4)
+    (λ c. put_length c.before.loop.invariant.put)
     returns)
