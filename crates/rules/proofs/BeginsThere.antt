@@ -77,7 +77,7 @@ module _ (at : ℕ) where
       where
         by : (a : Answer) → Alike p s a (step (in_sentence alone s) used line) → Keeps p a → Goes a
         by (refuse r) k j = tt
-        by (go phase) k j = subst (Started _) (sym k.2) (q, k.1 ∙ e)
+        by (go phase) k j = subst (Started (done ++ (l ++ (newline ∷ [])))) (sym k.2) (q, k.1 ∙ e)
         by (hand r t) k j = (j ∙ q, ap (λ (u : Sentence). u.start) k.0 ∙ e)
 
     one_starts : (phase : Phase) → Started done phase → Goes (step phase used line)

@@ -124,6 +124,7 @@ pointing_from q p = by ((is_member q.number pointing).0 p)
     by (inr (inr (inl e))) = omega (arith, e)
     by (inr (inr (inr (inl e)))) = omega (arith, e)
     by (inr (inr (inr (inr (inl e))))) = omega (arith, e)
+    by (inr (inr (inr (inr (inr x))))) = elim x [ ]
 
 pub has_held : (q : Rule) → points q ≡ true → (n : ℕ) (holds : Bool) → leb n 7 ≡ true → (holds ≡ false → q.number ≤ n) → holds ≡ true
 has_held q p n holds seven k = by (true_or_not holds)
