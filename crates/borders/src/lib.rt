@@ -1,5 +1,7 @@
 // Demand 1 at the border to other languages: each function of hraunlik called beside the one that it stands for, with any two
 // sets of buffers. If the same was lent, the same is answered and left, so hraunlik has no second outcome either.
+#![tactic(auto)]
+
 ghost use Rattle.std.specs.Prelude.{◌≡◌};
 ghost use Rattle.opened_demands.specs.Calls.{left, left_there};
 ghost use Rattle.indexed_demands.specs.Entries.{survey_left, index_left};
@@ -11,7 +13,7 @@ use survey::Surveyed;
 use writing::Written;
 
 // The answers of two surveys or indexes.
-#[derive(Drop)]
+#[derive(Clone, Copy)]
 pub struct Surveys {
     pub first: Surveyed,
     pub second: Surveyed,
@@ -85,7 +87,7 @@ pub fn index_across(
 }
 
 // The answers of two openings.
-#[derive(Drop)]
+#[derive(Clone, Copy)]
 pub struct Openings {
     pub first: u32,
     pub second: u32,
@@ -130,7 +132,7 @@ pub fn open_at_across(
 }
 
 // The answers of two writings.
-#[derive(Drop)]
+#[derive(Clone, Copy)]
 pub struct Writings {
     pub first: Written,
     pub second: Written,
@@ -176,7 +178,7 @@ pub fn write_across(
 }
 
 // The answers of two explainings.
-#[derive(Drop)]
+#[derive(Clone, Copy)]
 pub struct Explanations {
     pub first: Explained,
     pub second: Explained,

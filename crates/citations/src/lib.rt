@@ -1,4 +1,6 @@
 // What a line cites, looked up in the table sheet: the tags of a node line, the editor and the origin of a sentence.
+#![tactic(auto)]
+
 mod ids;
 
 ghost use Rattle.std.specs.Prelude.{◌≡◌, true, List, ℕ, ◌+◌, ◌≤◌, ◌<◌, length, take, drop};

@@ -1,4 +1,6 @@
 // The constant table of byte classes, which every walk along bytes is lent.
+#![tactic(auto)]
+
 ghost use Rattle.std.specs.Prelude.{◌≡◌};
 ghost use Rattle.rules.specs.Bytes.{class_table, class_of};
 

@@ -1,5 +1,7 @@
 // The columns of a line, found one by one: a column is a run of bytes that aren't white. A cursor is a place by value,
 // and each step hands back the next one.
+#![tactic(auto)]
+
 pub mod listing;
 pub mod reader;
 
@@ -47,13 +49,13 @@ pub fn is_twice(text: &[u8], b: u8) -> bool
     text[0] == b
 }
 
-#[derive(Drop)]
+#[derive(Clone, Copy)]
 pub struct Cursor {
     pub at: usize,
 }
 
 // The next column with the cursor behind it, or none.
-#[derive(Drop)]
+#[derive(Clone, Copy)]
 pub enum Column {
     Found {
         start: usize,

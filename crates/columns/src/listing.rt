@@ -12,7 +12,7 @@ use crate::reader::list_columns;
 use crate::{Column, Cursor};
 
 // A line of the file without its newline, and how many columns it has.
-#[derive(Drop)]
+#[derive(Clone, Copy)]
 pub struct Line {
     pub start: usize,
     pub end: usize,
@@ -20,7 +20,7 @@ pub struct Line {
 }
 
 // Where a text lies in the file; an absent one is 0, 0.
-#[derive(Drop)]
+#[derive(Clone, Copy)]
 pub struct Span {
     pub start: u32,
     pub len: u32,

@@ -8,7 +8,7 @@ ghost use Rattle.columns.specs.Listing.{places_of};
 
 use crate::listing::walk_columns;
 
-#[derive(Drop)]
+#[derive(Clone, Copy)]
 pub struct Reader<'a> {
     pub line: &'a [u8],
     pub at: usize,

@@ -1,5 +1,7 @@
 // Demand 3, of surveys and openings: each the promise of a function that calls them and is proved from their contracts alone.
 // Nothing is required of what is lent.
+#![tactic(auto)]
+
 ghost use Rattle.std.specs.Prelude.{◌≡◌, List, [], ◌∷◌, ◌++◌, ℕ, ◌≤◌, length, take};
 ghost use Rattle.rules.specs.Numbers.{file_limit};
 ghost use Rattle.rules.specs.Reading.{Handed};
@@ -36,7 +38,7 @@ pub fn cut(file: &[u8], n: usize, sheet: &mut [u32], seen: &mut [u8]) -> Surveye
 }
 
 // The answers of two surveys.
-#[derive(Drop)]
+#[derive(Clone, Copy)]
 pub struct Surveys {
     pub first: Surveyed,
     pub second: Surveyed,
@@ -60,7 +62,7 @@ pub fn sound_part(file: &[u8], sheet: &mut [u32], seen: &mut [u8]) -> Surveys
 }
 
 // The answers of two openings.
-#[derive(Drop)]
+#[derive(Clone, Copy)]
 pub struct Openings {
     pub first: u32,
     pub second: u32,

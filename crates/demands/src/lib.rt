@@ -1,5 +1,7 @@
 // Demands 1 and 2, each the promise of a function that calls the survey and is proved from the survey's contract alone. Nothing
 // is required of what is lent.
+#![tactic(auto)]
+
 ghost use Rattle.std.specs.Prelude.{◌≡◌, ◌↔◌, true, eqb};
 ghost use Rattle.rules.specs.Survey.{sheets_fit};
 ghost use Rattle.rules.specs.Grammar.{Fits};

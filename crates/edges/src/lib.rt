@@ -1,4 +1,6 @@
 // The list of secondary edges as records, and the openings and the writing that lend it so.
+#![tactic(auto)]
+
 mod plain_lists;
 
 ghost use Rattle.std.specs.Prelude.{◌≡◌, ◌<◌, ◌≤◌, ◌++◌, length, drop};
@@ -12,7 +14,7 @@ use steps::refusals;
 use writing::Written;
 
 // A secondary edge: the child's number, its label's place and length, the secondary parent.
-#[derive(Drop)]
+#[derive(Clone, Copy)]
 pub struct Edge {
     pub child: u32,
     pub label: u32,

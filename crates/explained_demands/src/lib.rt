@@ -1,5 +1,7 @@
 // Explaining a tag as document 02 says it, and demand 1: each the promise of a function that makes the calls and is proved from
 // their contracts alone. No contract here names what `explaining` defines. Nothing is required of what is lent.
+#![tactic(auto)]
+
 ghost use Rattle.std.specs.Prelude.{◌≡◌, true};
 ghost use Rattle.rules.specs.LentBuffers.{SheetsSized, WithinLimit};
 ghost use Rattle.explained_demands.specs.ExplainedAs.{ExplainedAs, PlacedPart, GivenPart, SameAnswer};
@@ -38,7 +40,7 @@ pub fn explains<'a>(
 }
 
 // The answers of two calls.
-#[derive(Drop)]
+#[derive(Clone, Copy)]
 pub struct Two {
     pub first: Explained,
     pub second: Explained,

@@ -1,4 +1,6 @@
 // The description of a tag: from the file if it has the tag's table, else from a list of tags that is also an export file.
+#![tactic(auto)]
+
 ghost use Rattle.std.specs.Prelude.{◌≡◌, true, ◌||◌, ◌+◌, ◌*◌, ◌≤◌, length};
 ghost use Rattle.rules.specs.Lists.{same};
 ghost use Rattle.rules.specs.Tables.{dashes, unknown};
@@ -25,7 +27,7 @@ const FIRST_TAG_TABLE: u32 = 3;
 const LAST_TAG_TABLE: u32 = 7;
 
 // The refusal, 0 if granted, and where the part stands; every refusal has the empty part of neither.
-#[derive(Drop)]
+#[derive(Clone, Copy)]
 pub struct Explained {
     pub refusal: u32,
     pub of: u32,

@@ -41,7 +41,7 @@ pub fn has_columns(file: &[u8], line: Line, places: &Places) -> bool
     columns::is_twice(column_text(file, line, places, PERCENTS), b'%')
 }
 
-#[derive(Drop)]
+#[derive(Clone, Copy)]
 pub struct HeadingNumbers {
     pub number: u32,
     pub editor1: u32,
@@ -50,7 +50,7 @@ pub struct HeadingNumbers {
 }
 
 // The four numbers, or the first column that is none.
-#[derive(Drop)]
+#[derive(Clone, Copy)]
 pub enum FourNumbers {
     Good(HeadingNumbers),
     Bad(usize),

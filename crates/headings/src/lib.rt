@@ -1,4 +1,6 @@
 // The lines that begin and end a sentence.
+#![tactic(auto)]
+
 mod bos;
 
 ghost use Rattle.std.specs.Prelude.{◌≡◌, length};

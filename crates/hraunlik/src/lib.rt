@@ -1,4 +1,6 @@
 // The library for programs in other languages. A slice is lent as two arguments, its place and its length.
+#![tactic(auto)]
+
 ghost use Rattle.std.specs.Prelude.{◌≡◌};
 ghost use Rattle.rules.specs.Survey.{after_survey};
 ghost use Rattle.rules.specs.Index.{after_indexing};

@@ -1,5 +1,7 @@
 // Demand 1, of two surveys and of the index: each the promise of a function that calls them and is proved from their contracts
 // and those of openings alone. Nothing is required of what is lent.
+#![tactic(auto)]
+
 ghost use Rattle.std.specs.Prelude.{◌≡◌, get_or};
 ghost use Rattle.rules.specs.Index.{after_indexing};
 ghost use Rattle.rules.specs.LentBuffers.{WithinLimit};
@@ -12,7 +14,7 @@ ghost use Rattle.indexed_demands.specs.Entries.{index_left, OpenedAtEntry, SameT
 use survey::Surveyed;
 
 // The answers of two surveys, or of two indexes.
-#[derive(Drop)]
+#[derive(Clone, Copy)]
 pub struct Two {
     pub first: Surveyed,
     pub second: Surveyed,
@@ -81,7 +83,7 @@ fn open_entry(file: &[u8], entry: u32, sheet: &mut [u32], edges: &mut [u32]) -> 
 }
 
 // The answers of an index, of the opening of a number, and of the opening at the entry that the index has for it.
-#[derive(Drop)]
+#[derive(Clone, Copy)]
 pub struct There {
     pub told: Surveyed,
     pub by_number: u32,

@@ -1,4 +1,6 @@
 // What a line is taken for, where it stands: by its first column each kind of line has its judge.
+#![tactic(auto)]
+
 pub mod kinds;
 pub mod plain;
 pub mod state;

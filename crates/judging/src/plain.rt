@@ -18,7 +18,7 @@ use nodes::plain::PERCENT;
 use numbers::PhraseNumber;
 
 // A word with its parent, a phrase with its number and its parent, or a line for the judge.
-#[derive(Drop)]
+#[derive(Clone, Copy)]
 pub enum Plain {
     Word(u32),
     Phrase(u32, u32),

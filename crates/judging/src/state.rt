@@ -11,7 +11,7 @@ pub const MARKS: usize = 500;
 
 // What is counted of the sentence being read. `start` is the place of its #BOS line, `highest_phrase` 499 before its first
 // phrase.
-#[derive(Drop)]
+#[derive(Clone, Copy)]
 pub struct Tally {
     pub start: u32,
     pub number: u32,
@@ -22,7 +22,7 @@ pub struct Tally {
     pub highest_parent: u32,
 }
 
-#[derive(Drop)]
+#[derive(Clone, Copy)]
 pub enum Phase {
     Start,
     Top,
@@ -32,7 +32,7 @@ pub enum Phase {
 }
 
 // `format` is 0 before the format line, `sound_end` the place behind the last sentence handed out.
-#[derive(Drop)]
+#[derive(Clone, Copy)]
 pub struct State {
     pub phase: Phase,
     pub format: u32,

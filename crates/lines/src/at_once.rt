@@ -9,7 +9,7 @@ use columns::listing::Line;
 // Room for the two numbers of each column of a line.
 const PLACES: usize = 4096;
 
-#[derive(Drop)]
+#[derive(Clone, Copy)]
 pub enum AtOnce {
     Line(Line),
     Doubted,

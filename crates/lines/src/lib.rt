@@ -1,4 +1,6 @@
 // Where a line ends, whether it may be read, and its columns.
+#![tactic(auto)]
+
 mod at_once;
 
 ghost use Rattle.std.specs.Prelude.{◌≡◌, ◌≤◌, length};
@@ -11,7 +13,7 @@ use at_once::{AtOnce, read_at_once};
 use columns::listing::{Line, ORDINARY, Places, read_line};
 
 // What is found of the line that starts at a place.
-#[derive(Drop)]
+#[derive(Clone, Copy)]
 pub enum LineEnd {
     // The line may be read, and its newline stands here.
     At(usize),
@@ -50,7 +52,7 @@ pub fn line_end(file: &[u8], from: usize, classes: &[u8; 256]) -> LineEnd
 }
 
 // The line that starts at a place, or why it may not be read.
-#[derive(Drop)]
+#[derive(Clone, Copy)]
 pub enum NextLine {
     Line(Line),
     Unended,

@@ -1,5 +1,7 @@
 // A program that owns a list of edge records: it lends the list to openings and to a writing, has it back filled, and reads a
 // record of it.
+#![tactic(auto)]
+
 ghost use Rattle.std.specs.Prelude.{◌≡◌};
 ghost use Rattle.rules.specs.Opening.{after_opening, after_opening_at, no_edges};
 ghost use Rattle.rules.specs.Writing.{after_writing};

@@ -1,5 +1,7 @@
 // Prints the tidy text of standard input, of which the first 65,536 bytes are read. Of a file that is refused it prints the
 // line that `tell` prints.
+#![tactic(auto)]
+
 ghost use Rattle.std.specs.Prelude.{◌≡◌, [], ◌∷◌, ◌≤◌, length};
 ghost use Rattle.io.specs.Counts.{IsPrefixLen};
 ghost use Rattle.rules.specs.Tidy.{digits_of, keyword_line};

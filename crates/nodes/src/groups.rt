@@ -15,7 +15,7 @@ use numbers::Number;
 use steps::{Fault, refusals};
 
 // How many fields a line has, the table of its tag, its node's number, and what the sentence's limits refuse it for.
-#[derive(Drop)]
+#[derive(Clone, Copy)]
 pub struct Own {
     pub count: usize,
     pub tags: usize,

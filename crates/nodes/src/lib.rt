@@ -1,4 +1,6 @@
 // A word line and a phrase line. The rules are asked in the order of their numbers, and the first that is broken decides.
+#![tactic(auto)]
+
 mod fields;
 mod groups;
 mod pairs;

@@ -13,7 +13,7 @@ use numbers::{Number, PhraseNumber};
 use steps::{Fault, refusals};
 
 // The parent and the highest of the parents, secondary ones too; or the first rule that is broken.
-#[derive(Drop)]
+#[derive(Clone, Copy)]
 pub enum Judged {
     Fine(u32, u32),
     Faulty(Fault),

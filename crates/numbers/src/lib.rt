@@ -1,5 +1,7 @@
 // Numbers as columns write them: decimal, without plus or leading zeros; the only negative is -1. The limits belong to
 // the kind of number they bound.
+#![tactic(auto)]
+
 pub mod quick;
 
 ghost use Rattle.std.specs.Prelude.{◌≡◌};
@@ -15,7 +17,7 @@ const DIGIT_CLASS: u8 = 2;
 
 const ZERO: u8 = 48;
 
-#[derive(Drop)]
+#[derive(Clone, Copy)]
 pub enum Number {
     Good(u32),
     Bad,
@@ -64,7 +66,7 @@ fn read_within(s: &[u8], classes: &[u8; 256], lowest: u32, highest: u32) -> Numb
     Number::Good(n)
 }
 
-#[derive(Drop)]
+#[derive(Clone, Copy)]
 pub struct SentenceNumber(pub u32);
 
 impl SentenceNumber {
@@ -80,7 +82,7 @@ impl SentenceNumber {
     }
 }
 
-#[derive(Drop)]
+#[derive(Clone, Copy)]
 pub struct OriginId(pub u32);
 
 impl OriginId {
@@ -96,7 +98,7 @@ impl OriginId {
     }
 }
 
-#[derive(Drop)]
+#[derive(Clone, Copy)]
 pub struct Date(pub u32);
 
 impl Date {
@@ -112,7 +114,7 @@ impl Date {
     }
 }
 
-#[derive(Drop)]
+#[derive(Clone, Copy)]
 pub struct FormatNumber(pub u32);
 
 impl FormatNumber {
@@ -129,7 +131,7 @@ impl FormatNumber {
 }
 
 // The number of a phrase, and a secondary parent.
-#[derive(Drop)]
+#[derive(Clone, Copy)]
 pub struct PhraseNumber(pub u32);
 
 impl PhraseNumber {
@@ -145,7 +147,7 @@ impl PhraseNumber {
     }
 }
 
-#[derive(Drop)]
+#[derive(Clone, Copy)]
 pub enum NodeRange {
     Root,
     Word,
@@ -210,7 +212,7 @@ fn is_minus_one(s: &[u8]) -> bool
 }
 
 // An editor's id: the value is one more than the id, as the sheets hold it.
-#[derive(Drop)]
+#[derive(Clone, Copy)]
 pub struct EditorId(pub u32);
 
 impl EditorId {

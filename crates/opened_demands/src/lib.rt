@@ -1,5 +1,7 @@
 // Demands 1 and 2, of openings: each the promise of a function that calls them and is proved from their contracts alone. Nothing
 // is required of what is lent.
+#![tactic(auto)]
+
 ghost use Rattle.std.specs.Prelude.{◌≡◌};
 ghost use Rattle.rules.specs.LentBuffers.{WithinLimit};
 ghost use Rattle.opened_demands.specs.ClimbingSheets.{SheetClimbs};
@@ -7,7 +9,7 @@ ghost use Rattle.opened_demands.specs.Calls.{FlatSized, AllFlatSized, left, left
 ghost use Rattle.opened_demands.specs.OpenedRules.{OpenedByNumber, OpenedAtPlace};
 
 // The answers of two openings.
-#[derive(Drop)]
+#[derive(Clone, Copy)]
 pub struct Two {
     pub first: u32,
     pub second: u32,

@@ -1,5 +1,7 @@
 // The opening of a sentence, by its number or by the place of its first line, into a sentence sheet and a list of secondary
 // edges that is lent as plain numbers.
+#![tactic(auto)]
+
 ghost use Rattle.std.specs.Prelude.{◌≡◌, ◌≤◌, length};
 ghost use Rattle.rules.specs.Numbers.{file_limit};
 ghost use Rattle.rules.specs.Sheets.{sentence_sheet_size};

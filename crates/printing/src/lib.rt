@@ -1,5 +1,7 @@
 // Printing into an output that may be too short, or empty: each function puts its text at a place, answers with the place
 // behind it, and leaves out what is behind the output's end. Put into an empty output, a text is only measured.
+#![tactic(auto)]
+
 pub mod digits;
 pub mod fields;
 

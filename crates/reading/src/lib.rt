@@ -1,4 +1,6 @@
 // One reading of a file, line by line, for the survey, the opening, the index and the writing.
+#![tactic(auto)]
+
 pub mod effect;
 mod rows;
 mod stopping;
@@ -22,14 +24,14 @@ use stopping::{closing, give_up, line_refusal};
 
 // How far the lines could be taken, and the fault that stopped them: that of a line, or of the file's end (0 if it is
 // accepted).
-#[derive(Drop)]
+#[derive(Clone, Copy)]
 pub struct Reached {
     pub state: State,
     pub fault: Fault,
 }
 
 // The answer: refusal (0 if accepted), place, sentences handed out, sound end.
-#[derive(Drop)]
+#[derive(Clone, Copy)]
 pub struct Read {
     pub refusal: u32,
     pub place: u32,

@@ -1,5 +1,7 @@
 // Demand 1, of the openings and the writing that document 01 writes down, with the list of secondary edges lent as records: each
 // the promise of a function that calls one and is proved from its contract alone. Nothing is required of what is lent.
+#![tactic(auto)]
+
 ghost use Rattle.record_demands.specs.RecordRules.{RecordsOpened, RecordsOpenedAt, RecordsWritten};
 
 use edges::Edge;

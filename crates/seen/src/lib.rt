@@ -1,4 +1,6 @@
 // The seen set: number n is bit n mod 8 of byte n / 8.
+#![tactic(auto)]
+
 ghost use Rattle.std.specs.Prelude.{◌≡◌, false, ◌*◌, ◌<◌, length, replicate};
 ghost use Rattle.seen.specs.Bits.{bit_at, with_bit};
 

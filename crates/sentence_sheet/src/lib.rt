@@ -1,4 +1,6 @@
 // The sentence sheet and the list of secondary edges, filled line by line.
+#![tactic(auto)]
+
 ghost use Rattle.std.specs.Prelude.{◌≡◌, [], ◌∷◌, ◌+◌, ◌*◌, ◌≤◌, ◌<◌, length};
 ghost use Rattle.rules.specs.SheetFields.{leading_count, node_room, node_width, field_place};
 ghost use Rattle.rules.specs.Sheets.{sentence_sheet_size};
@@ -58,7 +60,7 @@ pub const EDGE_WIDTH: usize = 4;
 pub const EDGE_LIST_SIZE: usize = EDGE_LIMIT * EDGE_WIDTH;
 
 // A node's eleven numbers: the places of its texts, its parent, the place of its comment.
-#[derive(Drop)]
+#[derive(Clone, Copy)]
 pub struct NodeRecord {
     pub word: u32,
     pub word_len: u32,

@@ -1,4 +1,6 @@
 // A sentence printed from its sheet and its list of secondary edges: document 01's "Tidy text".
+#![tactic(auto)]
+
 mod edges;
 mod nodes;
 

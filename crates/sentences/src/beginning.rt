@@ -17,7 +17,7 @@ use texts::same_text;
 const NEWLINE: u8 = 10;
 
 // The place behind the heading's line, and the counts of a sentence without nodes.
-#[derive(Drop)]
+#[derive(Clone, Copy)]
 pub enum Begun {
     Behind(usize, Tally),
     Nowhere,

@@ -1,4 +1,6 @@
 // The sentence that begins at a place of a file, read from there on into a sentence sheet and a list of secondary edges.
+#![tactic(auto)]
+
 mod beginning;
 pub mod clearing;
 mod judging_lines;

@@ -1,5 +1,7 @@
 // Opens a sentence and prints it. The first line of standard input is the sentence's number; the file follows, and its
 // first 65,536 bytes are read.
+#![tactic(auto)]
+
 mod input;
 mod print;
 

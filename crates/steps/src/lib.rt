@@ -1,4 +1,6 @@
 // What a line is taken for, with all that it says, or the fault that refuses it. Every judge of a line answers a step.
+#![tactic(auto)]
+
 pub mod refusals;
 
 ghost use Rattle.std.specs.Prelude.{◌≡◌, List, ℕ, ◌≤◌, ◌<◌};
@@ -11,14 +13,14 @@ use columns::listing;
 use columns::listing::{Line, Places, Span};
 
 // The number of a refusal and the place of what is at fault; the number 0 is no fault.
-#[derive(Drop)]
+#[derive(Clone, Copy)]
 pub struct Fault {
     pub number: u32,
     pub place: u32,
 }
 
 // A table's row: id + 1, its two texts, its flag (1 for Y).
-#[derive(Drop)]
+#[derive(Clone, Copy)]
 pub struct RowSaid {
     pub id1: u32,
     pub first: Span,
@@ -27,7 +29,7 @@ pub struct RowSaid {
 }
 
 // #BOS: the editor's id is given with one added.
-#[derive(Drop)]
+#[derive(Clone, Copy)]
 pub struct HeadingSaid {
     pub number: u32,
     pub editor1: u32,
@@ -37,7 +39,7 @@ pub struct HeadingSaid {
 }
 
 // A word or a phrase; `edges` counts its secondary edges, `highest` is the largest of its parents, secondary ones too.
-#[derive(Drop)]
+#[derive(Clone, Copy)]
 pub struct NodeSaid {
     pub word: Span,
     pub tag: Span,
@@ -50,7 +52,7 @@ pub struct NodeSaid {
     pub highest: u32,
 }
 
-#[derive(Drop)]
+#[derive(Clone, Copy)]
 pub enum Step {
     Ignored,
     Format(u32),

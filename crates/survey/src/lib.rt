@@ -1,4 +1,6 @@
 // The survey: the lent buffers have their sizes, the file is not too long, and then it is read once.
+#![tactic(auto)]
+
 ghost use Rattle.std.specs.Prelude.{◌≡◌};
 ghost use Rattle.rules.specs.Survey.{told, nothing_read, sheets_fit, after_survey};
 ghost use Rattle.rules.specs.Index.{after_indexing};
@@ -10,7 +12,7 @@ use steps::refusals;
 pub const FILE_LIMIT: usize = 268435456;
 
 // The answer: refusal (0 if accepted), place, sentences handed out, sound end.
-#[derive(Drop)]
+#[derive(Clone, Copy)]
 pub struct Surveyed {
     pub refusal: u32,
     pub place: u32,

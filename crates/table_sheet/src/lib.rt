@@ -1,4 +1,6 @@
 // The table sheet: its rows are looked up, stored and cleared.
+#![tactic(auto)]
+
 mod fours;
 mod hints;
 pub mod order;
@@ -54,7 +56,7 @@ pub fn row_place(table: usize, row: usize) -> usize
 }
 
 // Which of some rows it is, counted from 0.
-#[derive(Drop)]
+#[derive(Clone, Copy)]
 pub enum Found {
     Row(usize),
     Missing,

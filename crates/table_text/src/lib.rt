@@ -1,4 +1,6 @@
 // The tables printed from the table sheet: document 01's "Tidy text".
+#![tactic(auto)]
+
 mod order;
 mod rows;
 

@@ -1,5 +1,7 @@
 // The line of the format, and the lines of tables. A judge looks at the list of a line's columns alone, asks the rules in
 // the order of their numbers, and answers a step.
+#![tactic(auto)]
+
 mod names;
 mod origins;
 mod rows;

@@ -11,7 +11,7 @@ use columns::listing;
 use columns::listing::{Line, Places};
 use steps::{Step, refusals};
 
-#[derive(Drop)]
+#[derive(Clone, Copy)]
 pub enum TableName {
     Known(u32),
     Unknown,

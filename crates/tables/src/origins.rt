@@ -19,7 +19,7 @@ const NAME_LIMIT: u32 = 128;
 
 const NOTE_LIMIT: u32 = 160;
 
-#[derive(Drop)]
+#[derive(Clone, Copy)]
 pub struct OriginTexts {
     pub name: Span,
     pub note: Span,

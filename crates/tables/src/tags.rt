@@ -103,7 +103,7 @@ fn description_column(table: usize) -> usize
 }
 
 // The flag of a row, 1 for Y; 0 too if its table has none.
-#[derive(Drop)]
+#[derive(Clone, Copy)]
 pub enum Flag {
     Is(u32),
     Wrong,

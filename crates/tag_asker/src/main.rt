@@ -1,5 +1,7 @@
 // Asks for the descriptions of some tags of a file, standard input's first 65,536 bytes, with a list for the tables that it
 // lacks, and prints of each the number of refusal and the part.
+#![tactic(auto)]
+
 fn print_description<'a>(file: &'a [u8], list: &'a [u8], table: u32, tag: &[u8]) {
     let mut refusal = 0u32;
     let mut tables = [0u32; 10759];

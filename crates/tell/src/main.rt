@@ -1,4 +1,6 @@
 // Surveys standard input, its first 65,536 bytes, and prints refusal, place, sentences and sound end.
+#![tactic(auto)]
+
 use survey::Surveyed;
 
 fn print_number(number: u32, behind: &[u8]) {

@@ -1,4 +1,6 @@
 // The texts of a line: compared, without the white bytes at their ends, and cut at two percent signs.
+#![tactic(auto)]
+
 pub mod words;
 
 ghost use Rattle.std.specs.Prelude.{◌≡◌, ◌+◌, ◌≤◌, length, drop};

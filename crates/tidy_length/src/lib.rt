@@ -1,1 +1,3 @@
 // A tidy text is hardly longer than its file: a theorem over the rules, in proofs/. No code.
+
+#![tactic(auto)]

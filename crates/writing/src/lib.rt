@@ -1,4 +1,6 @@
 // The tidy text of an accepted file: document 01's "Tidy text", its sentences found by an index of their beginnings.
+#![tactic(auto)]
+
 mod found;
 
 ghost use Rattle.std.specs.Prelude.{◌≡◌, ◌+◌, ◌*◌, ◌≤◌, length, replicate};
@@ -22,7 +24,7 @@ use steps::refusals;
 const TIDY_ROOM: usize = 2 * table_sheet::ROW_LIMIT;
 
 // The answer: refusal (0 if granted), place, bytes written.
-#[derive(Drop)]
+#[derive(Clone, Copy)]
 pub struct Written {
     pub refusal: u32,
     pub place: u32,

@@ -1,5 +1,7 @@
 // The demands, of writings and of surveys of what they write: each the promise of a function that calls them and is proved from
 // their contracts alone. Nothing is required of what is lent.
+#![tactic(auto)]
+
 ghost use Rattle.std.specs.Prelude.{◌≡◌, ◌≢◌, List, ℕ, length, take};
 ghost use Rattle.rules.specs.Survey.{survey_of};
 ghost use Rattle.rules.specs.Writing.{tidy_of};
@@ -23,7 +25,7 @@ pub fn tidy(text: &[u8], sheet: &mut [u32], seen: &mut [u8]) -> Surveyed
 }
 
 // The answer of a writing, and that of a survey of the bytes that it has written.
-#[derive(Drop)]
+#[derive(Clone, Copy)]
 pub struct ReadAgain {
     pub written: Written,
     pub again: Surveyed,
@@ -56,7 +58,7 @@ pub fn rewritten(
 }
 
 // The answers of two writings.
-#[derive(Drop)]
+#[derive(Clone, Copy)]
 pub struct Two {
     pub first: Written,
     pub second: Written,
