@@ -1,0 +1,17 @@
+-- `columns::skip_run` meets its contract. The invariant: from the loop's place on, the run goes as far as from `at` on. The
+-- measure is what is left of the head.
+use borrow.Author.Rules.{rules}
+use Prim.Native.Nat.{ℕ, ◌+◌, ◌-◌}
+use mathlib.Core.Path.{◌≡◌, sym, ap, ◌∙◌}
+use mathlib.Core.Bool.{Bool, not}
+use mathlib.Core.List.{List}
+use lib.ListN.{length, drop, get_or}
+use Rattle.columns.specs.Leading.{run_length, in_run}
+use Rattle.columns.proofs.Leading.{leading_stop, leading_more, leading_end, in_run_lem}
+use Rattle.columns.proofs.skip_run.Given as goal
+
+abbrev pub invariant-loop-end : goal.invariant-loop-end
+invariant-loop-end l = l.at + run_length (in_run l.in_column) (drop l.at l.head) ≡ l.end + run_length (in_run l.in_column) (drop l.end l.head)
+
+abbrev pub decreases-loop-end : goal.decreases-loop-end
+decreases-loop-end l = length l.head - l.end
