@@ -1,0 +1,23 @@
+-- `table_sheet::fours::pass_fours` meets its contract: from here on the rows give the answer of all the rows asked for.
+-- The measure is the number of rows left.
+use borrow.Author.Rules.{rules}
+use borrow.Author.Tests.{not-false}
+use native.Mathlib.Nat.{sub-zero}
+use native.Mathlib.Omega.{arith}
+use Prim.Native.Nat.{ℕ, ◌+◌, ◌-◌, ◌*◌, ◌≤◌}
+use mathlib.Core.Path.{◌≡◌, ◌∙◌, subst}
+use mathlib.Core.List.{List}
+use Rattle.rules.specs.Sheets.{row_width}
+use Rattle.table_sheet.specs.SheetRows.{rows_from}
+use Rattle.table_sheet.specs.LookUps.{id_from, id_found}
+use Rattle.table_sheet.proofs.LookUps.{ids_miss}
+use Rattle.table_sheet.proofs.fours.pass_fours.Given as goal
+
+abbrev pub invariant-loop-row : goal.invariant-loop-row
+invariant-loop-row l =
+    (l.row ≤ l.rows)
+    × (l.at ≡ l.place + row_width * l.row)
+    × ((file : List ℕ) → id_from l.row l.id1 (rows_from file l.sheet l.at (l.rows - l.row)) ≡ id_found l.id1 (rows_from file l.sheet l.place l.rows))
+
+abbrev pub decreases-loop-row : goal.decreases-loop-row
+decreases-loop-row l = l.rows - l.row

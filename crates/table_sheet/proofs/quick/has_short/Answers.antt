@@ -1,0 +1,34 @@
+-- `table_sheet::quick::has_short` meets its contract: the row has as many bytes, and the same number of them.
+use borrow.Author.Rules.{rules}
+use borrow.Author.Tests.{eqb-true, not-false}
+use native.Mathlib.Omega.{arith}
+use mathlib.Core.Path.{sym, ◌∙◌}
+use mathlib.Core.Bool.{false≢true}
+use Rattle.texts.proofs.SamePlaces.{front_same}
+use Rattle.table_sheet.proofs.LookUps.{tag_among_lem}
+use Rattle.table_sheet.proofs.quick.has_short.Goals as goal
+
+pub returns-then-not-has_length : goal.returns-then-not-has_length
+returns-then-not-has_length c e = absurd (false≢true e)
+
+pub start_of-first-requires : goal.start_of-first-requires
+start_of-first-requires c =
+    let told = c.has_length.ensures (c.if-not-has_length.false) in
+    omega (arith, told.0)
+
+pub returns-then-start-first : goal.returns-then-start-first
+returns-then-start-first c e = absurd (false≢true e)
+
+pub returns : goal.returns
+returns c e =
+    let a = c.args in
+    let row = c.row_near-row.result in
+    let first = c.start_of-first.result in
+    let told = c.has_length.ensures (c.if-not-has_length.false) in
+    let inside = (c.requires.2 row told.0).first in
+    tag_among_lem a.file.now a.sheet.now a.place row a.rows a.start first a.len told.0 told.1 c.start_of-first.ensures
+    (front_same a.file.now (λ i. omega (arith, c.shared_slice_known-1.given i)) a.start first a.len
+    (omega arith)
+    (omega (arith, told.1, inside, c.start_of-first.ensures))
+    (omega arith)
+    (sym c.front_at-number.ensures ∙ eqb-true _ _ e ∙ c.front_at.ensures))
