@@ -1,0 +1,64 @@
+-- `headings::bos::judge_cited` meets its contract: the rules are tested in their order.
+use borrow.Author.Rules.{rules}
+use Prim.Native.Nat.{ℕ}
+use mathlib.Core.Path.{◌≡◌, sym, ◌∙◌}
+use mathlib.Core.Bool.{true, false}
+use mathlib.Core.List.{List}
+use borrow.Author.Tests.{not-true, not-false}
+use Rattle.rules.specs.Tables.{Tables, origins, editors, present}
+use Rattle.rules.specs.Sentences.{known_editor}
+use Rattle.table_sheet.specs.SheetRows.{tables_in}
+use Rattle.seen.specs.Bits.{bit_at}
+use Rattle.steps.specs.Faults.{fault_in}
+use Rattle.headings.specs.Headings.{judged_heading}
+use Rattle.headings.proofs.bos.judge_cited.Goals as goal
+
+pub returns-then-not-is_present : goal.returns-then-not-is_present
+unfolding judged_heading fault_in
+returns-then-not-is_present c file listed = rw (sym (c.is_present.ensures file) ∙ c.if-not-is_present.true) c.refused.ensures
+
+pub returns-then-not-is_present-2 : goal.returns-then-not-is_present-2
+unfolding judged_heading fault_in
+returns-then-not-is_present-2 c file listed =
+    let tables : (file : List ℕ) → Tables = λ file. tables_in file c.args.sheet.now in
+    let with-origins : (file : List ℕ) → present origins ((tables file) c) ≡ true = λ file. sym (c.is_present.ensures file) ∙ c.if-not-is_present.false in
+    rw (with-origins file, sym (c.is_present-2.ensures file) ∙ c.if-not-is_present-2.true) c.refused-then-not-is_present-2.ensures
+
+pub returns-then-has : goal.returns-then-has
+unfolding judged_heading fault_in
+returns-then-has c file listed =
+    let tables : (file : List ℕ) → Tables = λ file. tables_in file c.args.sheet.now in
+    let with-origins : (file : List ℕ) → present origins ((tables file) c) ≡ true = λ file. sym (c.is_present.ensures file) ∙ c.if-not-is_present.false in
+    let with-editors : (file : List ℕ) → present editors ((tables file) c) ≡ true = λ file. sym (c.is_present-2.ensures file) ∙ c.if-not-is_present-2.false in
+    rw (with-origins file, with-editors file, sym c.has.ensures ∙ c.if-has.true) c.refused-then-has.ensures
+
+pub returns-then-not-knows_editor : goal.returns-then-not-knows_editor
+unfolding judged_heading fault_in
+returns-then-not-knows_editor c file listed =
+    let tables : (file : List ℕ) → Tables = λ file. tables_in file c.args.sheet.now in
+    let with-origins : (file : List ℕ) → present origins ((tables file) c) ≡ true = λ file. sym (c.is_present.ensures file) ∙ c.if-not-is_present.false in
+    let with-editors : (file : List ℕ) → present editors ((tables file) c) ≡ true = λ file. sym (c.is_present-2.ensures file) ∙ c.if-not-is_present-2.false in
+    let unused : bit_at c.args.seen.now c.args.said.number ≡ false = sym c.has.ensures ∙ c.if-has.false in
+    rw (with-origins file, with-editors file, unused, sym (c.knows_editor.ensures file) ∙ c.if-not-knows_editor.true)
+    (c.refused_at.ensures file listed)
+
+pub returns-then-not-knows_origin : goal.returns-then-not-knows_origin
+unfolding judged_heading fault_in
+returns-then-not-knows_origin c file listed =
+    let tables : (file : List ℕ) → Tables = λ file. tables_in file c.args.sheet.now in
+    let with-origins : (file : List ℕ) → present origins ((tables file) c) ≡ true = λ file. sym (c.is_present.ensures file) ∙ c.if-not-is_present.false in
+    let with-editors : (file : List ℕ) → present editors ((tables file) c) ≡ true = λ file. sym (c.is_present-2.ensures file) ∙ c.if-not-is_present-2.false in
+    let editor-known : (file : List ℕ) → known_editor ((tables file) c) c.args.said.editor1 ≡ true = λ file. sym (c.knows_editor.ensures file) ∙ c.if-not-knows_editor.false in
+    let unused : bit_at c.args.seen.now c.args.said.number ≡ false = sym c.has.ensures ∙ c.if-has.false in
+    rw (with-origins file, with-editors file, unused, editor-known file, sym (c.knows_origin.ensures file) ∙ c.if-not-knows_origin.true)
+    (c.refused_at-then-not-knows_origin.ensures file listed)
+
+pub returns : goal.returns
+unfolding judged_heading fault_in
+returns c file listed =
+    let tables : (file : List ℕ) → Tables = λ file. tables_in file c.args.sheet.now in
+    let with-origins : (file : List ℕ) → present origins ((tables file) c) ≡ true = λ file. sym (c.is_present.ensures file) ∙ c.if-not-is_present.false in
+    let with-editors : (file : List ℕ) → present editors ((tables file) c) ≡ true = λ file. sym (c.is_present-2.ensures file) ∙ c.if-not-is_present-2.false in
+    let editor-known : (file : List ℕ) → known_editor ((tables file) c) c.args.said.editor1 ≡ true = λ file. sym (c.knows_editor.ensures file) ∙ c.if-not-knows_editor.false in
+    let unused : bit_at c.args.seen.now c.args.said.number ≡ false = sym c.has.ensures ∙ c.if-has.false in
+    rw (with-origins file, with-editors file, unused, editor-known file, sym (c.knows_origin.ensures file) ∙ c.if-not-knows_origin.false)

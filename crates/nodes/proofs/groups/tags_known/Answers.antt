@@ -1,0 +1,37 @@
+
+use borrow.Author.Rules.{rules}
+use native.Mathlib.Omega.{arith}
+use mathlib.Core.Path.{◌≡◌, sym, ◌∙◌}
+use Prim.Native.Nat.{ℕ}
+use borrow.Author.Tests.{not-true, not-false}
+use lib.ListN.{drop}
+use Rattle.rules.specs.Nodes.{tags_known}
+use Rattle.table_sheet.specs.SheetRows.{tables_in}
+use Rattle.steps.specs.Faults.{fault_in}
+use Rattle.nodes.specs.NodeLines.{fields_of, Whole}
+use Rattle.nodes.proofs.ListedFields.{first_of}
+use Rattle.nodes.proofs.Judgements.{stops, passes}
+use Rattle.nodes.proofs.groups.tags_known.Goals as goal
+
+pub returns-then-not-is_known : goal.returns-then-not-is_known
+unfolding tags_known
+returns-then-not-is_known c format = c.fault_at.ensures _ _ (first_of c.requires.0 1 (omega arith)) ∙ sym (stops _ _ (sym c.is_known.ensures ∙ c.if-not-is_known.true))
+
+pub returns-then-not-is_known-2 : goal.returns-then-not-is_known-2
+unfolding tags_known
+returns-then-not-is_known-2 c format =
+    c.fault_at-then-not-is_known-2.ensures _ _ (first_of c.requires.0 2 (omega arith))
+    ∙ sym (passes _ _ (sym c.is_known.ensures ∙ c.if-not-is_known.false) ∙ stops _ _ (sym c.is_known-2.ensures ∙ c.if-not-is_known-2.true))
+
+pub returns-then-not-is_known-3 : goal.returns-then-not-is_known-3
+unfolding tags_known
+returns-then-not-is_known-3 c format =
+    let two-kept : (format : ℕ) → let a = c.args in fault_in (tags_known format (fields_of a.file.now a.line) (tables_in a.file.now a.sheet.now) a.table) ≡ fault_in (drop 2 (tags_known format (fields_of a.file.now a.line) (tables_in a.file.now a.sheet.now) a.table)) = λ format. passes _ _ (sym c.is_known.ensures ∙ c.if-not-is_known.false) ∙ passes _ _ (sym c.is_known-2.ensures ∙ c.if-not-is_known-2.false) in
+    c.fault_at-then-not-is_known-3.ensures _ _ (first_of c.requires.0 3 (omega arith))
+    ∙ sym (two-kept format ∙ stops _ _ (sym c.is_known-3.ensures ∙ c.if-not-is_known-3.true))
+
+pub returns : goal.returns
+unfolding tags_known
+returns c format =
+    let two-kept : (format : ℕ) → let a = c.args in fault_in (tags_known format (fields_of a.file.now a.line) (tables_in a.file.now a.sheet.now) a.table) ≡ fault_in (drop 2 (tags_known format (fields_of a.file.now a.line) (tables_in a.file.now a.sheet.now) a.table)) = λ format. passes _ _ (sym c.is_known.ensures ∙ c.if-not-is_known.false) ∙ passes _ _ (sym c.is_known-2.ensures ∙ c.if-not-is_known-2.false) in
+    c.labels_known.ensures ∙ sym (two-kept format ∙ passes _ _ (sym c.is_known-3.ensures ∙ c.if-not-is_known-3.false))

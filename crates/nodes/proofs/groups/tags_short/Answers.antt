@@ -1,0 +1,36 @@
+
+use borrow.Author.Rules.{rules}
+use native.Mathlib.Omega.{arith}
+use mathlib.Core.Path.{◌≡◌, sym, ◌∙◌}
+use Prim.Native.Nat.{ℕ}
+use borrow.Author.Tests.{not-true, not-false}
+use lib.ListN.{drop}
+use Rattle.rules.specs.Nodes.{tags_short}
+use Rattle.steps.specs.Faults.{fault_in}
+use Rattle.nodes.specs.NodeLines.{fields_of, Whole}
+use Rattle.nodes.proofs.ListedFields.{first_of}
+use Rattle.nodes.proofs.Judgements.{stops, passes}
+use Rattle.nodes.proofs.groups.tags_short.Goals as goal
+
+pub returns-then-not-is_short : goal.returns-then-not-is_short
+unfolding tags_short
+returns-then-not-is_short c format = c.fault_at.ensures _ _ (first_of c.requires 1 (omega arith)) ∙ sym (stops _ _ (sym c.is_short.ensures ∙ c.if-not-is_short.true))
+
+pub returns-then-not-is_short-2 : goal.returns-then-not-is_short-2
+unfolding tags_short
+returns-then-not-is_short-2 c format =
+    c.fault_at-then-not-is_short-2.ensures _ _ (first_of c.requires 2 (omega arith))
+    ∙ sym (passes _ _ (sym c.is_short.ensures ∙ c.if-not-is_short.false) ∙ stops _ _ (sym c.is_short-2.ensures ∙ c.if-not-is_short-2.true))
+
+pub returns-then-not-is_short-3 : goal.returns-then-not-is_short-3
+unfolding tags_short
+returns-then-not-is_short-3 c format =
+    let two-kept : (format : ℕ) → let a = c.args in fault_in (tags_short format (fields_of a.file.now a.line) a.table) ≡ fault_in (drop 2 (tags_short format (fields_of a.file.now a.line) a.table)) = λ format. passes _ _ (sym c.is_short.ensures ∙ c.if-not-is_short.false) ∙ passes _ _ (sym c.is_short-2.ensures ∙ c.if-not-is_short-2.false) in
+    c.fault_at-then-not-is_short-3.ensures _ _ (first_of c.requires 3 (omega arith))
+    ∙ sym (two-kept format ∙ stops _ _ (sym c.is_short-3.ensures ∙ c.if-not-is_short-3.true))
+
+pub returns : goal.returns
+unfolding tags_short
+returns c format =
+    let two-kept : (format : ℕ) → let a = c.args in fault_in (tags_short format (fields_of a.file.now a.line) a.table) ≡ fault_in (drop 2 (tags_short format (fields_of a.file.now a.line) a.table)) = λ format. passes _ _ (sym c.is_short.ensures ∙ c.if-not-is_short.false) ∙ passes _ _ (sym c.is_short-2.ensures ∙ c.if-not-is_short-2.false) in
+    c.labels_short.ensures ∙ sym (two-kept format ∙ passes _ _ (sym c.is_short-3.ensures ∙ c.if-not-is_short-3.false))

@@ -1,0 +1,41 @@
+-- `nodes::put_node` meets its contract: first column, others, edges, comment and newline are the line.
+-- No loop.
+use borrow.Author.Rules.{rules}
+use native.Mathlib.Omega.{arith}
+use Prim.Native.Nat.{◌≤◌}
+use lib.ListN.{get_or}
+use Rattle.printing.proofs.PutLaws.{put_then, put_as}
+use Rattle.sentence_text.specs.SheetRead.{edges_on_sheet, edges_counted}
+use Rattle.sentence_text.proofs.LineTexts.{node_text_lem}
+use Rattle.sentence_text.proofs.FirstEdges.{first_low, length_edges}
+use Rattle.sentence_text.proofs.nodes.put_node.Goals as goal
+
+pub put_first-named-requires : goal.put_first-named-requires
+put_first-named-requires c = (c.requires.2, (c.requires.0.each_node c.args.node (omega arith)).word, omega arith)
+
+pub put_columns-columned-requires : goal.put_columns-columned-requires
+put_columns-columned-requires c = (c.requires.2, c.requires.0.size, c.requires.0.each_node c.args.node (omega arith), omega arith)
+
+pub overflow_cast-first : goal.overflow_cast-first
+overflow_cast-first c = omega (arith, c.shared_slice_known-5-1.given c.args.node)
+
+pub put_edges-edged-requires : goal.put_edges-edged-requires
+put_edges-edged-requires c =
+    let a = c.args in
+    let p = c.requires in
+    let es = edges_on_sheet a.sheet.now a.list.now in
+    let first : get_or a.firsts.now a.node 0 ≤ edges_counted a.sheet.now =
+    omega (arith, p.1.first a.node (omega arith), first_low 0 a.node es, length_edges a.list.now 0 (edges_counted a.sheet.now)) in
+    (p.0.each_edge, first, p.0.few, omega arith)
+
+pub put_rest-requires : goal.put_rest-requires
+put_rest-requires c = (c.requires.2, (c.requires.0.each_node c.args.node (omega arith)).comment, omega arith)
+
+pub returns : goal.returns
+returns c =
+    let a = c.args in
+    let p = c.requires in
+    put_as (node_text_lem a.file.now a.sheet.now a.list.now a.node _ (p.1.first a.node p.2))
+    (put_then
+    (put_then (put_then c.put_first-named.ensures c.put_columns-columned.ensures) c.put_edges-edged.ensures)
+    c.put_rest.ensures)

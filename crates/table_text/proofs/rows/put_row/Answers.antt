@@ -1,0 +1,29 @@
+-- `rows::put_row` meets its contract: column behind column.
+-- No loop.
+use borrow.Author.Rules.{rules}
+use native.Mathlib.Omega.{arith}
+use Prim.Native.Nat.{ℕ}
+use mathlib.Core.Path.{ap, ◌∙◌}
+use mathlib.Core.List.{List, [], ◌∷◌, ◌++◌}
+use Rattle.rules.specs.Bytes.{newline}
+use Rattle.rules.specs.Tidy.{tab, id_digits, flagged, second_text}
+use Rattle.printing.specs.Further.{further}
+use Rattle.printing.proofs.PutLaws.{put_then, put_as}
+use Rattle.table_sheet.specs.SheetRows.{row_at}
+use Rattle.table_text.proofs.RowTexts.{row_line_lem, first_inside}
+use Rattle.table_text.proofs.rows.put_row.Goals as goal
+
+pub put_field-named-requires : goal.put_field-named-requires
+put_field-named-requires c =
+    let a = c.args in
+    (first_inside a.file.now a.sheet.now a.place c.requires.0 c.requires.1, omega arith)
+
+pub returns : goal.returns
+returns c =
+    let a = c.args in
+    let r = row_at a.file.now a.sheet.now a.place in
+    put_as
+    (row_line_lem a.table r)
+    (put_then
+    (put_then (put_then (put_then c.put_id-numbered.ensures c.put_field-named.ensures) c.put_flag-flagged.ensures) c.put_second-described.ensures)
+    c.put_byte.ensures)

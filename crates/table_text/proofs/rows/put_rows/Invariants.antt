@@ -1,0 +1,22 @@
+-- `rows::put_rows` meets its contract: the lines of as many rows as were passed are put.
+-- The measure is the count of rows left.
+use borrow.Author.Rules.{rules}
+use native.Mathlib.Omega.{arith}
+use Prim.Native.Nat.{ℕ, ◌+◌, ◌-◌, ◌*◌, ◌≤◌, ◌<◌}
+use mathlib.Core.Path.{◌≡◌, ap, ◌∙◌}
+use mathlib.Core.List.{◌++◌}
+use lib.ListN.{length, get_or, take}
+use Rattle.printing.proofs.PutLaws.{put_then, put_as, put_wider, put_length, put_none}
+use Rattle.table_sheet.specs.SheetRows.{row_at}
+use Rattle.table_text.proofs.RowTexts.{row_more, listed_low}
+use Rattle.rules.specs.Sheets.{row_place}
+use Rattle.rules.specs.Tidy.{row_line}
+use Rattle.printing.specs.Over.{Put}
+use Rattle.table_text.specs.TablesShown.{row_lines, row_most}
+use Rattle.table_text.proofs.rows.put_rows.Given as goal
+
+abbrev pub invariant-loop-k : goal.invariant-loop-k
+invariant-loop-k l = (l.k ≤ l.rows) × Put (row_most * l.k) (row_lines l.file l.sheet l.table (take l.k l.order)) l.at l.initial.out l.end l.out
+
+abbrev pub decreases-loop-k : goal.decreases-loop-k
+decreases-loop-k l = l.rows - l.k
