@@ -67,7 +67,7 @@ pub fn end_line(
     classes: &[u8; 256],
 ) -> Step
     requires { (classes.now ≡ class_table) × Listed file.now line places.now }
-    ensures { (s : SoFar) → s.number ≡ number → s.no-gap ≡ no_gap → s.no_absent ≡ no_absent → result ≡ step_of (taken_as (λ n. sentence_ends) (end_of s (line_of file.now line))) }
+    ensures { (s : SoFar) → s.number ≡ number → s.no_gap ≡ no_gap → s.no_absent ≡ no_absent → result ≡ step_of (taken_as (λ n. sentence_ends) (end_of s (line_of file.now line))) }
 {
     if line.columns != END_COLUMNS {
         return refused(refusals::WRONG_COLUMNS, line.start);

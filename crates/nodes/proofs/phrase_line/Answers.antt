@@ -65,11 +65,11 @@ returns-in-Faulty c format s e g =
     let shape : (format : ℕ) → shaped format (fields_of c.args.file.now c.args.line) ≡ c.is_shaped.result = λ format. sym (c.is_shaped.ensures format (fields_of c.args.file.now c.args.line) (sym c.count_fields-count.ensures)) in
     let has-shape : (format : ℕ) → shaped format (fields_of c.args.file.now c.args.line) ≡ true = λ format. shape format ∙ c.if-not-is_shaped.false in
     let read : as_number (phrase_in (behind_hash (text (fields_of c.args.file.now c.args.line) 0))) ≡ c.read-read.result = sym (phrase_read (behind_hash (text (fields_of c.args.file.now c.args.line) 0)) c.behind_hash-digits.ensures c.read-read.ensures) in
-    let fault : ℕ → Fault → Fault = λ format limits. first_fault format (fields_of c.args.file.now c.args.line) (tables_in c.args.file.now c.args.sheet.now) node_tags c.in-Good.number limits
+    let fault : ℕ → Fault → Fault = λ format limits. first_fault format (fields_of c.args.file.now c.args.line) (tables_in c.args.file.now c.args.sheet.now) node_tags c.in-Good.number limits in
     let limits : Fault = let a = c.args in
-    pick (leb (a.edges + (c.count_fields-count.result - 5) / 2) edge_limit)
-    (pick (not (marked a.marks.now a.stamp c.in-Good.number)) no_fault (record { c.in-Good.number = 17; place = a.line.start }))
-    (record { c.in-Good.number = 16; place = a.line.start }) in
+        pick (leb (a.edges + (c.count_fields-count.result - 5) / 2) edge_limit)
+        (pick (not (marked a.marks.now a.stamp c.in-Good.number)) no_fault (record { number = 17; place = a.line.start }))
+        (record { number = 16; place = a.line.start }) in
     let parent : ℕ → ℕ = λ format. value (its_parent format (fields_of c.args.file.now c.args.line)) in
     let highest : ℕ → ℕ = λ format. highest_in format (fields_of c.args.file.now c.args.line) in
     let judged : (format : ℕ) → unless_faulty (fault format limits) (parent format) (highest format) ≡ c.judge-judged.result = λ format. sym (c.judge-judged.ensures format ∙ ap (λ (l : Fault). unless_faulty (fault format l) (parent format) (highest format)) c.phrase_limits-limits.ensures) in
@@ -85,11 +85,11 @@ returns-in-Fine c format s e g =
     let has-shape : (format : ℕ) → shaped format (fields_of c.args.file.now c.args.line) ≡ true = λ format. shape format ∙ c.if-not-is_shaped.false in
     let lined : Whole c.args.file.now c.args.line c.args.places.now c.count_fields-count.result = whole 0 c.requires.1 c.count_fields-count.ensures (has-shape 0) in
     let read : as_number (phrase_in (behind_hash (text (fields_of c.args.file.now c.args.line) 0))) ≡ c.read-read.result = sym (phrase_read (behind_hash (text (fields_of c.args.file.now c.args.line) 0)) c.behind_hash-digits.ensures c.read-read.ensures) in
-    let fault : ℕ → Fault → Fault = λ format limits. first_fault format (fields_of c.args.file.now c.args.line) (tables_in c.args.file.now c.args.sheet.now) node_tags c.in-Good.number limits
+    let fault : ℕ → Fault → Fault = λ format limits. first_fault format (fields_of c.args.file.now c.args.line) (tables_in c.args.file.now c.args.sheet.now) node_tags c.in-Good.number limits in
     let limits : Fault = let a = c.args in
-    pick (leb (a.edges + (c.count_fields-count.result - 5) / 2) edge_limit)
-    (pick (not (marked a.marks.now a.stamp c.in-Good.number)) no_fault (record { c.in-Good.number = 17; place = a.line.start }))
-    (record { c.in-Good.number = 16; place = a.line.start }) in
+        pick (leb (a.edges + (c.count_fields-count.result - 5) / 2) edge_limit)
+        (pick (not (marked a.marks.now a.stamp c.in-Good.number)) no_fault (record { number = 17; place = a.line.start }))
+        (record { number = 16; place = a.line.start }) in
     let parent : ℕ → ℕ = λ format. value (its_parent format (fields_of c.args.file.now c.args.line)) in
     let highest : ℕ → ℕ = λ format. highest_in format (fields_of c.args.file.now c.args.line) in
     let judged : (format : ℕ) → unless_faulty (fault format limits) (parent format) (highest format) ≡ c.judge-judged.result = λ format. sym (c.judge-judged.ensures format ∙ ap (λ (l : Fault). unless_faulty (fault format l) (parent format) (highest format)) c.phrase_limits-limits.ensures) in

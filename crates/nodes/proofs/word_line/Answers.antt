@@ -48,10 +48,10 @@ pub returns-in-Faulty : goal.returns-in-Faulty
 returns-in-Faulty c format s w p e =
     let shape : (format : ℕ) → shaped format (fields_of c.args.file.now c.args.line) ≡ c.is_shaped.result = λ format. sym (c.is_shaped.ensures format (fields_of c.args.file.now c.args.line) (sym c.count_fields-count.ensures)) in
     let first : c.args.no_phrase ≡ true = c.if-not-no_phrase.false in
-    let fault : ℕ → Fault → Fault = λ format limits. first_fault format (fields_of c.args.file.now c.args.line) (tables_in c.args.file.now c.args.sheet.now) word_tags c.args.words limits
+    let fault : ℕ → Fault → Fault = λ format limits. first_fault format (fields_of c.args.file.now c.args.line) (tables_in c.args.file.now c.args.sheet.now) word_tags c.args.words limits in
     let limits : Fault = let a = c.args in
-    pick (ltb a.words word_limit && leb (a.edges + (c.count_fields-count.result - 5) / 2) edge_limit) no_fault
-    (record { number = 16; place = a.line.start }) in
+        pick (ltb a.words word_limit && leb (a.edges + (c.count_fields-count.result - 5) / 2) edge_limit) no_fault
+        (record { number = 16; place = a.line.start }) in
     let parent : ℕ → ℕ = λ format. value (its_parent format (fields_of c.args.file.now c.args.line)) in
     let highest : ℕ → ℕ = λ format. highest_in format (fields_of c.args.file.now c.args.line) in
     let judged : (format : ℕ) → unless_faulty (fault format limits) (parent format) (highest format) ≡ c.judge-judged.result = λ format. sym (c.judge-judged.ensures format ∙ ap (λ (l : Fault). unless_faulty (fault format l) (parent format) (highest format)) c.word_limits-limits.ensures) in
@@ -64,10 +64,10 @@ returns-in-Fine c format s w p e =
     let shape : (format : ℕ) → shaped format (fields_of c.args.file.now c.args.line) ≡ c.is_shaped.result = λ format. sym (c.is_shaped.ensures format (fields_of c.args.file.now c.args.line) (sym c.count_fields-count.ensures)) in
     let lined : Whole c.args.file.now c.args.line c.args.places.now c.count_fields-count.result = whole 0 c.requires.1 c.count_fields-count.ensures (shape 0 ∙ c.if-not-is_shaped.false) in
     let first : c.args.no_phrase ≡ true = c.if-not-no_phrase.false in
-    let fault : ℕ → Fault → Fault = λ format limits. first_fault format (fields_of c.args.file.now c.args.line) (tables_in c.args.file.now c.args.sheet.now) word_tags c.args.words limits
+    let fault : ℕ → Fault → Fault = λ format limits. first_fault format (fields_of c.args.file.now c.args.line) (tables_in c.args.file.now c.args.sheet.now) word_tags c.args.words limits in
     let limits : Fault = let a = c.args in
-    pick (ltb a.words word_limit && leb (a.edges + (c.count_fields-count.result - 5) / 2) edge_limit) no_fault
-    (record { number = 16; place = a.line.start }) in
+        pick (ltb a.words word_limit && leb (a.edges + (c.count_fields-count.result - 5) / 2) edge_limit) no_fault
+        (record { number = 16; place = a.line.start }) in
     let parent : ℕ → ℕ = λ format. value (its_parent format (fields_of c.args.file.now c.args.line)) in
     let highest : ℕ → ℕ = λ format. highest_in format (fields_of c.args.file.now c.args.line) in
     let judged : (format : ℕ) → unless_faulty (fault format limits) (parent format) (highest format) ≡ c.judge-judged.result = λ format. sym (c.judge-judged.ensures format ∙ ap (λ (l : Fault). unless_faulty (fault format l) (parent format) (highest format)) c.word_limits-limits.ensures) in

@@ -39,7 +39,7 @@ overflow_sub-places c =
     omega (arith, placed)
 
 pub returns-then-places-start-ne4 : goal.returns-then-places-start-ne4
-returns-then-places-start-ne4 c = absurd (n refl)
+returns-then-places-start-ne4 c n = absurd (n refl)
 
 pub overflow_add-start : goal.overflow_add-start
 overflow_add-start c =

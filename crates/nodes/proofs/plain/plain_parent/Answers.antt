@@ -20,9 +20,9 @@ returns c n =
     let there : 4 < c.args.line.columns = omega (arith, c.requires.2) in
     let digits = c.three_digits-parent.ensures n in
     record {
-      c = c.is_plain_tag.ensures (c.if-not-is_plain_tag.false);
-      c = c.is_plain_tag-2.ensures (c.if-not-is_plain_tag-2.false);
-      c = c.is_plain_tag-3.ensures (c.if-not-is_plain_tag-3.false);
+      tag = c.is_plain_tag.ensures (c.if-not-is_plain_tag.false);
+      morphology = c.is_plain_tag-2.ensures (c.if-not-is_plain_tag-2.false);
+      edge = c.is_plain_tag-3.ensures (c.if-not-is_plain_tag-3.false);
       parent = ap parent_number (three_bytes _ _ _ c.requires.0 4 there c.if-places-start-ne3.false) ∙ digits.0;
       phrase = digits.2;
     }
@@ -52,10 +52,10 @@ overflow_sub-places c =
     omega (arith, placed)
 
 pub returns-then-places-start-ne3 : goal.returns-then-places-start-ne3
-returns-then-places-start-ne3 c = absurd (n refl)
+returns-then-places-start-ne3 c n = absurd (n refl)
 
 pub returns-then-parent-eq0 : goal.returns-then-parent-eq0
-returns-then-parent-eq0 c = absurd (n refl)
+returns-then-parent-eq0 c n = absurd (n refl)
 
 pub is_plain_tag-requires : goal.is_plain_tag-requires
 is_plain_tag-requires c =
@@ -63,7 +63,7 @@ is_plain_tag-requires c =
     (c.requires.0, c.requires.1, omega (arith, there), c.requires.3)
 
 pub returns-then-not-is_plain_tag : goal.returns-then-not-is_plain_tag
-returns-then-not-is_plain_tag c = absurd (n refl)
+returns-then-not-is_plain_tag c n = absurd (n refl)
 
 pub is_plain_tag-requires-2 : goal.is_plain_tag-requires-2
 is_plain_tag-requires-2 c =
@@ -71,7 +71,7 @@ is_plain_tag-requires-2 c =
     (c.requires.0, c.requires.1, omega (arith, there), omega arith)
 
 pub returns-then-not-is_plain_tag-2 : goal.returns-then-not-is_plain_tag-2
-returns-then-not-is_plain_tag-2 c = absurd (n refl)
+returns-then-not-is_plain_tag-2 c n = absurd (n refl)
 
 pub is_plain_tag-requires-3 : goal.is_plain_tag-requires-3
 is_plain_tag-requires-3 c =
@@ -79,4 +79,4 @@ is_plain_tag-requires-3 c =
     (c.requires.0, c.requires.1, omega (arith, there), omega arith)
 
 pub returns-then-not-is_plain_tag-3 : goal.returns-then-not-is_plain_tag-3
-returns-then-not-is_plain_tag-3 c = absurd (n refl)
+returns-then-not-is_plain_tag-3 c n = absurd (n refl)

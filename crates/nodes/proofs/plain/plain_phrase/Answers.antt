@@ -13,4 +13,4 @@ pub plain_parent-parent-requires : goal.plain_parent-parent-requires
 plain_parent-parent-requires c = (c.requires.0, c.requires.1, c.requires.2, omega arith)
 
 pub returns-then-parent-number : goal.returns-then-parent-number
-returns-then-parent-number c = absurd (n refl)
+returns-then-parent-number c n = absurd (n refl)

@@ -35,15 +35,13 @@ overflow_add-id c =
     omega (arith, (number_tells origin_id (written (columns_of c.args.file.now c.args.line) 0).bytes _ told).highest)
 
 pub returns-then-name-eq0 : goal.returns-then-name-eq0
-unfolding origin_row
-unfolding origin_texts
+unfolding origin_row origin_texts
 returns-then-name-eq0 c =
     let name-is : c.origin_texts-texts.result.name ≡ span_of (trim (in_front (column (columns_of c.args.file.now c.args.line) 0).after)) = ap (λ (t : OriginTexts). t.name) c.origin_texts-texts.ensures in
     c.refused.ensures ∙ text_missing (trim (in_front (column (columns_of c.args.file.now c.args.line) 0).after)) (number origin_id (written (columns_of c.args.file.now c.args.line) 0).bytes) _ _ _ _ refl refl name-is c.if-name-eq0.true
 
 pub returns-in_default : goal.returns-in_default
-unfolding origin_row
-unfolding origin_texts
+unfolding origin_row origin_texts
 returns-in_default c =
     let listed : Listed c.args.file.now c.args.line c.args.places.now = c.requires.1 in
     let name-is : c.origin_texts-texts.result.name ≡ span_of (trim (in_front (column (columns_of c.args.file.now c.args.line) 0).after)) = ap (λ (t : OriginTexts). t.name) c.origin_texts-texts.ensures in
@@ -53,8 +51,7 @@ returns-in_default c =
     ∙ id_unread (trim (in_front (column (columns_of c.args.file.now c.args.line) 0).after)) (number origin_id (written (columns_of c.args.file.now c.args.line) 0).bytes) _ _ _ _ refl refl named (sym read_is ∙ c.in_default.is)
 
 pub returns : goal.returns
-unfolding origin_row
-unfolding origin_texts
+unfolding origin_row origin_texts
 returns c =
     let rows : List Row = let a = c.args in rows_from c.args.file.now a.sheet.now a.place a.rows in
     let name-is : c.origin_texts-texts.result.name ≡ span_of (trim (in_front (column (columns_of c.args.file.now c.args.line) 0).after)) = ap (λ (t : OriginTexts). t.name) c.origin_texts-texts.ensures in
