@@ -144,12 +144,12 @@ module _ (ts : Tables) (used : ℕ → Bool) (line : Text) where
       ∙ ap (λ (t : Bool). pick t (judged_heading ts used line (heading_said (heading_in line))) (Refused (fault_in (heading_written line)))) s.none
       ∙ ap (judged_heading ts used line) s.is)
 
-  pub not_written : {r : Step} → r ≡ alone line → OneOf others (tag_of the_type r) → r ≡ begins
+  pub not_written : {r : Step} → r ≡ alone line → ((h : HeadingSaid) → r ≡ SentenceBegins h → ⊥) → r ≡ begins
   not_written r_is o =
       r_is ∙ alone_checked line ∙ by (eqb (fault_in (heading_written line)).number 0) (rw (r_is ∙ alone_checked line) at o) ∙ sym written_then_cited
     where
-      by : (t : Bool) → OneOf others (tag_of the_type (pick t (SentenceBegins (heading_said (heading_in line))) (Refused (fault_in (heading_written line)))))
+      by : (t : Bool) → ((h : HeadingSaid) → pick t (SentenceBegins (heading_said (heading_in line))) (Refused (fault_in (heading_written line))) ≡ SentenceBegins h → ⊥)
           → pick t (SentenceBegins (heading_said (heading_in line))) (Refused (fault_in (heading_written line)))
           ≡ pick t (judged_heading ts used line (heading_said (heading_in line))) (Refused (fault_in (heading_written line)))
-      by true o = absurd (miss others 5 tt o)
+      by true o = absurd (o (heading_said (heading_in line)) refl)
       by false o = refl

@@ -18,7 +18,7 @@ use Rattle.headings.proofs.heading_line.Goals as goal
 pub returns-in_default : goal.returns-in_default
 returns-in_default c =
     let used : ℕ → Bool = bit_at c.args.seen.now in
-    not_written (tables_in c.args.file.now c.args.sheet.now) used (line_of c.args.file.now c.args.line) c.heading_alone-alone.ensures c.in_default.in_default-own.keys2
+    not_written (tables_in c.args.file.now c.args.sheet.now) used (line_of c.args.file.now c.args.line) c.heading_alone-alone.ensures c.in_default.not-SentenceBegins
 
 pub judge_cited-requires : goal.judge_cited-requires
 judge_cited-requires c =
