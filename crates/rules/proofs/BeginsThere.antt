@@ -1,6 +1,6 @@
 -- What begins at a place, of any file, is what is written there, and its chains of parents climb: from what one line keeps, of
 -- texts, of what is said and of numbers, begun behind the heading. And it stays there if the file is cut behind its end.
-use Prim.Native.Nat.{ℕ, ◌+◌}
+use Prim.Native.Nat.{ℕ}
 use native.Mathlib.Omega.{arith}
 use mathlib.Core.Path.{◌≡◌, refl, sym, ap, ◌∙◌, subst}
 use mathlib.Core.Logic.{◌⊎◌, inl, inr}

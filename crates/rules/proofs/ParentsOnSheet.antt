@@ -1,20 +1,18 @@
 -- The parent field of a node on a sentence's sheet is the node's parent in the sentence, so chains of parents climb on the
 -- sheet too. By the widths of the records in front of the node's own.
-use Prim.Native.Nat.{ℕ, zero, suc, ◌+◌, ◌*◌, ◌<◌}
-use native.Mathlib.Nat.{zero-add, add-zero, mul-zero, mul-suc, suc-add, add-suc, le_of_suc-le-suc, not-suc-le-zero}
+use Prim.Native.Nat.{ℕ, suc, ◌<◌}
 use native.Mathlib.Omega.{arith}
-use mathlib.Core.Path.{◌≡◌, refl, sym, ap, ◌∙◌}
+use mathlib.Core.Path.{◌≡◌, refl, ◌∙◌}
 use mathlib.Core.Logic.{inl, inr}
 use mathlib.Core.Bool.{Bool, true, false}
-use mathlib.Core.List.{List, [], ◌∷◌, ◌++◌, map}
-use lib.ListN.{length, get_or, get_or-append}
-use lib.Seq.{get_or-append-add}
+use mathlib.Core.List.{List, [], ◌∷◌}
+use lib.ListN.{length, get_or}
 use lib.Dec.{eqb}
-use Rattle.rules.specs.Lists.{pick, counting, joined, Each}
+use Rattle.rules.specs.Lists.{pick, Each}
 use Rattle.rules.specs.Sentences.{Node, Sentence}
 use Rattle.rules.specs.Reading.{Handed}
-use Rattle.rules.specs.SheetFields.{node_room, node_width, parent_place}
-use Rattle.rules.specs.Sheets.{nodes, leading, node_numbers, record_at, sentence_sheet}
+use Rattle.rules.specs.SheetFields.{node_room, parent_place}
+use Rattle.rules.specs.Sheets.{nodes, node_numbers, record_at, sentence_sheet}
 use Rattle.rules.specs.Survey.{survey_of}
 use Rattle.rules.specs.Climbing.{parent_among, parent_in, parent_on, climbed, Climbs, EveryChainClimbs}
 use Rattle.rules.proofs.EachElement.{each_then}

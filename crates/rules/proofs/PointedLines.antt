@@ -10,7 +10,7 @@ use mathlib.Core.List.{List, [], ◌∷◌, ◌++◌}
 use lib.ListN.{length, take, drop}
 use lib.Dec.{eqb, ltb}
 use borrow.Author.Tests.{eqb-true, ltb-true}
-use Rattle.rules.specs.Lists.{bytes, empty, member}
+use Rattle.rules.specs.Lists.{empty, member}
 use Rattle.rules.specs.Texts.{Text}
 use Rattle.rules.specs.Columns.{Column, columns, written, fields}
 use Rattle.rules.specs.Numbers.{format_number, sentence_number, origin_id, date, number, good, value}

@@ -1,26 +1,20 @@
 -- The sentence sheet and the list of secondary edges, number by number: of a sentence whose node numbers differ and are
 -- below 1,000, with at most 512 edges. By the widths of what stands in front.
 use Prim.Native.Nat.{ℕ, zero, suc, ◌+◌, ◌-◌, ◌*◌, ◌≤◌, ◌<◌}
-use native.Mathlib.Nat.{zero-add}
 use native.Mathlib.Omega.{arith}
 use mathlib.Core.Path.{◌≡◌, refl, sym, ap, ap₂, ◌∙◌}
-use mathlib.Core.Bool.{false}
 use mathlib.Core.List.{List, [], ◌∷◌, ◌++◌, map, append_assoc}
-use lib.ListN.{length, get_or, replicate, length-append, length-map, length-replicate, get_or-replicate}
+use lib.ListN.{length, get_or, replicate, length-append, length-map, length-replicate}
 use lib.Seq.{get_or_at}
-use lib.Dec.{eqb}
-use borrow.Author.Tests.{eq-eqb, ne_eqb}
 use Rattle.rules.specs.Lists.{counting, joined, Each}
-use Rattle.rules.specs.Sentences.{Edge, Node, Sentence, edge_count, edges_of, listed}
+use Rattle.rules.specs.Sentences.{Edge, Node, Sentence, edge_count, edges_of}
 use Rattle.rules.specs.SheetFields.{field_place}
 use Rattle.rules.specs.Sheets.{leading, node_numbers, record_at, sentence_sheet, EdgeRecord, edge_record, edge_list}
 use Rattle.rules.specs.Meaning.{node_number}
 use Rattle.rules.specs.Layout.{NodeLaid, edges_in, zero_record, SentenceLaid}
-use Rattle.rules.proofs.Conjunctions.{or_left, or_right}
-use Rattle.rules.proofs.EachElement.{each_then, each_both, each_of}
+use Rattle.rules.proofs.EachElement.{each_then, each_of}
 use Rattle.rules.proofs.Counting.{length_counting}
 use Rattle.rules.proofs.Elements.{map_append}
-use Rattle.rules.proofs.SaidOfLists.{never_both}
 use Rattle.rules.proofs.Sorting.{Distinct}
 use Rattle.rules.proofs.SentencesKept.{edges_append}
 use Rattle.rules.proofs.NodeNumbers.{InRoom}
