@@ -10,6 +10,7 @@ use lib.Dec.{eqb}
 use lib.ListN.{length, drop, replicate, length-replicate, length-drop, length-reverse, drop_of_length-le}
 use borrow.Author.Tests.{ne_eqb}
 use types.Run.{OneOf}
+use Rattle.columns.specs.declared.listing.Line as listing
 use denote.Enum.Declared.{tag_of}
 use Rattle.rules.specs.Lists.{pick}
 use Rattle.rules.specs.Numbers.{file_limit}
@@ -167,16 +168,13 @@ module _ (file : List ℕ) (from size at : ℕ) (k : Kept) (g : Going file from 
   part_left x (b ∷ bs) h f p n = rw (f, p, n)
 
   -- a line that may not be read
-  abbrev unread : List ℕ
-  unread = 1 ∷ 2 ∷ 3 ∷ []
-
-  pub stop_unread : at < length file → (found : NextLine) → line_end file at ≡ line_end_of found → OneOf unread (tag_of the_type found) → Stops (reached_at k.state (line_refusal (line_end_of found)) at)
-  stop_unread h (Line l) q n = absurd (not_among 0 unread refl n)
+  pub stop_unread : at < length file → (found : NextLine) → line_end file at ≡ line_end_of found → ((l : listing.Line) → found ≡ Line l → ⊥) → Stops (reached_at k.state (line_refusal (line_end_of found)) at)
+  stop_unread h (Line l) q n = absurd (n l refl)
   stop_unread h Unended q n =
       let l = drop at file in
       let some : 0 < length (reverse l ++ r.part) = rw (g.unbegun, append-nil) (omega (arith, length-reverse l, length-drop at file)) in
       stopped _ 3 at (sym g.rest ∙ read_part r l g.sound (unended_none file at q)) refl refl
-      (part_left _ (reverse l ++ r.part) some refl refl g.line_start)
+      (part_left (record { at = r.at + length l; line_start = r.line_start; part = reverse l ++ r.part; phase = r.phase; handed = r.handed; fault = none }) (reverse l ++ r.part) some refl refl g.line_start)
   stop_unread h Illegal q n =
       stop_line (first_line (drop at file)) (drop (at + length (first_line (drop at file)) + 1) file) 4
       (sym g.rest ∙ illegal_step file at r g.sound g.unbegun q)

@@ -47,14 +47,6 @@ use Rattle.reading.proofs.Going.{Going, stop_by}
 
 -- ---- which step it is
 
--- the steps that refuse nothing
-abbrev pub taking : List ℕ
-taking = 0 ∷ 1 ∷ 2 ∷ 3 ∷ 4 ∷ 5 ∷ 6 ∷ 7 ∷ 8 ∷ []
-
--- a word or a phrase, of what the quick way answers
-abbrev pub quick : List ℕ
-quick = 0 ∷ 1 ∷ []
-
 never_refused : (t : Taking) (f : Fault) → steps.Refused f ≡ step_for t → ⊥
 never_refused ignored_line f e = let z : ◌≡◌ {A = ℕ} 0 1 = cc in omega arith
 never_refused (format_line n) f e = let z : ◌≡◌ {A = ℕ} 0 1 = cc in omega arith
@@ -213,15 +205,15 @@ module _ {file : List ℕ} {from size at : ℕ} {k : Kept} {l : Line} {places : 
   -- ---- as the code has it: y is the step that the judge answered
 
   module _ (y : Step) (is : y ≡ step_of judged) where
-    goes_on : OneOf taking (tag_of the_type y)
+    goes_on : ((f : Fault) → y ≡ steps.Refused f → ⊥)
         → Applicable y (length file) k × ((k' : Kept) → k' ≡ effect from y at (e + 1) k → Going file from size (e + 1) k')
     goes_on o = by judged turned is
       where
         by : (v : Verdict Taking) → Turned v → y ≡ step_of v → Applicable y (length file) k × ((k' : Kept) → k' ≡ effect from y at (e + 1) k → Going file from size (e + 1) k')
-        by (refused b) t s = absurd (not_among 9 taking refl (subst (λ (x : Step). OneOf taking (tag_of the_type x)) s o))
+        by (refused b) t s = absurd (o _ s)
         by (granted t) u s = rw s (u.0, λ k' h. subst (Going file from size (e + 1)) (sym h) u.1)
 
-    pub applies : OneOf taking (tag_of the_type y)
+    pub applies : ((f : Fault) → y ≡ steps.Refused f → ⊥)
         → (l.start ≤ file_limit) × (e ≤ file_limit) × Applicable y (length file) (kept k.state k.sheet k.seen k.marks [])
     applies o = (
       omega (arith, here.starts, onward, inside, here.short),
@@ -230,7 +222,7 @@ module _ {file : List ℕ} {from size at : ℕ} {k : Kept} {l : Line} {places : 
     )
 
     -- the beginnings are noted apart
-    pub goes_on_noted : OneOf taking (tag_of the_type y) → (s' : State) (sheet' seen' marks' begins' : List ℕ) → begins' ≡ noted_by from y k.state k.begins
+    pub goes_on_noted : ((f : Fault) → y ≡ steps.Refused f → ⊥) → (s' : State) (sheet' seen' marks' begins' : List ℕ) → begins' ≡ noted_by from y k.state k.begins
         → kept s' sheet' seen' marks' (noted_by from y k.state k.begins) ≡ effect from y l.start (e + 1) k → Going file from size (e + 1) (kept s' sheet' seen' marks' begins')
     goes_on_noted o s' sheet' seen' marks' begins' b p =
         subst (λ (bs : List ℕ). Going file from size (e + 1) (kept s' sheet' seen' marks' bs)) (sym b) ((goes_on o).1 _ (p ∙ ap (λ (n : ℕ). effect from y n (e + 1) k) here.starts))
@@ -246,7 +238,7 @@ module _ {file : List ℕ} {from size at : ℕ} {k : Kept} {l : Line} {places : 
 
   -- ---- as the quick way has it: p is what it took the line for
 
-  module _ (p : Plain) (says : PlainBy (columns_of file l) (tally_in k.state.phase).words judged p) (o : OneOf quick (tag_of plains.the_type p)) where
+  module _ (p : Plain) (says : PlainBy (columns_of file l) (tally_in k.state.phase).words judged p) (o : p ≡ plain.Other → ⊥) where
     abbrev Goes : Plain → Type 0
     Goes x =
         Applicable (plain_step x) 0 (kept k.state [] [] k.marks [])
@@ -256,7 +248,7 @@ module _ {file : List ℕ} {from size at : ℕ} {k : Kept} {l : Line} {places : 
     unfolding effect
     plainly = by p says o
       where
-        by : (x : Plain) → PlainBy (columns_of file l) (tally_in k.state.phase).words judged x → OneOf quick (tag_of plains.the_type x) → Goes x
-        by (plain.Word parent) b m = goes_on _ (sym b) (inr (inr (inr (inr (inr (inr (inl refl)))))))
-        by (plain.Phrase number parent) b m = goes_on _ (sym b) (inr (inr (inr (inr (inr (inr (inr (inl refl))))))))
-        by plain.Other b m = absurd (not_among 2 quick refl m)
+        by : (x : Plain) → PlainBy (columns_of file l) (tally_in k.state.phase).words judged x → (x ≡ plain.Other → ⊥) → Goes x
+        by (plain.Word parent) b m = goes_on _ (sym b) (λ f e. cc)
+        by (plain.Phrase number parent) b m = goes_on _ (sym b) (λ f e. cc)
+        by plain.Other b m = absurd (m refl)

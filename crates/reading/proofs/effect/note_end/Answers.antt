@@ -1,0 +1,36 @@
+-- `reading::effect::note_end` meets its contract.
+use borrow.Author.Rules.{rules}
+use Prim.Native.Nat.{ℕ}
+use mathlib.Core.Path.{◌≡◌, refl}
+use mathlib.Core.List.{List, [], ◌∷◌}
+use denote.Enum.Declared.{tag_of}
+use Rattle.steps.specs.declared.Step.{Step}
+use Rattle.steps.specs.declared.Step.TheVariants.{Ignored, Format, TableBegins, Row, TableEnds, SentenceBegins, Word, Phrase, SentenceEnds, Refused}
+use Rattle.steps.specs.contracts.Step.{the_type}
+use Rattle.judging.specs.declared.state.State.{State}
+use Rattle.reading.specs.Effects.{effect, noted_by}
+use Rattle.lines.proofs.Variants.{not_among}
+use Rattle.reading.proofs.effect.note_end.Goals as goal
+
+none_noted : (from : ℕ) (y : Step) (s : State) (begins : List ℕ) → (y ≡ SentenceEnds → ⊥) → begins ≡ noted_by from y s begins
+unfolding effect
+none_noted from Ignored s begins o = refl
+none_noted from (Format n) s begins o = refl
+none_noted from (TableBegins n) s begins o = refl
+none_noted from (Row r) s begins o = refl
+none_noted from TableEnds s begins o = refl
+none_noted from (SentenceBegins h) s begins o = refl
+none_noted from (Word n) s begins o = refl
+none_noted from (Phrase n) s begins o = refl
+none_noted from SentenceEnds s begins o = absurd (o refl)
+none_noted from (Refused f) s begins o = refl
+
+pub returns-in_default : goal.returns-in_default
+returns-in_default c = let a = c.args in none_noted a.from a.step a.s a.begins.now c.in_default.not-SentenceEnds
+
+pub note_beginning-requires : goal.note_beginning-requires
+note_beginning-requires c = rw c.tally_in.ensures c.requires
+
+pub returns : goal.returns
+unfolding effect
+returns c = rw (c.in-SentenceEnds.is, c.note_beginning.ensures, c.tally_in.ensures)
