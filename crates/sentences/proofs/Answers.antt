@@ -30,57 +30,57 @@ module _ (file : List ℕ) (place : ℕ) (lent sheet : List ℕ) (r : Begun) (b 
   nowhere : r ≡ Nowhere → (opened_at file place ≡ none) × (sheet ≡ lent)
   nowhere e = subst (λ (x : Begun). BegunAs file place x lent sheet) e b
 
-  pub begun-nowhere : r ≡ Nowhere → (begun_at file place ≡ none) × (sheet ≡ lent)
-  begun-nowhere e = (begun_on file place ∙ ap (gone_on file place) (nowhere e).0, (nowhere e).1)
+  pub begun_nowhere : r ≡ Nowhere → (begun_at file place ≡ none) × (sheet ≡ lent)
+  begun_nowhere e = (begun_on file place ∙ ap (gone_on file place) (nowhere e).0, (nowhere e).1)
 
   -- the counts tell where the sentence begins
   module _ (next : ℕ) (t : Tally) (e : r ≡ Behind next t) where
     headed : Headed file place next t lent sheet
     headed = subst (λ (x : Begun). BegunAs file place x lent sheet) e b
 
-    begins-at : t.start ≡ place
-    begins-at = ap (λ (x : Tally). x.start) headed.tally_is
+    begins_at : t.start ≡ place
+    begins_at = ap (λ (x : Tally). x.start) headed.tally_is
 
-    pub headed-at : (zeros : List ℕ) → lent ≡ zeros → Headed file t.start next t zeros sheet
-    headed-at zeros h = rw (← h) (subst (λ (p : ℕ). Headed file p next t lent sheet) (sym begins-at) headed)
+    pub headed_at : (zeros : List ℕ) → lent ≡ zeros → Headed file t.start next t zeros sheet
+    headed_at zeros h = rw (← h) (subst (λ (p : ℕ). Headed file p next t lent sheet) (sym begins_at) headed)
 
-    pub gathered-at : (q : Bool) (left edges : List ℕ) → Gathered (begun_at file t.start) q left edges → Gathered (begun_at file place) q left edges
-    gathered-at q left edges g = subst (λ (p : ℕ). Gathered (begun_at file p) q left edges) begins-at g
+    pub gathered_at : (q : Bool) (left edges : List ℕ) → Gathered (begun_at file t.start) q left edges → Gathered (begun_at file place) q left edges
+    gathered_at q left edges g = subst (λ (p : ℕ). Gathered (begun_at file p) q left edges) begins_at g
 
 module _ (file : List ℕ) (place : ℕ) where
-  from-nowhere : starts_line file place ≡ false → sentence_from file place ≡ none
+  from_nowhere : starts_line file place ≡ false → sentence_from file place ≡ none
   unfolding sentence_from
-  from-nowhere e = rw e
+  from_nowhere e = rw e
 
-  from-line : starts_line file place ≡ true → sentence_from file place ≡ begun_at file place
+  from_line : starts_line file place ≡ true → sentence_from file place ≡ begun_at file place
   unfolding sentence_from
-  from-line e = rw e
+  from_line e = rw e
 
   -- zeros
   module _ (sheet edges : List ℕ) (a : sheet ≡ replicate sentence_sheet_size 0) (b : edges ≡ replicate (edge_limit * edge_width) 0) where
     read_none : sentence_from file place ≡ none → SentenceRead (sentence_from file place) false sheet edges
     read_none e =
-        subst (λ (o : Option Sentence). SentenceRead o false sheet edges) (sym e) (record { answer = refl; sheet-is = a; edges_are = b })
+        subst (λ (o : Option Sentence). SentenceRead o false sheet edges) (sym e) (record { answer = refl; sheet_is = a; edges_are = b })
 
-    pub nothing-starts : starts_line file place ≡ false → SentenceRead (sentence_from file place) false sheet edges
-    nothing-starts e = read_none (from-nowhere e)
+    pub nothing_starts : starts_line file place ≡ false → SentenceRead (sentence_from file place) false sheet edges
+    nothing_starts e = read_none (from_nowhere e)
 
-    pub nothing-begins : starts_line file place ≡ true → begun_at file place ≡ none → SentenceRead (sentence_from file place) false sheet edges
-    nothing-begins e h = read_none (from-line e ∙ h)
+    pub nothing_begins : starts_line file place ≡ true → begun_at file place ≡ none → SentenceRead (sentence_from file place) false sheet edges
+    nothing_begins e h = read_none (from_line e ∙ h)
 
-    pub nothing-gathered : starts_line file place ≡ true → (sheet₀ edges₀ : List ℕ) (r : Bool) → Gathered (begun_at file place) r sheet₀ edges₀ → r ≡ false
+    pub nothing_gathered : starts_line file place ≡ true → (sheet₀ edges₀ : List ℕ) (r : Bool) → Gathered (begun_at file place) r sheet₀ edges₀ → r ≡ false
         → SentenceRead (sentence_from file place) false sheet edges
-    nothing-gathered e sheet₀ edges₀ r g h = nothing-begins e (by (begun_at file place) g)
+    nothing_gathered e sheet₀ edges₀ r g h = nothing_begins e (by (begun_at file place) g)
       where
         by : (o : Option Sentence) → Gathered o r sheet₀ edges₀ → o ≡ none
         by none g = refl
         by (some s) g = cc (g.answer, h)
 
-  pub found-gathered : starts_line file place ≡ true → (sheet edges : List ℕ) (r : Bool) → Gathered (begun_at file place) r sheet edges → r ≡ true
+  pub found_gathered : starts_line file place ≡ true → (sheet edges : List ℕ) (r : Bool) → Gathered (begun_at file place) r sheet edges → r ≡ true
       → SentenceRead (sentence_from file place) true sheet edges
-  found-gathered e sheet edges r g h =
-      subst (λ (o : Option Sentence). SentenceRead o true sheet edges) (sym (from-line e)) (by (begun_at file place) g)
+  found_gathered e sheet edges r g h =
+      subst (λ (o : Option Sentence). SentenceRead o true sheet edges) (sym (from_line e)) (by (begun_at file place) g)
     where
       by : (o : Option Sentence) → Gathered o r sheet edges → SentenceRead o true sheet edges
       by none g = absurd (let z : ◌≡◌ {A = ℕ} 0 1 = cc (g, h) in omega arith)
-      by (some s) g = record { answer = refl; sheet-is = g.sheet_is; edges_are = g.edges-are }
+      by (some s) g = record { answer = refl; sheet_is = g.sheet_is; edges_are = g.edges_are }

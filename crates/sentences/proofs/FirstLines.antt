@@ -88,12 +88,9 @@ module _ (file : List ℕ) (place : ℕ) where
       by (refused r) q = refl
       by (granted a) q = absurd (let z : ◌≡◌ {A = ℕ} 0 1 = cc (e, (granted_holds rs h a q).0) in omega arith)
 
-  abbrev unread : List ℕ
-  unread = 1 ∷ 2 ∷ 3 ∷ []
-
-  pub begun_unread : (found : LineEnd) → line_end file place ≡ found → OneOf unread (tag_of line-ends.the_type found) → opened_at file place ≡ none
+  pub begun_unread : (found : LineEnd) → line_end file place ≡ found → ((e : ℕ) → found ≡ At e → ⊥) → opened_at file place ≡ none
   unfolding heading_alone
-  begun_unread (At e) q n = absurd (not_among 0 unread refl n)
+  begun_unread (At e) q n = absurd (n e refl)
   begun_unread Unended q n = begun_unended (unended_none file place q)
   begun_unread Illegal q n = begun_ended (illegal_ended file place q) ∙ not_granted _ _ _ (rw (illegal_marred file place q))
   begun_unread TooLong q n =
@@ -145,15 +142,12 @@ module _ (file : List ℕ) (place : ℕ) where
         begun_written = begun_line ∙ ap (opened_if (e + 1)) as_written
 
         module _ (y : Step) (told : y ≡ step_of (taken_as sentence_begins written_so)) where
-          abbrev others : List ℕ
-          others = 0 ∷ 1 ∷ 2 ∷ 3 ∷ 4 ∷ 6 ∷ 7 ∷ 8 ∷ 9 ∷ []
-
-          pub begun_refused : OneOf others (tag_of step-kinds.the_type y) → opened_at file place ≡ none
+          pub begun_refused : ((said : HeadingSaid) → y ≡ SentenceBegins said → ⊥) → opened_at file place ≡ none
           begun_refused o = begun_written ∙ by written_so told
             where
               by : (v : Verdict Heading) → y ≡ step_of (taken_as sentence_begins v) → opened_if (e + 1) v ≡ none
               by (refused r) w = refl
-              by (granted a) w = absurd (not_among 5 others refl (subst (λ (x : Step). OneOf others (tag_of step-kinds.the_type x)) w o))
+              by (granted a) w = absurd (o _ w)
 
           pub begun_headed : (said : HeadingSaid) → y ≡ SentenceBegins said → (t : Tally) → t ≡ first_tally place said.number → (lent sheet : List ℕ)
               → sheet ≡ splice 0 (said.number ∷ said.editor1 ∷ said.date ∷ said.origin ∷ said.comment.start ∷ said.comment.len ∷ []) lent

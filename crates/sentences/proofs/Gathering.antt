@@ -121,14 +121,11 @@ module _ (file : List ℕ) (sought : Option Sentence) (handed at : ℕ) (k : Sto
   pub none_refused : (l rest : List ℕ) (b : Rule) → read r (drop at file) ≡ read (ended (line_read r l) (refuse b)) rest → sought ≡ none
   none_refused l rest b e = sym g.rest ∙ ap first (e ∙ read_fault (ended (line_read r l) (refuse b)) _ rest refl)
 
-  abbrev unread : List ℕ
-  unread = 1 ∷ 2 ∷ 3 ∷ []
-
   abbrev bytes_here : List ℕ
   bytes_here = first_line (drop at file)
 
-  pub none_unread : (found : NextLine) → line_end file at ≡ line_end_of found → OneOf unread (tag_of the_type found) → sought ≡ none
-  none_unread (Line l) q n = absurd (not_among 0 unread refl n)
+  pub none_unread : (found : NextLine) → line_end file at ≡ line_end_of found → ((l : _) → found ≡ Line l → ⊥) → sought ≡ none
+  none_unread (Line l) q n = absurd (n l refl)
   none_unread Unended q n = sym g.rest ∙ ap first (read_part r (drop at file) refl (unended_none file at q))
   none_unread Illegal q n =
       none_refused bytes_here (drop (at + length bytes_here + 1) file) (rule 4 (record { start = at; bytes = bytes_here }) false) (illegal_step file at r refl refl q)

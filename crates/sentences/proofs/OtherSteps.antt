@@ -18,7 +18,7 @@ use Rattle.citations.proofs.NoTables.{no_tables_lem}
 use Rattle.steps.specs.Steps.{step_of}
 use Rattle.steps.specs.declared.Step.{Step}
 use Rattle.steps.specs.declared.Step.TheVariants.{Ignored, Format, TableBegins, Row, TableEnds, SentenceBegins, Word, Phrase, SentenceEnds, Refused}
-use Rattle.steps.specs.contracts.Step.{the_type}
+use Rattle.steps.specs.declared.NodeSaid.{NodeSaid}
 use Rattle.judging.specs.Judging.{so_far_by}
 use Rattle.judging.specs.declared.state.Tally.{Tally}
 use Rattle.sentences.specs.Keeping.{taken_by, Stored, stored_by}
@@ -35,18 +35,15 @@ module _ (file : List ℕ) (line : Text) (t : Tally) (marks : List ℕ) (stamp :
   judged_node e w = rw e (w ∙ ap (λ (ts : Tables). step_of (among_nodes line (first_column line) 3 ts (so_far_by t marks stamp))) (no_tables_lem file).1)
 
 -- a step that gives no node leaves what is kept
-abbrev others : List ℕ
-others = 0 ∷ 1 ∷ 2 ∷ 3 ∷ 4 ∷ 5 ∷ 8 ∷ 9 ∷ []
-
-pub others_keep : (stamp : ℕ) (fs : List Text) (x : Step) (k : Stored) → OneOf others (tag_of the_type x) → k ≡ stored_by stamp fs x k
+pub others_keep : (stamp : ℕ) (fs : List Text) (x : Step) (k : Stored) → ((n : NodeSaid) → x ≡ Word n → ⊥) → ((n : NodeSaid) → x ≡ Phrase n → ⊥) → k ≡ stored_by stamp fs x k
 unfolding stored_by
-others_keep stamp fs Ignored k o = refl
-others_keep stamp fs (Format n) k o = refl
-others_keep stamp fs (TableBegins n) k o = refl
-others_keep stamp fs (Row r) k o = refl
-others_keep stamp fs TableEnds k o = refl
-others_keep stamp fs (SentenceBegins h) k o = refl
-others_keep stamp fs (Word n) k o = absurd (not_among 6 others refl o)
-others_keep stamp fs (Phrase n) k o = absurd (not_among 7 others refl o)
-others_keep stamp fs SentenceEnds k o = refl
-others_keep stamp fs (Refused f) k o = refl
+others_keep stamp fs Ignored k o p = refl
+others_keep stamp fs (Format n) k o p = refl
+others_keep stamp fs (TableBegins n) k o p = refl
+others_keep stamp fs (Row r) k o p = refl
+others_keep stamp fs TableEnds k o p = refl
+others_keep stamp fs (SentenceBegins h) k o p = refl
+others_keep stamp fs (Word n) k o p = absurd (o n refl)
+others_keep stamp fs (Phrase n) k o p = absurd (p n refl)
+others_keep stamp fs SentenceEnds k o p = refl
+others_keep stamp fs (Refused f) k o p = refl

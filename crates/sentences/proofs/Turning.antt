@@ -101,16 +101,10 @@ module _ {file : List ℕ} {sought : Option Sentence} {handed at : ℕ} {k : Sto
     pub ends_found : y ≡ steps.SentenceEnds → sought ≡ some s
     ends_found h = subst Turned h turned
 
-    abbrev pub unrefused : List ℕ
-    unrefused = 0 ∷ 1 ∷ 2 ∷ 3 ∷ 4 ∷ 5 ∷ 6 ∷ 7 ∷ 8 ∷ []
-
-    abbrev pub unended : List ℕ
-    unended = 0 ∷ 1 ∷ 2 ∷ 3 ∷ 4 ∷ 5 ∷ 6 ∷ 7 ∷ 9 ∷ []
-
-    pub goes_on : OneOf unrefused (tag_of the_type y) → OneOf unended (tag_of the_type y) → Goes y
+    pub goes_on : ((f : Fault) → y ≡ steps.Refused f → ⊥) → (y ≡ steps.SentenceEnds → ⊥) → Goes y
     goes_on = by y turned
       where
-        by : (x : Step) → Turned x → OneOf unrefused (tag_of the_type x) → OneOf unended (tag_of the_type x) → Goes x
+        by : (x : Step) → Turned x → ((f : Fault) → x ≡ steps.Refused f → ⊥) → (x ≡ steps.SentenceEnds → ⊥) → Goes x
         by steps.Ignored w o u = w
         by (steps.Format n) w o u = absurd w
         by (steps.TableBegins n) w o u = absurd w
@@ -119,5 +113,5 @@ module _ {file : List ℕ} {sought : Option Sentence} {handed at : ℕ} {k : Sto
         by (steps.SentenceBegins h) w o u = absurd w
         by (steps.Word n) w o u = w
         by (steps.Phrase n) w o u = w
-        by steps.SentenceEnds w o u = absurd (not_among 8 unended refl u)
-        by (steps.Refused f) w o u = absurd (not_among 9 unrefused refl o)
+        by steps.SentenceEnds w o u = absurd (u refl)
+        by (steps.Refused f) w o u = absurd (o f refl)

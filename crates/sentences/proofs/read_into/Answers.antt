@@ -1,0 +1,68 @@
+-- `sentences::read_into` meets its contract.
+use borrow.Author.Rules.{rules}
+use Prim.Native.Nat.{ℕ, ◌*◌}
+use mathlib.Core.Path.{◌≡◌, sym, ap, ◌∙◌}
+use mathlib.Core.Bool.{true}
+use mathlib.Core.List.{List}
+use lib.ListN.{length, replicate, length-replicate}
+use borrow.Author.Tests.{not-true, not-false}
+use Rattle.rules.specs.Numbers.{edge_limit}
+use Rattle.rules.specs.Sheets.{sentence_sheet_size}
+use Rattle.rules.specs.SentenceFrom.{starts_line}
+use Rattle.sentence_sheet.specs.FlatEdges.{edge_width}
+use Rattle.sentences.proofs.FirstLines.{start_inside}
+use Rattle.sentences.proofs.StampedMarks.{marked_further}
+use Rattle.sentences.proofs.Answers.{cleared, as_long, begun_nowhere, headed_at, gathered_at, nothing_starts, nothing_begins, nothing_gathered, found_gathered}
+use Rattle.sentences.proofs.read_into.Goals as goal
+
+pub returns-then-not-starts_line : goal.returns-then-not-starts_line
+returns-then-not-starts_line c = (nothing_starts c.args.file.now c.args.place _ _ c.requires.2 c.requires.3 (sym c.starts_line.ensures ∙ c.if-not-starts_line.true), marked_further c.requires.5)
+
+pub begin-begun-requires : goal.begin-begun-requires
+begin-begun-requires c =
+    let starts : starts_line c.args.file.now c.args.place ≡ true = sym c.starts_line.ensures ∙ c.if-not-starts_line.false in
+    (c.requires.0, c.requires.1, start_inside c.args.file.now c.args.place starts, as_long c.requires.2)
+
+pub returns-in_default : goal.returns-in_default
+returns-in_default c =
+    let starts : starts_line c.args.file.now c.args.place ≡ true = sym c.starts_line.ensures ∙ c.if-not-starts_line.false in
+    let w = begun_nowhere c.args.file.now c.args.place _ _ _ c.begin-begun.ensures c.in_default.is in
+    (nothing_begins c.args.file.now c.args.place _ _ (w.1 ∙ c.requires.2) c.requires.3 starts w.0, marked_further c.requires.5)
+
+pub take_nodes-whole-requires : goal.take_nodes-whole-requires
+take_nodes-whole-requires c =
+    (
+      c.requires.0,
+      c.requires.1,
+      headed_at c.args.file.now c.args.place _ _ _ c.begin-begun.ensures _ _ c.in-Behind.is (replicate sentence_sheet_size 0) c.requires.2,
+      c.begin-begun.auto.sheet ∙ as_long c.requires.2,
+      c.requires.3,
+      c.requires.4,
+      c.requires.5,
+    )
+
+pub returns-then-whole : goal.returns-then-whole
+returns-then-whole c =
+    let starts : starts_line c.args.file.now c.args.place ≡ true = sym c.starts_line.ensures ∙ c.if-not-starts_line.false in
+    let gathered = gathered_at c.args.file.now c.args.place _ _ _ c.begin-begun.ensures _ _ c.in-Behind.is _ _ _ c.take_nodes-whole.ensures.0 in
+    (found_gathered c.args.file.now c.args.place starts _ _ _ gathered c.if-whole.true, c.take_nodes-whole.ensures.1)
+
+pub returns : goal.returns
+returns c =
+    let starts : starts_line c.args.file.now c.args.place ≡ true = sym c.starts_line.ensures ∙ c.if-not-starts_line.false in
+    let sheet_left : length c.take_nodes-whole.new.sheet ≡ sentence_sheet_size = c.take_nodes-whole.auto.sheet ∙ c.begin-begun.auto.sheet ∙ as_long c.requires.2 in
+    let edges_left : length c.take_nodes-whole.new.edges ≡ edge_limit * edge_width = c.take_nodes-whole.auto.edges ∙ as_long c.requires.3 in
+    let gathered = gathered_at c.args.file.now c.args.place _ _ _ c.begin-begun.ensures _ _ c.in-Behind.is _ _ _ c.take_nodes-whole.ensures.0 in (
+      nothing_gathered c.args.file.now c.args.place _ _ (cleared c.clear.ensures sheet_left) (cleared c.clear-2.ensures edges_left) starts _ _ _ gathered c.if-whole.false,
+      c.take_nodes-whole.ensures.1,
+    )
+
+pub shape_of-sheet : goal.shape_of-sheet
+shape_of-sheet c =
+    let sheet_left : length c.take_nodes-whole.new.sheet ≡ sentence_sheet_size = c.take_nodes-whole.auto.sheet ∙ c.begin-begun.auto.sheet ∙ as_long c.requires.2 in
+    as_long {n = sentence_sheet_size} (cleared c.clear.ensures sheet_left) ∙ sym (as_long {n = sentence_sheet_size} c.requires.2)
+
+pub shape_of-edges : goal.shape_of-edges
+shape_of-edges c =
+    let edges_left : length c.take_nodes-whole.new.edges ≡ edge_limit * edge_width = c.take_nodes-whole.auto.edges ∙ as_long c.requires.3 in
+    as_long {n = edge_limit * edge_width} (cleared c.clear-2.ensures edges_left) ∙ sym (as_long {n = edge_limit * edge_width} c.requires.3)
