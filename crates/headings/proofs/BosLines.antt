@@ -12,7 +12,7 @@ use borrow.Author.Tests.{lt-ltb, le-ltb, ltb-true}
 use Rattle.rules.specs.Lists.{pick, empty}
 use Rattle.rules.specs.Bytes.{percents}
 use Rattle.rules.specs.Texts.{no_text, reads, trim, trim_from}
-use Rattle.rules.specs.Columns.{Column, columns, column, written, fields, comment}
+use Rattle.rules.specs.Columns.{Column, column, written, fields, comment}
 use Rattle.rules.specs.Numbers.{sentence_number, origin_id, date, number, signed_id}
 use Rattle.rules.proofs.Conjunctions.{and_left, and_right}
 use Rattle.headings.specs.Headings.{whole, four_of, numbers_on}

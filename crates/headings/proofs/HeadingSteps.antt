@@ -7,8 +7,6 @@ use mathlib.Core.Option.{Option, none, some}
 use mathlib.Core.List.{List, [], ◌∷◌, ◌++◌}
 use lib.Dec.{eqb}
 use lib.ListN.{length, drop}
-use types.Run.{OneOf, miss}
-use denote.Enum.Declared.{tag_of}
 use Rattle.rules.specs.Lists.{pick}
 use Rattle.rules.specs.Texts.{Text}
 use Rattle.rules.specs.Columns.{columns, written, comment}
@@ -25,7 +23,6 @@ use Rattle.steps.specs.declared.Fault.{Fault}
 use Rattle.steps.specs.declared.HeadingSaid.{HeadingSaid}
 use Rattle.steps.specs.declared.Step.{Step}
 use Rattle.steps.specs.declared.Step.TheVariants.{SentenceBegins, Refused}
-use Rattle.steps.specs.contracts.Step.{the_type}
 use Rattle.steps.proofs.StepLaws.{step_checked, fault_append}
 use Rattle.headings.specs.Headings.{whole, four_of, numbers_on, said_heading, judged_heading}
 use Rattle.headings.specs.declared.bos.FourNumbers.{FourNumbers}

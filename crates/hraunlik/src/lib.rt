@@ -1,4 +1,5 @@
-// The library for programs in other languages. A slice is lent as two arguments, its place and its length.
+// The library as other languages see it: each answer is a number, and what else is told goes where the caller wants it.
+// The crate hraunlik_c exports it.
 #![tactic(auto)]
 
 ghost use Rattle.std.specs.Prelude.{◌≡◌};
@@ -11,8 +12,7 @@ ghost use Rattle.explaining.specs.Promise.{placed};
 ghost use Rattle.hraunlik.specs.Promise.{outcome, indexed, written_told, explained_told};
 
 // Answers with the refusal, 0 if the file is accepted; the other three numbers go where the caller wants them.
-#[unsafe(no_mangle)]
-pub extern "C" fn hraunlik_survey(
+pub fn hraunlik_survey(
     file: &[u8],
     tables: &mut [u32],
     seen: &mut [u8],
@@ -30,8 +30,7 @@ pub extern "C" fn hraunlik_survey(
 }
 
 // A survey that also tells, for each sentence number, where its sentence begins.
-#[unsafe(no_mangle)]
-pub extern "C" fn hraunlik_index(
+pub fn hraunlik_index(
     file: &[u8],
     tables: &mut [u32],
     seen: &mut [u8],
@@ -50,8 +49,7 @@ pub extern "C" fn hraunlik_index(
 }
 
 // The list of secondary edges is 2,048 numbers: child, label's start, label's length and parent of each of 512 records.
-#[unsafe(no_mangle)]
-pub extern "C" fn hraunlik_open(
+pub fn hraunlik_open(
     file: &[u8],
     number: u32,
     tables: &mut [u32],
@@ -64,21 +62,14 @@ pub extern "C" fn hraunlik_open(
     opening::open_flat(file, number, tables, seen, sheet, edges)
 }
 
-#[unsafe(no_mangle)]
-pub extern "C" fn hraunlik_open_at(
-    file: &[u8],
-    place: u32,
-    sheet: &mut [u32],
-    edges: &mut [u32],
-) -> u32
+pub fn hraunlik_open_at(file: &[u8], place: u32, sheet: &mut [u32], edges: &mut [u32]) -> u32
     ensures { flat.outcome_at result sheet.new edges.new ≡ flat.after_opening_flat_at file.now place sheet.old edges.old }
 {
     opening::open_flat_at(file, place, sheet, edges)
 }
 
 // The tidy text into `output`; where it ends and where a fault stands go where the caller wants them.
-#[unsafe(no_mangle)]
-pub extern "C" fn hraunlik_write(
+pub fn hraunlik_write(
     file: &[u8],
     output: &mut [u8],
     tables: &mut [u32],
@@ -98,8 +89,7 @@ pub extern "C" fn hraunlik_write(
 
 // The description of a tag: which of the two it is a part of (0 neither, 1 the file, 2 the list), where it starts and how long it
 // is go where the caller wants them.
-#[unsafe(no_mangle)]
-pub extern "C" fn hraunlik_explain(
+pub fn hraunlik_explain(
     file: &[u8],
     list: &[u8],
     table: u32,

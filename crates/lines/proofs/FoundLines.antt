@@ -1,6 +1,6 @@
 -- A line that was found in one pass or in two is told in the same way, and what was told of a line that is read: where it
 -- ends, where it starts, and that its columns are listed.
-use Prim.Native.Nat.{ℕ, ◌+◌, ◌≤◌, ◌<◌}
+use Prim.Native.Nat.{ℕ, ◌+◌, ◌≤◌}
 use native.Mathlib.Omega.{arith}
 use mathlib.Core.Path.{◌≡◌, sym, ap, ◌∙◌, subst}
 use mathlib.Core.List.{List}
@@ -13,7 +13,6 @@ use Rattle.columns.specs.declared.listing.Line as listing
 use Rattle.columns.proofs.ListedColumns.{now_listed}
 use Rattle.lines.specs.LineEnds.{line_end}
 use Rattle.lines.specs.NextLines.{line_end_of, ListedBy, ReadAtOnce}
-use Rattle.lines.specs.declared.LineEnd.{LineEnd}
 use Rattle.lines.specs.declared.LineEnd.TheVariants.{At}
 use Rattle.lines.specs.declared.NextLine.{NextLine}
 use Rattle.lines.specs.declared.NextLine.TheVariants.{Line}

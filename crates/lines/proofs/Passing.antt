@@ -4,7 +4,7 @@ use Prim.Native.Nat.{ℕ, suc, ◌+◌, ◌-◌, ◌*◌, ◌/◌, ◌≤◌, �
 use native.Mathlib.Nat.{add-zero}
 use native.Mathlib.Numerals.{add-one}
 use native.Mathlib.Omega.{arith}
-use mathlib.Core.Path.{◌≡◌, refl, sym, ap, ap₂, ◌∙◌, subst}
+use mathlib.Core.Path.{◌≡◌, refl, sym, ap, ap₂, ◌∙◌}
 use mathlib.Core.Bool.{Bool, true, false, not, ◌||◌}
 use mathlib.Core.List.{List, [], ◌∷◌, ◌++◌, append_assoc, append-nil}
 use lib.Dec.{T, eqb}
@@ -17,7 +17,7 @@ use Rattle.rules.specs.Bytes.{newline, white, illegal_class, class_of}
 use Rattle.rules.specs.Numbers.{line_limit, file_limit}
 use Rattle.rules.specs.Columns.{columns_from}
 use Rattle.rules.proofs.Counting.{holds_below}
-use Rattle.columns.specs.Listing.{places_of, columns_of, Listed}
+use Rattle.columns.specs.Listing.{places_of, Listed}
 use Rattle.columns.specs.declared.listing.Line.{Line}
 use Rattle.columns.proofs.Stands.{length_places}
 use Rattle.lines.specs.LineEnds.{line_end}

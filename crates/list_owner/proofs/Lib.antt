@@ -1,3 +1,2 @@
-pub mod LocalList
 pub mod Owned
 pub mod Asked

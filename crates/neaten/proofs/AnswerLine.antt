@@ -6,13 +6,13 @@ use mathlib.Core.Path.{◌≡◌, sym}
 use mathlib.Core.List.{List, [], ◌∷◌, ◌++◌, append_assoc, append-nil}
 use lib.ListN.{length}
 use lib.Seq.{length-take-le}
-use Rattle.io.specs.Counts.{IsPrefixLen}
 use Rattle.rules.specs.Bytes.{newline}
 use Rattle.rules.specs.Tidy.{space, keyword_line}
 use Rattle.printing.specs.Over.{Put}
 use Rattle.printing.specs.Further.{further}
 use Rattle.printing.proofs.PutLaws.{put_length}
 use Rattle.printing.proofs.LineLaws.{parted_is}
+use Rattle.neaten.specs.Answers.{IsPrefixLen}
 
 further_three : (x b c d : List ℕ) → x ++ (space ∷ b) ++ (space ∷ c) ++ (space ∷ d) ≡ x ++ further space (b ∷ c ∷ d ∷ [])
 further_three x b c d = simp (append_assoc, append-nil)

@@ -8,7 +8,6 @@ use mathlib.Core.List.{List, ◌++◌}
 use lib.ListN.{length, drop, length-append}
 use lib.Dec.{leb, eqb}
 use lib.Seq.{length-take-le}
-use Rattle.io.specs.Counts.{IsPrefixLen}
 use Rattle.rules.specs.Lists.{pick}
 use Rattle.rules.specs.Numbers.{file_limit, edge_limit}
 use Rattle.rules.specs.Reading.{numbers}
@@ -18,6 +17,7 @@ use Rattle.rules.specs.Opening.{no_sheet, no_edges, all_fit}
 use Rattle.rules.specs.Writing.{Written, WritingOutcome, tidy_of, writing_answer, written_over, output_after, after_writing}
 use Rattle.opening.specs.FlatLists.{edge_records, flat_size}
 use Rattle.writing.specs.Promise.{WrittenFlat, flattened, after_writing_flat}
+use Rattle.neaten.specs.Answers.{IsPrefixLen}
 
 within_text : (accepted room : Bool) (refusal place end : ℕ) (text output : List ℕ)
     → let answer : Written = pick accepted (pick room (record { refusal = 0; place = end; written = length text }) (record { refusal = 25; place = end; written = 0 })) (record { refusal = refusal; place = place; written = 0 }) in

@@ -3,15 +3,19 @@
 #![tactic(auto)]
 
 ghost use Rattle.std.specs.Prelude.{◌≡◌, [], ◌∷◌, ◌≤◌, length};
-ghost use Rattle.io.specs.Counts.{IsPrefixLen};
 ghost use Rattle.rules.specs.Tidy.{digits_of, keyword_line};
 ghost use Rattle.survey.specs.Promise.{as_surveyed};
 ghost use Rattle.printing.specs.Over.{Put};
 ghost use Rattle.writing.specs.Promise.{answer_of};
-ghost use Rattle.neaten.specs.Answers.{surveyed, writtenInto};
+ghost use Rattle.neaten.specs.Answers.{surveyed, written_into, IsPrefixLen};
 
+use std::io;
+use std::io::{Read, Write};
 use survey::Surveyed;
 use writing::Written;
+
+// How many bytes are read.
+const MOST: u64 = 65_536;
 
 // The file's bytes and two more for each of 256 origins: no tidy text is longer.
 const LONGEST: usize = 66048;
@@ -29,7 +33,7 @@ fn survey_file(file: &[u8]) -> Surveyed
 }
 
 fn write_tidy(file: &[u8], output: &mut [u8]) -> Written
-    ensures { (answer_of result ≡ (writtenInto file.now output.old).answer) × (output.new ≡ (writtenInto file.now output.old).output) × IsPrefixLen result.length output.new }
+    ensures { (answer_of result ≡ (written_into file.now output.old).answer) × (output.new ≡ (written_into file.now output.old).output) × IsPrefixLen result.length output.new }
 {
     let mut tables = [0u32; table_sheet::SIZE];
     let mut seen = [0u8; seen::SIZE];
@@ -50,26 +54,28 @@ fn put_answer(told: Surveyed, line: &mut [u8]) -> usize
     printing::put_byte(NEWLINE, line, ended)
 }
 
-fn print_answer(told: Surveyed) {
+fn print_answer<W: Write>(out: &mut W, told: Surveyed) -> io::Result<()> {
     let mut line = [0u8; 44];
     let end = put_answer(told, &mut line);
-    io::write_all(1, &line[..end]);
+    out.write_all(&line[..end])
 }
 
-fn main() {
-    let mut space = io::large_buffer();
-    let length = io::read_full(0, &mut space);
+fn main(rt: HostRuntime) -> io::Result<()> {
+    let mut file = Vec::new(rt.alloc());
+    rt.reader().take(MOST).read_to_end(&mut file)?;
     let mut output = [0u8; LONGEST];
-    let told = survey_file(&space[..length]);
-    let written = write_tidy(&space[..length], &mut output);
+    let told = survey_file(&file);
+    let written = write_tidy(&file, &mut output);
+    let mut out = io::writer(&rt);
     if written.refusal == 0 {
-        io::write_all(1, &output[..written.length as usize]);
+        out.write_all(&output[..written.length as usize])
     } else {
-        print_answer(Surveyed {
+        let refused = Surveyed {
             refusal: written.refusal,
             place: written.place,
             sentences: told.sentences,
             sound_end: told.sound_end,
-        });
+        };
+        print_answer(&mut out, refused)
     }
 }

@@ -1,5 +1,7 @@
-// The number on the first line of standard input.
+// The number on the first line of an input.
 use numbers::SentenceNumber;
+use std::io;
+use std::io::Read;
 
 const NEWLINE: u8 = 10;
 
@@ -11,34 +13,28 @@ const NINE: u8 = 57;
 const LONGEST: usize = 6;
 
 // The end of the input ends a line too.
-fn read_byte() -> u8 {
-    let mut byte = [0u8; 1];
-    if io::read_full(0, &mut byte) == 0 {
-        return NEWLINE;
-    }
-    byte[0]
+fn read_byte<R: Read>(input: &mut R) -> io::Result<u8> {
+    input.by_ref().bytes().next().unwrap_or(Ok(NEWLINE))
 }
 
 // A line that is no sentence's number gives 0.
-pub fn read_number() -> u32 {
+pub fn read_number<R: Read>(input: &mut R) -> io::Result<u32> {
     let mut number = 0;
-    let mut k = 0;
-    while k < LONGEST {
-        let b = read_byte();
+    for _ in 0..LONGEST {
+        let b = read_byte(input)?;
         if b == NEWLINE {
-            return number;
+            return Ok(number);
         }
         if b < ZERO {
-            return 0;
+            return Ok(0);
         }
         if b > NINE {
-            return 0;
+            return Ok(0);
         }
         number = number * 10 + (b - ZERO) as u32;
         if number > SentenceNumber::HIGHEST {
-            return 0;
+            return Ok(0);
         }
-        k += 1;
     }
-    0
+    Ok(0)
 }

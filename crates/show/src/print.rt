@@ -6,75 +6,93 @@ use sentence_sheet::{
     COMMENT, DATE, EDGE, EDGE_LIMIT, EDGE_LIST_SIZE, EDGE_WIDTH, EDITOR, MORPHOLOGY, NODE_ROOM,
     NUMBER, ORIGIN, PARENT, REMARK, REMARK_LEN, SIZE, TAG, WORD,
 };
+use std::io;
+use std::io::Write;
 
-fn number(before: &[u8], n: u32) {
-    io::write_all(1, before);
-    io::print_decimal(1, n as u64);
+fn number<W: Write>(out: &mut W, before: &str, n: u32) -> io::Result<()> {
+    write!(out, "{before}{n}")
 }
 
 // Every text of an opened sentence lies within the file.
-fn text(before: &[u8], file: &[u8], start: u32, length: u32) {
+fn text<W: Write>(
+    out: &mut W,
+    before: &str,
+    file: &[u8],
+    start: u32,
+    length: u32,
+) -> io::Result<()> {
     let from = start as usize;
     let to = from + length as usize;
     if to > file.len() {
-        return;
+        return Ok(());
     }
-    io::write_all(1, before);
-    io::write_all(1, &file[from..to]);
+    write!(out, "{before}")?;
+    out.write_all(&file[from..to])
 }
 
-fn comment(file: &[u8], start: u32, length: u32) {
+fn comment<W: Write>(out: &mut W, file: &[u8], start: u32, length: u32) -> io::Result<()> {
     if length > 0 {
-        text(b"\t%%\t", file, start, length);
+        text(out, "\t%%\t", file, start, length)?;
     }
+    Ok(())
 }
 
-fn editor(editor1: u32) {
+fn editor<W: Write>(out: &mut W, editor1: u32) -> io::Result<()> {
     if editor1 == 0 {
-        io::write_all(1, b"\teditor -1");
+        write!(out, "\teditor -1")
     } else {
-        number(b"\teditor ", editor1 - 1);
+        number(out, "\teditor ", editor1 - 1)
     }
 }
 
-fn heading(file: &[u8], sheet: &[u32; SIZE]) {
-    number(b"sentence ", sheet[NUMBER]);
-    editor(sheet[EDITOR]);
-    number(b"\tdate ", sheet[DATE]);
-    number(b"\torigin ", sheet[ORIGIN]);
-    comment(file, sheet[REMARK], sheet[REMARK_LEN]);
-    io::write_all(1, b"\n");
+fn heading<W: Write>(out: &mut W, file: &[u8], sheet: &[u32; SIZE]) -> io::Result<()> {
+    number(out, "sentence ", sheet[NUMBER])?;
+    editor(out, sheet[EDITOR])?;
+    number(out, "\tdate ", sheet[DATE])?;
+    number(out, "\torigin ", sheet[ORIGIN])?;
+    comment(out, file, sheet[REMARK], sheet[REMARK_LEN])?;
+    out.write_all(b"\n")
 }
 
-fn edge_of(file: &[u8], edges: &[u32; EDGE_LIST_SIZE], k: usize, node: u32)
+fn edge_of<W: Write>(
+    out: &mut W,
+    file: &[u8],
+    edges: &[u32; EDGE_LIST_SIZE],
+    k: usize,
+    node: u32,
+) -> io::Result<()>
     requires { k < 512 }
 {
     let place = EDGE_WIDTH * k;
     if edges[place] != node {
-        return;
+        return Ok(());
     }
     if edges[place + 2] == 0 {
-        return;
+        return Ok(());
     }
-    text(b"\t", file, edges[place + 1], edges[place + 2]);
-    number(b"\t", edges[place + 3]);
+    text(out, "\t", file, edges[place + 1], edges[place + 2])?;
+    number(out, "\t", edges[place + 3])
 }
 
-fn edges_of(file: &[u8], edges: &[u32; EDGE_LIST_SIZE], node: u32) {
-    let mut k = 0;
-    while k < EDGE_LIMIT {
-        edge_of(file, edges, k, node);
-        k += 1;
+fn edges_of<W: Write>(
+    out: &mut W,
+    file: &[u8],
+    edges: &[u32; EDGE_LIST_SIZE],
+    node: u32,
+) -> io::Result<()> {
+    for k in 0..EDGE_LIMIT {
+        edge_of(out, file, edges, k, node)?;
     }
+    Ok(())
 }
 
 // A phrase has no word.
-fn name(file: &[u8], node: u32, start: u32, length: u32) {
-    number(b"", node);
+fn name<W: Write>(out: &mut W, file: &[u8], node: u32, start: u32, length: u32) -> io::Result<()> {
+    number(out, "", node)?;
     if length == 0 {
-        number(b"\t#", node);
+        number(out, "\t#", node)
     } else {
-        text(b"\t", file, start, length);
+        text(out, "\t", file, start, length)
     }
 }
 
@@ -86,28 +104,52 @@ fn field(sheet: &[u32; SIZE], its: usize, n: usize) -> u32
 }
 
 // A text of a node behind a tab, by the field of its start.
-fn column(file: &[u8], sheet: &[u32; SIZE], its: usize, n: usize)
+fn column<W: Write>(
+    out: &mut W,
+    file: &[u8],
+    sheet: &[u32; SIZE],
+    its: usize,
+    n: usize,
+) -> io::Result<()>
     requires { (its + 1 < node_width) × (n < node_room) }
 {
-    text(b"\t", file, field(sheet, its, n), field(sheet, its + 1, n));
+    text(
+        out,
+        "\t",
+        file,
+        field(sheet, its, n),
+        field(sheet, its + 1, n),
+    )
 }
 
-fn node(file: &[u8], sheet: &[u32; SIZE], edges: &[u32; EDGE_LIST_SIZE], n: usize)
+fn node<W: Write>(
+    out: &mut W,
+    file: &[u8],
+    sheet: &[u32; SIZE],
+    edges: &[u32; EDGE_LIST_SIZE],
+    n: usize,
+) -> io::Result<()>
     requires { n < node_room }
 {
     name(
+        out,
         file,
         n as u32,
         field(sheet, WORD, n),
         field(sheet, WORD + 1, n),
-    );
-    column(file, sheet, TAG, n);
-    column(file, sheet, MORPHOLOGY, n);
-    column(file, sheet, EDGE, n);
-    number(b"\t", field(sheet, PARENT, n));
-    edges_of(file, edges, n as u32);
-    comment(file, field(sheet, COMMENT, n), field(sheet, COMMENT + 1, n));
-    io::write_all(1, b"\n");
+    )?;
+    column(out, file, sheet, TAG, n)?;
+    column(out, file, sheet, MORPHOLOGY, n)?;
+    column(out, file, sheet, EDGE, n)?;
+    number(out, "\t", field(sheet, PARENT, n))?;
+    edges_of(out, file, edges, n as u32)?;
+    comment(
+        out,
+        file,
+        field(sheet, COMMENT, n),
+        field(sheet, COMMENT + 1, n),
+    )?;
+    out.write_all(b"\n")
 }
 
 // Every node has a tag.
@@ -117,18 +159,21 @@ fn is_there(sheet: &[u32; SIZE], n: usize) -> bool
     field(sheet, TAG + 1, n) != 0
 }
 
-pub fn sentence(file: &[u8], sheet: &[u32; SIZE], edges: &[u32; EDGE_LIST_SIZE]) {
-    heading(file, sheet);
-    let mut n = 0;
-    while n < NODE_ROOM {
+pub fn sentence<W: Write>(
+    out: &mut W,
+    file: &[u8],
+    sheet: &[u32; SIZE],
+    edges: &[u32; EDGE_LIST_SIZE],
+) -> io::Result<()> {
+    heading(out, file, sheet)?;
+    for n in 0..NODE_ROOM {
         if is_there(sheet, n) {
-            node(file, sheet, edges, n);
+            node(out, file, sheet, edges, n)?;
         }
-        n += 1;
     }
+    Ok(())
 }
 
-pub fn refusal(answer: u32) {
-    number(b"refusal ", answer);
-    io::write_all(1, b": no such sentence is handed out\n");
+pub fn refusal<W: Write>(out: &mut W, answer: u32) -> io::Result<()> {
+    writeln!(out, "refusal {answer}: no such sentence is handed out")
 }

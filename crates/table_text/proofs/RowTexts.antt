@@ -3,7 +3,7 @@ use Prim.Native.Nat.{ℕ, ◌+◌, ◌≤◌, ◌<◌}
 use native.Mathlib.Omega.{arith}
 use mathlib.Core.Path.{◌≡◌, sym, ap, ◌∙◌}
 use mathlib.Core.List.{List, [], ◌∷◌, ◌++◌, map, append_assoc, append-nil}
-use lib.ListN.{length, get_or, take, drop}
+use lib.ListN.{length, get_or, take}
 use lib.Seq.{take-suc, get_or-take, length-take-le}
 use native.Mathlib.Numerals.{add-one}
 use borrow.Author.Tests.{eq-eqb, ne_eqb}
@@ -11,7 +11,6 @@ use Rattle.rules.specs.Lists.{bytes, joined, Each}
 use Rattle.rules.specs.Bytes.{newline}
 use Rattle.rules.specs.Tables.{Row, origins, word_tags}
 use Rattle.rules.specs.Sheets.{row_width}
-use Rattle.table_sheet.specs.SheetRows.{row_at}
 use Rattle.table_sheet.specs.Standing.{RowInside}
 use Rattle.rules.specs.Tidy.{tab, id_digits, commented, flagged, second_text, row_line}
 use Rattle.rules.proofs.Rooms.{each_at}

@@ -1,24 +1,28 @@
 // Surveys standard input, its first 65,536 bytes, and prints refusal, place, sentences and sound end.
 #![tactic(auto)]
 
+use std::io;
+use std::io::Read;
 use survey::Surveyed;
 
-fn print_number(number: u32, behind: &[u8]) {
-    io::print_decimal(1, number as u64);
-    io::write_all(1, behind);
+// How many bytes are read.
+const MOST: u64 = 65_536;
+
+fn print_number(rt: &impl Print, number: u32, behind: &str) -> io::Result<()> {
+    print!(rt; "{number}{behind}")
 }
 
-fn print(told: Surveyed) {
-    print_number(told.refusal, b" ");
-    print_number(told.place, b" ");
-    print_number(told.sentences, b" ");
-    print_number(told.sound_end, b"\n");
+fn print(rt: &impl Print, told: Surveyed) -> io::Result<()> {
+    print_number(rt, told.refusal, " ")?;
+    print_number(rt, told.place, " ")?;
+    print_number(rt, told.sentences, " ")?;
+    print_number(rt, told.sound_end, "\n")
 }
 
-fn main() {
-    let mut input = io::large_buffer();
-    let length = io::read_full(0, &mut input);
+fn main(rt: HostRuntime) -> io::Result<()> {
+    let mut file = Vec::new(rt.alloc());
+    rt.reader().take(MOST).read_to_end(&mut file)?;
     let mut tables = [0u32; 10759];
     let mut seen = [0u8; 8192];
-    print(survey::survey(&input[..length], &mut tables, &mut seen));
+    print(&rt, survey::survey(&file, &mut tables, &mut seen))
 }

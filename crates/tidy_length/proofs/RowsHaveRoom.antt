@@ -7,7 +7,6 @@ use mathlib.Core.Logic.{inl, inr}
 use mathlib.Core.List.{List, [], ◌∷◌, ◌++◌}
 use lib.ListN.{length, length-append}
 use borrow.Author.Tests.{ne_eqb}
-use Rattle.rules.specs.Lists.{bytes}
 use Rattle.rules.specs.Bytes.{percents}
 use Rattle.rules.specs.Tables.{Row, word_tags}
 use Rattle.rules.specs.Tidy.{flagged}

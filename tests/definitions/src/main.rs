@@ -103,8 +103,8 @@ fn main() {
     let files = (0..).map(|seed| (seed, generated(seed))).filter(|(_, file)| file.len() <= longest);
     for (seed, file) in files.take(count) {
         let numbers: Vec<String> = expected(&file).iter().map(u32::to_string).collect();
-        println!("file-{seed} : T (agrees (bytes \"{}\") ({} ∷ []))", quoted(&file), numbers.join(" ∷ "));
+        println!("file_{seed} : T (agrees (bytes \"{}\") ({} ∷ []))", quoted(&file), numbers.join(" ∷ "));
         println!("UNFOLDING");
-        println!("file-{seed} = tt\n");
+        println!("file_{seed} = tt\n");
     }
 }

@@ -5,7 +5,6 @@ use Rattle.table_sheet.specs.SheetRows.{rows_from}
 use Rattle.table_sheet.specs.LookUps.{is_found}
 use Rattle.table_sheet.proofs.LookUps.{id_found_lem}
 use Rattle.citations.proofs.TablesThere.{table_absent, table_there, rows_in_sheet}
-use borrow.Author.Rules.{rules}
 use native.Mathlib.Omega.{arith}
 use Prim.Native.Nat.{ℕ, ◌+◌, ◌-◌, ◌*◌, ◌≤◌}
 use mathlib.Core.Path.{◌≡◌, sym, ap, ◌∙◌}

@@ -1,5 +1,4 @@
 -- `citations::is_dashes` meets its contract: a yes is that of `is_twice`.
-use borrow.Author.Rules.{rules}
 use native.Mathlib.Nat.{add-sub_cancel_left}
 use Prim.Native.Nat.{ℕ}
 use mathlib.Core.Path.{sym, ap, ◌∙◌}

@@ -1,12 +1,9 @@
 -- `citations::is_known` meets its contract: -- and UNKNOWN are known, and any tag of an absent table; else a row has the tag.
-use borrow.Author.Rules.{rules}
 use native.Mathlib.Omega.{arith}
 use Prim.Native.Nat.{ℕ, ◌-◌}
 use mathlib.Core.Path.{sym, ap, subst, ◌∙◌}
-use mathlib.Core.List.{List}
 use lib.ListN.{get_or}
 use Rattle.rules.specs.Texts.{Text}
-use Rattle.rules.specs.Tables.{Tables}
 use Rattle.rules.specs.Sheets.{row_place}
 use Rattle.table_sheet.specs.SheetRows.{rows_from, tables_in}
 use Rattle.table_sheet.specs.LookUps.{tag_among}

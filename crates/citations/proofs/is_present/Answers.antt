@@ -1,5 +1,4 @@
 -- `citations::is_present` meets its contract: by the table's count.
-use borrow.Author.Rules.{rules}
 use mathlib.Core.Path.{sym}
 use Rattle.citations.proofs.TablesThere.{present_in}
 use Rattle.citations.proofs.is_present.Goals as goal

@@ -1,14 +1,11 @@
 -- `citations::is_surely_known` meets its contract: -- is known, and any tag of an absent table; else the row that the hint
 -- names has the tag.
-use borrow.Author.Rules.{rules}
 use native.Mathlib.Omega.{arith}
 use Prim.Native.Nat.{ℕ, ◌-◌}
 use mathlib.Core.Path.{sym, ap, subst, ◌∙◌}
 use mathlib.Core.Bool.{false≢true}
-use mathlib.Core.List.{List}
 use lib.ListN.{get_or, take, drop}
 use Rattle.rules.specs.Texts.{Text}
-use Rattle.rules.specs.Tables.{Tables}
 use Rattle.rules.specs.Sheets.{row_place}
 use Rattle.table_sheet.specs.SheetRows.{rows_from, tables_in}
 use Rattle.table_sheet.specs.LookUps.{tag_among}

@@ -1,7 +1,6 @@
 -- `citations::is_unknown` meets its contract: a text of another length is another; else it is compared with the reserved one.
 use Rattle.rules.specs.Tables.{unknown}
 use Rattle.rules.proofs.Same.{same_length_false}
-use borrow.Author.Rules.{rules}
 use mathlib.Core.Path.{sym}
 use Rattle.citations.proofs.is_unknown.Goals as goal
 

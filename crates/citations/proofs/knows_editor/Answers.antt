@@ -1,5 +1,4 @@
 -- `citations::knows_editor` meets its contract: the two ids that need no row, else a row.
-use borrow.Author.Rules.{rules}
 use borrow.Author.Tests.{lt-ltb, le-ltb}
 use Rattle.citations.proofs.knows_editor.Goals as goal
 

@@ -1,5 +1,4 @@
 -- `citations::knows_origin` meets its contract: the sheet holds one more than an origin's id.
-use borrow.Author.Rules.{rules}
 use native.Mathlib.Numerals.{add-one}
 use Rattle.citations.proofs.knows_origin.Goals as goal
 

@@ -1,5 +1,4 @@
 -- `columns::is_twice` meets its contract: by the length, the last byte and the first, one law each.
-use borrow.Author.Rules.{rules}
 use mathlib.Core.Path.{sym}
 use Rattle.columns.proofs.Twice.{twice_length, twice_last, twice_first}
 use Rattle.columns.proofs.is_twice.Goals as goal

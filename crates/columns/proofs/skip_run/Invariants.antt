@@ -1,13 +1,9 @@
 -- `columns::skip_run` meets its contract. The invariant: from the loop's place on, the run goes as far as from `at` on. The
 -- measure is what is left of the head.
-use borrow.Author.Rules.{rules}
-use Prim.Native.Nat.{ℕ, ◌+◌, ◌-◌}
-use mathlib.Core.Path.{◌≡◌, sym, ap, ◌∙◌}
-use mathlib.Core.Bool.{Bool, not}
-use mathlib.Core.List.{List}
-use lib.ListN.{length, drop, get_or}
+use Prim.Native.Nat.{◌+◌, ◌-◌}
+use mathlib.Core.Path.{◌≡◌}
+use lib.ListN.{length, drop}
 use Rattle.columns.specs.Leading.{run_length, in_run}
-use Rattle.columns.proofs.Leading.{leading_stop, leading_more, leading_end, in_run_lem}
 use Rattle.columns.proofs.skip_run.Given as goal
 
 abbrev pub invariant-loop-end : goal.invariant-loop-end

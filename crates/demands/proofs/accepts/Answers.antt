@@ -19,9 +19,11 @@ returns c =
     let call : Surveying = let a = c.args in
         surveying a.file.now a.sheet.now a.seen.now c.survey-answer.result c.survey-answer.new.sheet c.survey-answer.new.seen in
     let met : Promised call = c.survey-answer.ensures in
-    let refusal = c.survey-answer.result.refusal in (
-      λ k.
+    let refusal = c.survey-answer.result.refusal in
+    record {
+      exactly = λ k.
           let exactly = accepted_by_survey call met k in
-          (λ t. exactly.0 (eqb-true refusal 0 t), λ f. eq-eqb refusal 0 (exactly.1 f)),
-      (λ t. accepted_as_written call met (eqb-true refusal 0 t), (c.survey-answer.result, refl, met)),
-    )
+          (λ t. exactly.0 (eqb-true refusal 0 t), λ f. eq-eqb refusal 0 (exactly.1 f));
+      written = λ t. accepted_as_written call met (eqb-true refusal 0 t);
+      whole = (c.survey-answer.result, refl, met);
+    }

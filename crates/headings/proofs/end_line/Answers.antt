@@ -1,11 +1,9 @@
 -- `headings::end_line` meets its contract: the rules are tested in their order.
-use borrow.Author.Rules.{rules}
 use native.Mathlib.Omega.{arith}
 use mathlib.Core.Path.{◌≡◌, sym, ◌∙◌}
 use mathlib.Core.Option.{some}
 use lib.ListN.{length}
-use borrow.Author.Tests.{eq-eqb, ne_eqb, not-true, not-false}
-use Rattle.rules.specs.Texts.{Text}
+use borrow.Author.Tests.{eq-eqb, ne_eqb}
 use Rattle.rules.specs.Columns.{columns, written}
 use Rattle.rules.specs.Numbers.{sentence_number, number}
 use Rattle.columns.specs.Listing.{line_of}

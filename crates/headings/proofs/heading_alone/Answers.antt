@@ -1,14 +1,10 @@
 -- `headings::heading_alone` meets its contract: its columns and its numbers.
-use borrow.Author.Rules.{rules}
 use native.Mathlib.Omega.{arith}
-use Prim.Native.Nat.{ℕ, ◌<◌}
+use Prim.Native.Nat.{◌<◌}
 use mathlib.Core.Path.{◌≡◌, sym, ◌∙◌}
 use mathlib.Core.Bool.{true}
-use mathlib.Core.List.{List}
-use borrow.Author.Tests.{not-true, not-false}
-use Rattle.rules.specs.Texts.{Text}
 use Rattle.rules.specs.Columns.{columns}
-use Rattle.columns.specs.Listing.{line_of, Listed}
+use Rattle.columns.specs.Listing.{line_of}
 use Rattle.headings.specs.Headings.{whole, numbers_on}
 use Rattle.headings.specs.declared.bos.FourNumbers.TheVariants.{Good, Bad}
 use Rattle.headings.proofs.BosLines.{whole_long, bad_column}

@@ -1,16 +1,11 @@
 -- `headings::heading_line` meets its contract: the line as it is written, then what it cites.
-use borrow.Author.Rules.{rules}
 use native.Mathlib.Omega.{arith}
 use Prim.Native.Nat.{ℕ}
 use mathlib.Core.Path.{◌≡◌, sym, ◌∙◌}
 use mathlib.Core.Bool.{Bool}
-use mathlib.Core.List.{List}
-use Rattle.rules.specs.Texts.{Text}
-use Rattle.rules.specs.Tables.{Tables}
 use Rattle.columns.specs.Listing.{line_of}
 use Rattle.table_sheet.specs.SheetRows.{tables_in}
 use Rattle.seen.specs.Bits.{bit_at}
-use Rattle.steps.specs.declared.HeadingSaid.{HeadingSaid}
 use Rattle.steps.specs.declared.Step.TheVariants.{SentenceBegins}
 use Rattle.headings.proofs.HeadingSteps.{alone, said_long, said_within, then_cited, not_written}
 use Rattle.headings.proofs.heading_line.Goals as goal

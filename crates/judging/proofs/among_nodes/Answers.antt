@@ -1,10 +1,6 @@
 -- `judging::among_nodes` meets its contract.
-use borrow.Author.Rules.{rules}
 use Prim.Native.Nat.{◌+◌}
 use mathlib.Core.Path.{refl, ◌∙◌}
-use Rattle.rules.specs.Texts.{Text}
-use Rattle.rules.specs.Tables.{Tables}
-use Rattle.rules.specs.Sentences.{SoFar}
 use Rattle.columns.specs.Listing.{line_of}
 use Rattle.table_sheet.specs.SheetRows.{tables_in}
 use Rattle.judging.specs.Judging.{so_far_by}

@@ -1,10 +1,6 @@
 -- `judging::among_rows` meets its contract.
-use borrow.Author.Rules.{rules}
 use mathlib.Core.Path.{◌∙◌}
 use native.Mathlib.Omega.{arith}
-use mathlib.Core.List.{List}
-use Rattle.rules.specs.Texts.{Text}
-use Rattle.rules.specs.Tables.{Row}
 use Rattle.rules.specs.Sheets.{row_place}
 use Rattle.columns.specs.Listing.{line_of}
 use Rattle.table_sheet.specs.SheetRows.{rows_from}

@@ -1,5 +1,4 @@
 -- `judging::at_start` meets its contract.
-use borrow.Author.Rules.{rules}
 use mathlib.Core.Path.{◌∙◌}
 use Rattle.columns.specs.Listing.{line_of}
 use Rattle.judging.proofs.FirstColumns.{start_format, start_none}

@@ -1,5 +1,4 @@
 -- `judging::behind_one` meets its contract.
-use borrow.Author.Rules.{rules}
 use mathlib.Core.Path.{◌∙◌}
 use Rattle.columns.specs.Listing.{line_of}
 use Rattle.seen.specs.Bits.{bit_at}

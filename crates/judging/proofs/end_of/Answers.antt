@@ -1,5 +1,4 @@
 -- `judging::end_of` meets its contract.
-use borrow.Author.Rules.{rules}
 use mathlib.Core.Path.{refl}
 use Rattle.judging.specs.Judging.{so_far_by}
 use Rattle.judging.proofs.end_of.Goals as goal

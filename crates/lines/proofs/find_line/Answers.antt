@@ -1,5 +1,4 @@
 -- `lines::find_line` meets its contract: a line that one pass took, or one that was read twice.
-use borrow.Author.Rules.{rules}
 use Rattle.lines.proofs.FoundLines.{found_at_once}
 use Rattle.lines.proofs.find_line.Goals as goal
 

@@ -1,13 +1,8 @@
 -- `lines::line_end` meets its contract. The loop's invariant: what is still to be found from here on, `scan`, is what the
 -- line's start asks for. The measure is what is left of the file.
-use borrow.Author.Rules.{rules}
 use native.Mathlib.Omega.{arith}
-use Prim.Native.Nat.{ℕ, ◌+◌, ◌-◌, ◌≤◌, ◌<◌}
+use Prim.Native.Nat.{◌+◌, ◌≤◌, ◌<◌}
 use mathlib.Core.Path.{◌≡◌, sym, ap, ◌∙◌}
-use mathlib.Core.Bool.{Bool}
-use mathlib.Core.List.{List}
-use mathlib.Core.Logic.{⊎_elim}
-use borrow.Author.Tests.{not-true, not-false}
 use lib.ListN.{length, get_or}
 use Rattle.lines.specs.LineEnds.{line_end}
 use Rattle.lines.proofs.Scan.{scan, scan_start, scan_illegal, scan_at, scan_long, scan_legal, scan_marred, scan_unended}
@@ -48,8 +43,8 @@ loop-at-preserved c =
     let after = scan c.args.file.now c.args.from (c.loop-at.at + 1) in (
       omega arith,
       elim c.if-class_of-eq0.branch [
-        then-class_of-eq0+else-b-eq10 w ↦ ap after w.sound-is ∙ scan_marred c.args.file.now c.args.from c.loop-at.at c.loop-at.sound below passed is_byte (sym k ∙ w.if-class_of-eq0.true) w.if-b-eq10.false
-      | else-class_of-eq0 w ↦ ap after w.sound-is ∙ scan_legal c.args.file.now c.args.from c.loop-at.at c.loop-at.sound below passed is_byte (λ z. w.if-class_of-eq0.false (k ∙ z))
+        | then-class_of-eq0+else-b-eq10 w ↦ ap after w.sound-is ∙ scan_marred c.args.file.now c.args.from c.loop-at.at c.loop-at.sound below passed is_byte (sym k ∙ w.if-class_of-eq0.true) w.if-b-eq10.false
+        | else-class_of-eq0 w ↦ ap after w.sound-is ∙ scan_legal c.args.file.now c.args.from c.loop-at.at c.loop-at.sound below passed is_byte (λ z. w.if-class_of-eq0.false (k ∙ z))
       ]
           ∙ found,
     )

@@ -1,16 +1,10 @@
 -- `lines::line_end` meets its contract. The loop's invariant: what is still to be found from here on, `scan`, is what the
 -- line's start asks for. The measure is what is left of the file.
-use borrow.Author.Rules.{rules}
-use native.Mathlib.Omega.{arith}
-use Prim.Native.Nat.{ℕ, ◌+◌, ◌-◌, ◌≤◌, ◌<◌}
-use mathlib.Core.Path.{◌≡◌, sym, ap, ◌∙◌}
-use mathlib.Core.Bool.{Bool}
-use mathlib.Core.List.{List}
-use mathlib.Core.Logic.{⊎_elim}
-use borrow.Author.Tests.{not-true, not-false}
-use lib.ListN.{length, get_or}
+use Prim.Native.Nat.{◌-◌, ◌≤◌}
+use mathlib.Core.Path.{◌≡◌}
+use lib.ListN.{length}
 use Rattle.lines.specs.LineEnds.{line_end}
-use Rattle.lines.proofs.Scan.{scan, scan_start, scan_illegal, scan_at, scan_long, scan_legal, scan_marred, scan_unended}
+use Rattle.lines.proofs.Scan.{scan}
 use Rattle.lines.proofs.line_end.Given as goal
 
 abbrev pub invariant-loop-at : goal.invariant-loop-at

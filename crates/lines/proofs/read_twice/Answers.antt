@@ -1,10 +1,6 @@
 -- `lines::read_twice` meets its contract: a line that may be read is listed.
-use borrow.Author.Rules.{rules}
 use native.Mathlib.Omega.{arith}
-use Prim.Native.Nat.{ℕ}
 use mathlib.Core.Path.{◌≡◌, sym, ◌∙◌}
-use mathlib.Core.List.{List}
-use lib.ListN.{length}
 use Rattle.lines.specs.LineEnds.{line_end}
 use Rattle.lines.specs.declared.LineEnd.TheVariants.{At}
 use Rattle.lines.proofs.Lines.{at_behind, at_below, at_place, at_short}

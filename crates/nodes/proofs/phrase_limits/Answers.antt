@@ -1,11 +1,9 @@
-
-use borrow.Author.Rules.{rules}
 use mathlib.Core.Path.{◌≡◌, sym, ◌∙◌}
 use Prim.Native.Nat.{◌-◌}
 use mathlib.Core.Bool.{Bool}
 use lib.Dec.{eqb}
 use lib.ListN.{get_or}
-use borrow.Author.Tests.{le-leb, eq-eqb, ne_eqb, not-true, not-false}
+use borrow.Author.Tests.{le-leb, eq-eqb, ne_eqb}
 use Rattle.nodes.specs.NodeLines.{marked}
 use Rattle.nodes.proofs.phrase_limits.Goals as goal
 

@@ -1,19 +1,15 @@
-
 use borrow.Author.Rules.{rules}
 use native.Mathlib.Omega.{arith}
 use mathlib.Core.Path.{◌≡◌, refl, sym, ap, ◌∙◌}
 use Prim.Native.Nat.{ℕ, ◌+◌, ◌-◌, ◌/◌}
-use mathlib.Core.List.{List}
-use borrow.Author.Tests.{not-true, not-false}
 use lib.Dec.{leb}
 use lib.ListN.{length}
 use Rattle.rules.specs.Lists.{pick}
 use mathlib.Core.Bool.{true, not}
-use mathlib.Core.Option.{Option}
-use Rattle.rules.specs.Texts.{Text, no_text, behind_hash}
+use Rattle.rules.specs.Texts.{no_text, behind_hash}
 use Rattle.rules.specs.Columns.{text}
 use Rattle.rules.specs.Numbers.{edge_limit, phrase_number, value}
-use Rattle.rules.specs.Tables.{Tables, node_tags}
+use Rattle.rules.specs.Tables.{node_tags}
 use Rattle.rules.specs.Nodes.{its_parent, shaped}
 use Rattle.columns.specs.Listing.{line_of}
 use Rattle.table_sheet.specs.SheetRows.{tables_in}
@@ -67,9 +63,9 @@ returns-in-Faulty c format s e g =
     let read : as_number (phrase_in (behind_hash (text (fields_of c.args.file.now c.args.line) 0))) ≡ c.read-read.result = sym (phrase_read (behind_hash (text (fields_of c.args.file.now c.args.line) 0)) c.behind_hash-digits.ensures c.read-read.ensures) in
     let fault : ℕ → Fault → Fault = λ format limits. first_fault format (fields_of c.args.file.now c.args.line) (tables_in c.args.file.now c.args.sheet.now) node_tags c.in-Good.number limits in
     let limits : Fault = let a = c.args in
-        pick (leb (a.edges + (c.count_fields-count.result - 5) / 2) edge_limit)
-        (pick (not (marked a.marks.now a.stamp c.in-Good.number)) no_fault (record { number = 17; place = a.line.start }))
-        (record { number = 16; place = a.line.start }) in
+    pick (leb (a.edges + (c.count_fields-count.result - 5) / 2) edge_limit)
+    (pick (not (marked a.marks.now a.stamp c.in-Good.number)) no_fault (record { number = 17; place = a.line.start }))
+    (record { number = 16; place = a.line.start }) in
     let parent : ℕ → ℕ = λ format. value (its_parent format (fields_of c.args.file.now c.args.line)) in
     let highest : ℕ → ℕ = λ format. highest_in format (fields_of c.args.file.now c.args.line) in
     let judged : (format : ℕ) → unless_faulty (fault format limits) (parent format) (highest format) ≡ c.judge-judged.result = λ format. sym (c.judge-judged.ensures format ∙ ap (λ (l : Fault). unless_faulty (fault format l) (parent format) (highest format)) c.phrase_limits-limits.ensures) in
@@ -87,9 +83,9 @@ returns-in-Fine c format s e g =
     let read : as_number (phrase_in (behind_hash (text (fields_of c.args.file.now c.args.line) 0))) ≡ c.read-read.result = sym (phrase_read (behind_hash (text (fields_of c.args.file.now c.args.line) 0)) c.behind_hash-digits.ensures c.read-read.ensures) in
     let fault : ℕ → Fault → Fault = λ format limits. first_fault format (fields_of c.args.file.now c.args.line) (tables_in c.args.file.now c.args.sheet.now) node_tags c.in-Good.number limits in
     let limits : Fault = let a = c.args in
-        pick (leb (a.edges + (c.count_fields-count.result - 5) / 2) edge_limit)
-        (pick (not (marked a.marks.now a.stamp c.in-Good.number)) no_fault (record { number = 17; place = a.line.start }))
-        (record { number = 16; place = a.line.start }) in
+    pick (leb (a.edges + (c.count_fields-count.result - 5) / 2) edge_limit)
+    (pick (not (marked a.marks.now a.stamp c.in-Good.number)) no_fault (record { number = 17; place = a.line.start }))
+    (record { number = 16; place = a.line.start }) in
     let parent : ℕ → ℕ = λ format. value (its_parent format (fields_of c.args.file.now c.args.line)) in
     let highest : ℕ → ℕ = λ format. highest_in format (fields_of c.args.file.now c.args.line) in
     let judged : (format : ℕ) → unless_faulty (fault format limits) (parent format) (highest format) ≡ c.judge-judged.result = λ format. sym (c.judge-judged.ensures format ∙ ap (λ (l : Fault). unless_faulty (fault format l) (parent format) (highest format)) c.phrase_limits-limits.ensures) in

@@ -1,18 +1,14 @@
-
 use borrow.Author.Rules.{rules}
 use native.Mathlib.Omega.{arith}
 use mathlib.Core.Path.{◌≡◌, refl, sym, ap, ◌∙◌}
 use Prim.Native.Nat.{ℕ, ◌+◌, ◌-◌, ◌/◌}
-use mathlib.Core.List.{List}
-use borrow.Author.Tests.{not-true, not-false}
 use lib.Dec.{leb, ltb}
 use lib.ListN.{length}
 use Rattle.rules.specs.Lists.{pick}
 use mathlib.Core.Bool.{true, ◌&&◌}
-use Rattle.rules.specs.Texts.{Text}
 use Rattle.rules.specs.Columns.{text}
 use Rattle.rules.specs.Numbers.{word_limit, edge_limit, value}
-use Rattle.rules.specs.Tables.{Tables, word_tags}
+use Rattle.rules.specs.Tables.{word_tags}
 use Rattle.rules.specs.Nodes.{its_parent, shaped}
 use Rattle.columns.specs.Listing.{line_of, span_of}
 use Rattle.table_sheet.specs.SheetRows.{tables_in}
@@ -50,8 +46,8 @@ returns-in-Faulty c format s w p e =
     let first : c.args.no_phrase ≡ true = c.if-not-no_phrase.false in
     let fault : ℕ → Fault → Fault = λ format limits. first_fault format (fields_of c.args.file.now c.args.line) (tables_in c.args.file.now c.args.sheet.now) word_tags c.args.words limits in
     let limits : Fault = let a = c.args in
-        pick (ltb a.words word_limit && leb (a.edges + (c.count_fields-count.result - 5) / 2) edge_limit) no_fault
-        (record { number = 16; place = a.line.start }) in
+    pick (ltb a.words word_limit && leb (a.edges + (c.count_fields-count.result - 5) / 2) edge_limit) no_fault
+    (record { number = 16; place = a.line.start }) in
     let parent : ℕ → ℕ = λ format. value (its_parent format (fields_of c.args.file.now c.args.line)) in
     let highest : ℕ → ℕ = λ format. highest_in format (fields_of c.args.file.now c.args.line) in
     let judged : (format : ℕ) → unless_faulty (fault format limits) (parent format) (highest format) ≡ c.judge-judged.result = λ format. sym (c.judge-judged.ensures format ∙ ap (λ (l : Fault). unless_faulty (fault format l) (parent format) (highest format)) c.word_limits-limits.ensures) in
@@ -66,8 +62,8 @@ returns-in-Fine c format s w p e =
     let first : c.args.no_phrase ≡ true = c.if-not-no_phrase.false in
     let fault : ℕ → Fault → Fault = λ format limits. first_fault format (fields_of c.args.file.now c.args.line) (tables_in c.args.file.now c.args.sheet.now) word_tags c.args.words limits in
     let limits : Fault = let a = c.args in
-        pick (ltb a.words word_limit && leb (a.edges + (c.count_fields-count.result - 5) / 2) edge_limit) no_fault
-        (record { number = 16; place = a.line.start }) in
+    pick (ltb a.words word_limit && leb (a.edges + (c.count_fields-count.result - 5) / 2) edge_limit) no_fault
+    (record { number = 16; place = a.line.start }) in
     let parent : ℕ → ℕ = λ format. value (its_parent format (fields_of c.args.file.now c.args.line)) in
     let highest : ℕ → ℕ = λ format. highest_in format (fields_of c.args.file.now c.args.line) in
     let judged : (format : ℕ) → unless_faulty (fault format limits) (parent format) (highest format) ≡ c.judge-judged.result = λ format. sym (c.judge-judged.ensures format ∙ ap (λ (l : Fault). unless_faulty (fault format l) (parent format) (highest format)) c.word_limits-limits.ensures) in

@@ -1,14 +1,9 @@
 -- `numbers::all_digits` meets its contract. The loop's invariant: every byte from `i` on is a digit if and only if the
 -- column is digits alone. The measure is what is left of the column.
-use borrow.Author.Rules.{rules}
 use native.Mathlib.Omega.{arith}
-use Prim.Native.Nat.{ℕ, ◌-◌, ◌≤◌, ◌<◌}
-use mathlib.Core.Path.{◌≡◌, sym, ◌∙◌}
-use mathlib.Core.List.{List}
-use lib.ListN.{length, get_or, drop}
-use Rattle.rules.specs.Lists.{every}
-use Rattle.rules.specs.Bytes.{digit}
-use Rattle.rules.specs.Keywords.{digits}
+use Prim.Native.Nat.{◌<◌}
+use mathlib.Core.Path.{sym, ◌∙◌}
+use lib.ListN.{get_or}
 use Rattle.numbers.proofs.Digits.{is_digit, no_digit, every_stops, every_goes_on, every_ends, digits_none, digits_some}
 use Rattle.numbers.proofs.all_digits.Goals as goal
 

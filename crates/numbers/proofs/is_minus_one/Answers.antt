@@ -1,5 +1,4 @@
 -- `numbers::is_minus_one` meets its contract: by the length, the sign and the digit, one law each.
-use borrow.Author.Rules.{rules}
 use mathlib.Core.Path.{sym}
 use Rattle.numbers.proofs.Plain.{minus_length, minus_sign, minus_digit}
 use Rattle.numbers.proofs.is_minus_one.Goals as goal

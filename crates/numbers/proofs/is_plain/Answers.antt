@@ -1,5 +1,4 @@
 -- `numbers::is_plain` meets its contract: no byte, one byte, or the first of several, by the laws of each length.
-use borrow.Author.Rules.{rules}
 use mathlib.Core.Path.{sym}
 use Rattle.numbers.proofs.Plain.{plain_none, plain_one, plain_more}
 use Rattle.numbers.proofs.is_plain.Goals as goal

@@ -1,10 +1,8 @@
 -- `numbers::read_node` meets its contract: what was read is answered by its range, and what is no number is bad.
-use borrow.Author.Rules.{rules}
 use native.Mathlib.Omega.{arith}
 use Prim.Native.Nat.{ℕ, ◌≤◌}
 use mathlib.Core.Path.{◌≡◌, sym, ap, ◌∙◌}
 use mathlib.Core.Bool.{Bool}
-use mathlib.Core.List.{List}
 use Rattle.rules.specs.Lists.{pick}
 use Rattle.rules.specs.Numbers.{phrase_number}
 use Rattle.numbers.specs.Answers.{as_number}

@@ -1,15 +1,12 @@
 -- `numbers::read_within` meets its contract. The loop's invariant: the value so far, which is not past the highest, and
 -- the bytes from `i` on make the answer of the whole column. The measure is what is left of it.
-use borrow.Author.Rules.{rules}
-use borrow.Author.Tests.{not-true, not-false}
 use native.Mathlib.Omega.{arith}
-use Prim.Native.Nat.{ℕ, ◌+◌, ◌-◌, ◌*◌, ◌≤◌, ◌<◌}
+use Prim.Native.Nat.{◌+◌, ◌-◌, ◌*◌, ◌≤◌, ◌<◌}
 use mathlib.Core.Path.{◌≡◌, sym, ◌∙◌}
 use mathlib.Core.Bool.{true}
-use mathlib.Core.List.{List}
-use lib.ListN.{length, get_or, drop}
+use lib.ListN.{get_or, drop}
 use Rattle.rules.specs.Bytes.{digit}
-use Rattle.rules.specs.Numbers.{Kind, number}
+use Rattle.rules.specs.Numbers.{number}
 use Rattle.rules.proofs.Decimal.{digit_range}
 use Rattle.numbers.specs.Answers.{as_number, kind}
 use Rattle.numbers.proofs.Digits.{is_digit, no_digit}

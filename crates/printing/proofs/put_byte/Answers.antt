@@ -1,6 +1,5 @@
 -- `printing::put_byte` meets its contract: a byte behind the output's end changes nothing.
 -- No loop.
-use borrow.Author.Rules.{rules}
 use native.Mathlib.Omega.{arith}
 use mathlib.Core.Path.{sym}
 use mathlib.Core.List.{[], ◌∷◌}

@@ -1,6 +1,5 @@
 -- `printing::put_column` meets its contract: one text behind the other.
 -- No loop.
-use borrow.Author.Rules.{rules}
 use Rattle.printing.proofs.PutLaws.{put_then}
 use Rattle.printing.proofs.put_column.Goals as goal
 

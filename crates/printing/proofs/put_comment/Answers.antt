@@ -1,6 +1,5 @@
 -- `printing::put_comment` meets its contract: two columns more, or none.
 -- No loop.
-use borrow.Author.Rules.{rules}
 use native.Mathlib.Omega.{arith}
 use Rattle.printing.proofs.PutLaws.{put_then, put_as, put_wider, put_none}
 use Rattle.printing.proofs.LineLaws.{no_comment, some_comment}

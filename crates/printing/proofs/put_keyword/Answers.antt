@@ -1,6 +1,5 @@
 -- `printing::put_keyword` meets its contract: column behind column.
 -- No loop.
-use borrow.Author.Rules.{rules}
 use Rattle.printing.proofs.PutLaws.{put_then, put_as}
 use Rattle.printing.proofs.LineLaws.{keyword_line_lem}
 use Rattle.printing.proofs.put_keyword.Goals as goal

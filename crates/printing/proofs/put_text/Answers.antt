@@ -1,6 +1,5 @@
 -- `printing::put_text` meets its contract: what the output has no room for changes nothing.
 -- No loop.
-use borrow.Author.Rules.{rules}
 use native.Mathlib.Omega.{arith}
 use Prim.Native.Nat.{ℕ, ◌-◌}
 use mathlib.Core.Path.{sym, ap, ◌∙◌}

@@ -1,6 +1,5 @@
 -- `seen::add` meets its contract: a byte whose bit is clear has room for the bit's weight.
 -- No loop.
-use borrow.Author.Rules.{rules}
 use native.Mathlib.Omega.{arith}
 use Prim.Native.Nat.{ℕ, ◌/◌, ◌%◌, ◌<◌}
 use mathlib.Core.Path.{◌≡◌}

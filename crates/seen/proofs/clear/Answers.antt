@@ -1,12 +1,11 @@
 -- `seen::clear` meets its contract: the bytes passed are zeros, and the others are still what they were.
 -- The measure is what is left of the length.
-use borrow.Author.Rules.{rules}
 use borrow.Author.Fill.{fill_more}
 use native.Mathlib.Omega.{arith}
-use Prim.Native.Nat.{ℕ, ◌-◌, ◌≤◌}
+use Prim.Native.Nat.{ℕ}
 use mathlib.Core.Path.{◌≡◌, refl, ap, ◌∙◌}
-use mathlib.Core.List.{List, ◌++◌, append-nil}
-use lib.ListN.{length, drop, set, replicate, length-set}
+use mathlib.Core.List.{List, append-nil}
+use lib.ListN.{length, set, length-set}
 use lib.Seq.{drop-length}
 use Rattle.seen.proofs.clear.Goals as goal
 

@@ -1,6 +1,5 @@
 -- `seen::has` meets its contract: the weight that the table holds at a bit is the power that the definition divides by.
 -- No loop.
-use borrow.Author.Rules.{rules}
 use native.Mathlib.Omega.{arith}
 use Prim.Native.Nat.{◌%◌}
 use lib.Pow.{pow_pos}

@@ -1,6 +1,5 @@
 -- `sentence_text::print_sentence` meets its contract: heading, words, phrases and end, one behind the other; the places of
 -- first edges are noted before and forgotten behind. No loop.
-use borrow.Author.Rules.{rules}
 use native.Mathlib.Omega.{arith}
 use Rattle.printing.proofs.PutLaws.{put_then, put_as, put_wider}
 use Rattle.sentence_text.proofs.LineTexts.{sentence_text_lem}

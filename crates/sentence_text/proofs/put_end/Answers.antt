@@ -1,6 +1,5 @@
 -- `sentence_text::put_end` meets its contract: column behind column.
 -- No loop.
-use borrow.Author.Rules.{rules}
 use Rattle.printing.proofs.PutLaws.{put_then, put_as}
 use Rattle.rules.specs.Lists.{bytes}
 use Rattle.rules.specs.Tidy.{digits_of}

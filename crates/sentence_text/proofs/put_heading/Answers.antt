@@ -1,6 +1,5 @@
 -- `sentence_text::put_heading` meets its contract: numbers, comment and newline are the line.
 -- No loop.
-use borrow.Author.Rules.{rules}
 use Rattle.printing.proofs.PutLaws.{put_then, put_as}
 use Rattle.sentence_text.proofs.LineTexts.{heading_text}
 use Rattle.sentence_text.proofs.put_heading.Goals as goal

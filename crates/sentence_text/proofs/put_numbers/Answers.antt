@@ -1,6 +1,5 @@
 -- `sentence_text::put_numbers` meets its contract: column behind column.
 -- No loop.
-use borrow.Author.Rules.{rules}
 use Rattle.printing.proofs.PutLaws.{put_then, put_as}
 use Rattle.sentence_text.proofs.LineTexts.{numbers_text_lem}
 use Rattle.sentence_text.proofs.put_numbers.Goals as goal

@@ -1,5 +1,4 @@
 -- `steps::refused_at` meets its contract: a column's place is its span's.
-use borrow.Author.Rules.{rules}
 use mathlib.Core.Path.{ap, ◌∙◌}
 use Rattle.columns.specs.declared.listing.Span.{Span}
 use Rattle.steps.specs.Faults.{refusal}

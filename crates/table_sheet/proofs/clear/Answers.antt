@@ -1,6 +1,5 @@
 -- `table_sheet::clear` meets its contract: as many zeros as the sheet is long take the place of all of it.
 -- No loop.
-use borrow.Author.Rules.{rules}
 use Prim.Native.Nat.{ℕ}
 use mathlib.Core.Path.{sym, ◌∙◌}
 use lib.ListN.{length, replicate, length-replicate}

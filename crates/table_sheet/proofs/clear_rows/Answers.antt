@@ -1,12 +1,10 @@
 -- `table_sheet::clear_rows` meets its contract: the sheet is the one lent with as many zeros from the place on as were stored.
 -- The measure is the count of zeros left.
-use borrow.Author.Rules.{rules}
 use native.Mathlib.Omega.{arith}
-use Prim.Native.Nat.{ℕ, ◌+◌, ◌-◌, ◌≤◌}
+use Prim.Native.Nat.{ℕ, ◌+◌}
 use mathlib.Core.Path.{◌≡◌, refl, sym, ap, ◌∙◌}
 use mathlib.Core.List.{List}
-use lib.ListN.{length, set, replicate, length-set}
-use Rattle.columns.specs.Splices.{splice}
+use lib.ListN.{set, length-set}
 use Rattle.columns.proofs.Splices.{splice_none, splice_zero}
 use Rattle.table_sheet.proofs.clear_rows.Goals as goal
 

@@ -1,13 +1,9 @@
 -- `table_sheet::clear_rows` meets its contract: the sheet is the one lent with as many zeros from the place on as were stored.
 -- The measure is the count of zeros left.
-use borrow.Author.Rules.{rules}
-use native.Mathlib.Omega.{arith}
-use Prim.Native.Nat.{ℕ, ◌+◌, ◌-◌, ◌≤◌}
-use mathlib.Core.Path.{◌≡◌, refl, sym, ap, ◌∙◌}
-use mathlib.Core.List.{List}
-use lib.ListN.{length, set, replicate, length-set}
+use Prim.Native.Nat.{◌-◌, ◌≤◌}
+use mathlib.Core.Path.{◌≡◌}
+use lib.ListN.{length, replicate}
 use Rattle.columns.specs.Splices.{splice}
-use Rattle.columns.proofs.Splices.{splice_none, splice_zero}
 use Rattle.table_sheet.proofs.clear_rows.Given as goal
 
 abbrev pub invariant-loop-i : goal.invariant-loop-i

@@ -1,6 +1,5 @@
 -- `table_sheet::find_by_halves` meets its contract: a row that has the tag will do, wherever it stands; else the rows are
 -- looked through.
-use borrow.Author.Rules.{rules}
 use native.Mathlib.Omega.{arith}
 use mathlib.Core.Path.{sym, ◌∙◌}
 use Rattle.table_sheet.proofs.LookUps.{tag_hit}

@@ -1,13 +1,11 @@
 -- `table_sheet::put` meets its contract: the sheet is the one lent with as many of the numbers from the place on as were
 -- stored. The measure is the count of numbers left.
-use borrow.Author.Rules.{rules}
 use native.Mathlib.Omega.{arith}
-use Prim.Native.Nat.{ℕ, ◌+◌, ◌-◌, ◌≤◌}
+use Prim.Native.Nat.{ℕ, ◌+◌}
 use mathlib.Core.Path.{◌≡◌, refl, sym, ap, ◌∙◌}
 use mathlib.Core.List.{List}
-use lib.ListN.{length, get_or, set, take, length-set}
+use lib.ListN.{length, get_or, set, length-set}
 use lib.Seq.{take-length}
-use Rattle.columns.specs.Splices.{splice}
 use Rattle.columns.proofs.Splices.{splice_none, splice_take}
 use Rattle.table_sheet.proofs.put.Goals as goal
 

@@ -1,14 +1,10 @@
 -- `table_sheet::seek_tag` meets its contract: the rows from here on have the tag exactly if all the rows asked for have it.
 -- The measure is the number of rows left.
-use borrow.Author.Rules.{rules}
 use native.Mathlib.Nat.{sub-zero}
 use native.Mathlib.Omega.{arith}
-use Prim.Native.Nat.{ℕ, ◌+◌, ◌-◌, ◌*◌, ◌≤◌}
+use Prim.Native.Nat.{ℕ}
 use mathlib.Core.Path.{◌≡◌, sym, subst, ap, ◌∙◌}
-use mathlib.Core.List.{List}
-use Rattle.rules.specs.Sheets.{row_width}
-use Rattle.table_sheet.specs.SheetRows.{row_at, rows_from}
-use Rattle.table_sheet.specs.LookUps.{tag_among}
+use Rattle.table_sheet.specs.SheetRows.{row_at}
 use Rattle.table_sheet.specs.Standing.{RowInside}
 use Rattle.table_sheet.proofs.LookUps.{has, tag_hit, tag_miss, tag_end}
 use Rattle.table_sheet.proofs.seek_tag.Goals as goal
@@ -17,12 +13,11 @@ pub loop-k-init : goal.loop-k-init
 loop-k-init c = (omega arith, omega arith, rw sub-zero)
 
 pub tag_at-requires : goal.tag_at-requires
-tag_at-requires c =
-    (
-      omega arith,
-      subst (λ (at : ℕ). RowInside c.args.file.now c.args.sheet.now at) (sym c.loop-k.invariant.1)
-          (c.requires.1 c.loop-k.k c.loop-k-test.true),
-    )
+tag_at-requires c = (
+  omega arith,
+  subst (λ (at : ℕ). RowInside c.args.file.now c.args.sheet.now at) (sym c.loop-k.invariant.1)
+      (c.requires.1 c.loop-k.k c.loop-k-test.true),
+)
 
 pub returns-then-tag_at : goal.returns-then-tag_at
 returns-then-tag_at c =
@@ -33,8 +28,7 @@ returns-then-tag_at c =
 
 pub loop-k-preserved : goal.loop-k-preserved
 loop-k-preserved c =
-    let tested : has c.args.tag.now (row_at c.args.file.now c.args.sheet.now c.loop-k.at) ≡ c.tag_at.result = sym c.tag_at.ensures in
-    (
+    let tested : has c.args.tag.now (row_at c.args.file.now c.args.sheet.now c.loop-k.at) ≡ c.tag_at.result = sym c.tag_at.ensures in (
       omega arith,
       omega arith,
       tag_miss c.args.tag.now c.args.file.now c.args.sheet.now c.loop-k.at c.loop-k.k c.args.rows c.loop-k-test.true

@@ -1,16 +1,10 @@
 -- `table_sheet::seek_tag` meets its contract: the rows from here on have the tag exactly if all the rows asked for have it.
 -- The measure is the number of rows left.
-use borrow.Author.Rules.{rules}
-use native.Mathlib.Nat.{sub-zero}
-use native.Mathlib.Omega.{arith}
-use Prim.Native.Nat.{ℕ, ◌+◌, ◌-◌, ◌*◌, ◌≤◌}
-use mathlib.Core.Path.{◌≡◌, sym, subst, ap, ◌∙◌}
-use mathlib.Core.List.{List}
+use Prim.Native.Nat.{◌+◌, ◌-◌, ◌*◌, ◌≤◌}
+use mathlib.Core.Path.{◌≡◌}
 use Rattle.rules.specs.Sheets.{row_width}
-use Rattle.table_sheet.specs.SheetRows.{row_at, rows_from}
+use Rattle.table_sheet.specs.SheetRows.{rows_from}
 use Rattle.table_sheet.specs.LookUps.{tag_among}
-use Rattle.table_sheet.specs.Standing.{RowInside}
-use Rattle.table_sheet.proofs.LookUps.{has, tag_hit, tag_miss, tag_end}
 use Rattle.table_sheet.proofs.seek_tag.Given as goal
 
 abbrev pub invariant-loop-k : goal.invariant-loop-k

@@ -1,6 +1,5 @@
 -- `table_sheet::tag_at` meets its contract: a text inside the file is as long as the sheet says, so that one of another length
 -- differs. No loop.
-use borrow.Author.Rules.{rules}
 use native.Mathlib.Nat.{add-sub_cancel_left}
 use native.Mathlib.Omega.{arith}
 use Prim.Native.Nat.{◌+◌, ◌-◌}

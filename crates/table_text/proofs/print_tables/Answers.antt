@@ -1,15 +1,9 @@
 -- `table_text::print_tables` meets its contract: as many tables as were passed are put.
 -- The measure is the count of tables left.
-use borrow.Author.Rules.{rules}
 use native.Mathlib.Omega.{arith}
-use Prim.Native.Nat.{◌-◌, ◌*◌, ◌≤◌}
 use mathlib.Core.Path.{◌≡◌}
 use Rattle.printing.proofs.PutLaws.{put_then, put_as, put_wider, put_length, put_none}
-use mathlib.Core.List.{map}
-use Rattle.rules.specs.Lists.{counting, joined}
-use Rattle.printing.specs.Over.{Put}
-use Rattle.table_text.specs.TablesShown.{table_most}
-use Rattle.table_text.proofs.ShownTables.{shown, shown_more, tables_shown}
+use Rattle.table_text.proofs.ShownTables.{shown_more, tables_shown}
 use Rattle.table_text.proofs.print_tables.Goals as goal
 
 pub loop-table-init : goal.loop-table-init

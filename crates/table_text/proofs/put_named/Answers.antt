@@ -1,6 +1,5 @@
 -- `table_text::put_named` meets its contract: the name of each of the seven tables.
 -- No loop.
-use borrow.Author.Rules.{rules}
 use native.Mathlib.Omega.{arith}
 use mathlib.Core.Path.{◌≡◌}
 use Rattle.printing.proofs.PutLaws.{put_wider}

@@ -1,14 +1,13 @@
 -- `tables::format_line` meets its contract: the rules of the line in their order.
-use borrow.Author.Rules.{rules}
 use borrow.Author.Tests.{eq-eqb, ne_eqb}
 use Prim.Native.Nat.{ℕ}
 use mathlib.Core.Path.{◌≡◌, refl, sym, ap, ◌∙◌}
 use mathlib.Core.Bool.{true}
 use mathlib.Core.List.{List}
-use mathlib.Core.Option.{Option, some}
+use mathlib.Core.Option.{some}
 use lib.Dec.{eqb}
 use lib.ListN.{length}
-use Rattle.rules.specs.Columns.{Column, written}
+use Rattle.rules.specs.Columns.{written}
 use Rattle.rules.specs.Numbers.{format_number, number, good}
 use Rattle.rules.specs.Keywords.{format_of}
 use Rattle.rules.specs.Lines.{format_line}

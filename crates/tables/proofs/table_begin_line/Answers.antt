@@ -1,13 +1,11 @@
 -- `tables::table_begin_line` meets its contract: the table that the line names, and whether it is there already.
-use borrow.Author.Rules.{rules}
 use Prim.Native.Nat.{ℕ}
 use mathlib.Core.Path.{◌≡◌, sym, ap, ◌∙◌}
 use mathlib.Core.Bool.{true, not}
 use mathlib.Core.Option.{Option, some}
-use Rattle.rules.specs.Texts.{Text}
 use Rattle.rules.specs.Columns.{written}
 use Rattle.rules.specs.Numbers.{value}
-use Rattle.rules.specs.Tables.{Tables, table_named}
+use Rattle.rules.specs.Tables.{table_named}
 use Rattle.rules.specs.Keywords.{fresh, table_opened}
 use Rattle.rules.specs.Lines.{table_begins}
 use Rattle.columns.specs.Listing.{line_of, columns_of}

@@ -1,11 +1,7 @@
 -- `tables::table_end_line` meets its contract: the table that the line names, and whether it is the one that is open.
-use borrow.Author.Rules.{rules}
 use borrow.Author.Tests.{eq-eqb, ne_eqb}
-use Prim.Native.Nat.{ℕ}
 use mathlib.Core.Path.{◌≡◌, sym, ap, ◌∙◌}
-use mathlib.Core.Option.{Option}
 use lib.Dec.{eqb}
-use Rattle.rules.specs.Texts.{Text}
 use Rattle.rules.specs.Columns.{written}
 use Rattle.rules.specs.Tables.{table_named}
 use Rattle.rules.specs.Keywords.{itself, table_ended}

@@ -1,14 +1,9 @@
 -- `texts::percents_from` meets its contract. The invariant: from the loop's place on, the signs stand where they stand
 -- from `at` on. The measure is what is left of the head.
-use borrow.Author.Rules.{rules}
-use native.Mathlib.Omega.{arith}
-use Prim.Native.Nat.{ℕ, ◌+◌, ◌-◌, ◌≤◌}
-use mathlib.Core.Path.{◌≡◌, sym, ◌∙◌}
-use mathlib.Core.List.{List}
-use mathlib.Core.Logic.{⊎_elim}
+use Prim.Native.Nat.{◌+◌, ◌-◌, ◌≤◌}
+use mathlib.Core.Path.{◌≡◌}
 use lib.ListN.{length, drop}
 use Rattle.rules.specs.Texts.{front_bytes}
-use Rattle.texts.proofs.Percents.{front_stop, front_first, front_second, front_end}
 use Rattle.texts.proofs.percents_from.Given as goal
 
 abbrev pub invariant-loop-i : goal.invariant-loop-i

@@ -1,12 +1,7 @@
 -- `texts::same_bytes` meets its contract. The invariant: the two texts are the same exactly where their rests from the
 -- loop's place on are. The measure is what is left of the first.
-use borrow.Author.Rules.{rules}
 use native.Mathlib.Omega.{arith}
-use Prim.Native.Nat.{ℕ, ◌-◌, ◌≤◌}
-use mathlib.Core.Path.{◌≡◌, sym, ◌∙◌}
-use mathlib.Core.List.{List}
-use lib.ListN.{length, drop}
-use Rattle.rules.specs.Lists.{same}
+use mathlib.Core.Path.{sym, ◌∙◌}
 use Rattle.rules.proofs.Same.{same_here, same_differ, same_end}
 use Rattle.texts.proofs.same_bytes.Goals as goal
 

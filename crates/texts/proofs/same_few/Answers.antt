@@ -1,5 +1,4 @@
 -- `texts::same_few` meets its contract: texts of no bytes are the same, and those whose last bytes differ are not.
-use borrow.Author.Rules.{rules}
 use native.Mathlib.Omega.{arith}
 use Prim.Native.Nat.{ℕ, ◌-◌}
 use mathlib.Core.Path.{sym}

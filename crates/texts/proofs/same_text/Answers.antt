@@ -1,5 +1,4 @@
 -- `texts::same_text` meets its contract: each of the ways to compare does.
-use borrow.Author.Rules.{rules}
 use mathlib.Core.Path.{sym}
 use Rattle.rules.proofs.Same.{same_length_false}
 use Rattle.texts.proofs.same_text.Goals as goal

@@ -1,5 +1,4 @@
 -- `texts::trim` meets its contract: the text starts where the white bytes are skipped, and ends at its trimmed end.
-use borrow.Author.Rules.{rules}
 use native.Mathlib.Omega.{arith}
 use Prim.Native.Nat.{◌≤◌}
 use mathlib.Core.Path.{sym}

@@ -1,5 +1,4 @@
 -- `citations::ids::counts_up_to` meets its contract: the row that the id names has it.
-use borrow.Author.Rules.{rules}
 use borrow.Author.Tests.{eqb-true}
 use native.Mathlib.Omega.{arith}
 use mathlib.Core.Bool.{false≢true}

@@ -1,5 +1,4 @@
 -- `columns::Cursor::next` meets its contract: the two skips come to the places where the first column starts and ends.
-use borrow.Author.Rules.{rules}
 use mathlib.Core.Path.{sym}
 use Rattle.columns.proofs.Steps.{comes_to_none, comes_to_one}
 use Rattle.columns.proofs.Cursor.next.Goals as goal

@@ -1,6 +1,5 @@
 -- `columns::listing::comment_of` meets its contract: the comment is the text behind the column that follows the fields.
 -- No loop.
-use borrow.Author.Rules.{rules}
 use native.Mathlib.Omega.{arith}
 use Prim.Native.Nat.{ℕ, ◌+◌, ◌-◌}
 use mathlib.Core.Path.{◌≡◌, sym, ap, ◌∙◌}

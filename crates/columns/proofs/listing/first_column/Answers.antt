@@ -1,5 +1,4 @@
 -- `columns::listing::first_column` meets its contract: the first column counts if it starts where the line does. No loop.
-use borrow.Author.Rules.{rules}
 use native.Mathlib.Omega.{arith}
 use Prim.Native.Nat.{◌-◌, ◌<◌}
 use mathlib.Core.Path.{◌≡◌, sym, ap, ◌∙◌}

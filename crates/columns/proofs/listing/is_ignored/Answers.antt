@@ -1,10 +1,8 @@
 -- `columns::listing::is_ignored` meets its contract: by the number of columns, the line's length and its first two bytes,
 -- one law each. No loop.
-use borrow.Author.Rules.{rules}
 use native.Mathlib.Omega.{arith}
 use Prim.Native.Nat.{ℕ, ◌-◌, ◌≤◌, ◌<◌}
 use mathlib.Core.Path.{◌≡◌, sym, ap, ◌∙◌}
-use mathlib.Core.List.{List}
 use lib.Dec.{eqb}
 use lib.ListN.{length}
 use Rattle.columns.specs.Listing.{columns_of, line_of}

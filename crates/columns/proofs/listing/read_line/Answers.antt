@@ -1,5 +1,4 @@
 -- `columns::listing::read_line` meets its contract: a line is the part of the file between its places.
-use borrow.Author.Rules.{rules}
 use Prim.Native.Nat.{ℕ}
 use mathlib.Core.Path.{ap}
 use Rattle.columns.proofs.listing.read_line.Goals as goal

@@ -1,5 +1,4 @@
 -- `headings::bos::has_columns` meets its contract: by how many columns there are.
-use borrow.Author.Rules.{rules}
 use native.Mathlib.Omega.{arith}
 use Prim.Native.Nat.{ℕ, ◌<◌}
 use mathlib.Core.Path.{◌≡◌, sym, ap, ◌∙◌}
@@ -7,7 +6,6 @@ use mathlib.Core.List.{List}
 use lib.ListN.{length}
 use Rattle.rules.specs.Lists.{same}
 use Rattle.rules.specs.Bytes.{percents}
-use Rattle.rules.specs.Columns.{Column}
 use Rattle.columns.specs.Listing.{columns_of}
 use Rattle.headings.proofs.BosLines.{whole_short, whole_five, whole_more}
 use Rattle.headings.proofs.bos.has_columns.Goals as goal

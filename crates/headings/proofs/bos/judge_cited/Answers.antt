@@ -1,13 +1,6 @@
 -- `headings::bos::judge_cited` meets its contract: the rules are tested in their order.
-use borrow.Author.Rules.{rules}
-use Prim.Native.Nat.{ℕ}
 use mathlib.Core.Path.{◌≡◌, sym, ◌∙◌}
-use mathlib.Core.Bool.{true, false}
-use mathlib.Core.List.{List}
-use borrow.Author.Tests.{not-true, not-false}
-use Rattle.rules.specs.Tables.{Tables, origins, editors, present}
-use Rattle.rules.specs.Sentences.{known_editor}
-use Rattle.table_sheet.specs.SheetRows.{tables_in}
+use mathlib.Core.Bool.{false}
 use Rattle.seen.specs.Bits.{bit_at}
 use Rattle.steps.specs.Faults.{fault_in}
 use Rattle.headings.specs.Headings.{judged_heading}

@@ -1,5 +1,4 @@
 -- `headings::bos::read_numbers` meets its contract: column by column, from left to right.
-use borrow.Author.Rules.{rules}
 use mathlib.Core.Path.{◌≡◌}
 use mathlib.Core.Option.{some}
 use mathlib.Core.List.{List}

@@ -1,5 +1,4 @@
 -- `headings::bos::say_heading` meets its contract: the numbers are handed on, and the comment is the text behind column 5.
-use borrow.Author.Rules.{rules}
 use Rattle.headings.proofs.bos.say_heading.Goals as goal
 
 pub returns : goal.returns

@@ -1,5 +1,4 @@
 -- `judging::kinds::starts_row` meets its contract.
-use borrow.Author.Rules.{rules}
 use mathlib.Core.Path.{sym}
 use Rattle.judging.proofs.FirstColumns.{row_none, row_hash, row_other}
 use Rattle.judging.proofs.kinds.starts_row.Goals as goal

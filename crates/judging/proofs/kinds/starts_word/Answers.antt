@@ -1,5 +1,4 @@
 -- `judging::kinds::starts_word` meets its contract.
-use borrow.Author.Rules.{rules}
 use mathlib.Core.Path.{sym, ◌∙◌}
 use Rattle.judging.proofs.FirstColumns.{word_hash, word_row}
 use Rattle.judging.proofs.kinds.starts_word.Goals as goal

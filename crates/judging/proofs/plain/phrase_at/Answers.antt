@@ -1,6 +1,5 @@
 -- `judging::plain::phrase_at` meets its contract: the line is a phrase's, its number has no mark, and the quick look tells its
 -- step.
-use borrow.Author.Rules.{rules}
 use native.Mathlib.Omega.{arith}
 use Prim.Native.Nat.{◌≤◌}
 use mathlib.Core.Path.{◌≡◌, ◌∙◌}

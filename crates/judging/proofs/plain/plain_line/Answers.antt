@@ -1,5 +1,4 @@
 -- `judging::plain::plain_line` meets its contract: only in a sentence a line may be plain.
-use borrow.Author.Rules.{rules}
 use mathlib.Core.Path.{◌≡◌, subst}
 use Rattle.judging.specs.Judging.{Judgeable}
 use Rattle.judging.specs.declared.state.Phase.{Phase}

@@ -1,5 +1,4 @@
 -- `judging::plain::plain_node` meets its contract: a line of five columns that starts with the first, by its first byte.
-use borrow.Author.Rules.{rules}
 use native.Mathlib.Omega.{arith}
 use Prim.Native.Nat.{◌+◌}
 use lib.ListN.{get_or}

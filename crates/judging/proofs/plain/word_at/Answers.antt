@@ -1,6 +1,6 @@
 -- `judging::plain::word_at` meets its contract: the line is a word's, and the quick look tells its step.
 use mathlib.Core.Path.{◌∙◌}
-use borrow.Author.Tests.{eq-eqb, leb-false}
+use borrow.Author.Tests.{eq-eqb}
 use Rattle.judging.specs.Judging.{so_far_by}
 use Rattle.judging.proofs.PlainTakings.{no_comment, word_taken}
 use Rattle.judging.proofs.plain.word_at.Goals as goal

@@ -1,5 +1,4 @@
 -- `judging::state::tally_in` meets its contract.
-use borrow.Author.Rules.{rules}
 use mathlib.Core.Path.{sym, ap, ◌∙◌}
 use Rattle.judging.specs.States.{tally_in}
 use Rattle.judging.proofs.state.tally_in.Goals as goal

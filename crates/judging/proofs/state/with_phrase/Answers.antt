@@ -1,5 +1,4 @@
 -- `judging::state::with_phrase` meets its contract.
-use borrow.Author.Rules.{rules}
 use Rattle.judging.proofs.state.with_phrase.Goals as goal
 
 pub returns : goal.returns

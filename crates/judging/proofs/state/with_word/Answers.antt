@@ -1,5 +1,4 @@
 -- `judging::state::with_word` meets its contract.
-use borrow.Author.Rules.{rules}
 use Rattle.judging.proofs.state.with_word.Goals as goal
 
 pub returns : goal.returns

@@ -1,10 +1,8 @@
 -- `lines::at_once::read_at_once` meets its contract. The invariant, `Passing`: the borders in front of the place are
 -- stored, and what is still to be found is what the line's start asks for. The measure is what is left of the pass.
-use borrow.Author.Rules.{rules}
 use native.Mathlib.Omega.{arith}
-use Prim.Native.Nat.{ℕ, ◌+◌, ◌-◌, ◌/◌, ◌≤◌, ◌<◌}
+use Prim.Native.Nat.{◌+◌, ◌/◌, ◌≤◌, ◌<◌}
 use mathlib.Core.Path.{◌≡◌, refl, sym, ◌∙◌}
-use mathlib.Core.List.{List}
 use lib.Bits.{bit_xor}
 use lib.ListN.{length, get_or, set, length-set}
 use Rattle.rules.specs.Numbers.{line_limit}

@@ -1,4 +1,3 @@
-
 use mathlib.Core.Path.{ap, ◌∙◌}
 use Rattle.rules.specs.Texts.{Text}
 use Rattle.nodes.proofs.ListedFields.{at_column, at_field}

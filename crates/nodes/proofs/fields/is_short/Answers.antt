@@ -1,5 +1,3 @@
-
-use borrow.Author.Rules.{rules}
 use Rattle.nodes.proofs.fields.is_short.Goals as goal
 
 pub returns : goal.returns

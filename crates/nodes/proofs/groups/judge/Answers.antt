@@ -1,5 +1,3 @@
-
-use borrow.Author.Rules.{rules}
 use mathlib.Core.Path.{◌≡◌, refl, sym, ap, ◌∙◌}
 use Prim.Native.Nat.{ℕ}
 use mathlib.Core.List.{List}
@@ -35,7 +33,7 @@ returns-then-short-ne0 c format =
     let parent : (format : ℕ) → ℕ = λ format. value (its_parent format (fields format)) in
     let highest : (format : ℕ) → ℕ = λ format. highest_in format (fields format) in
     let read : (format : ℕ) → Told (written format) (parent format) (highest format) c.in-Fine.parent c.in-Fine.highest = λ format. fine_tells (written format) (parent format) (highest format) _ _
-        (sym (c.parents_written-parents.ensures format) ∙ c.in-Fine.is) in
+    (sym (c.parents_written-parents.ensures format) ∙ c.in-Fine.is) in
     let from-short : (format : ℕ) → Decides (first format) (short format) (or_else c.args.own.limits (or_else (known format) (allowed format))) = λ format. record { is = sym (others_decide (written format) _ (read format).none) } in
     faulty_here (from-short format) _ (c.tags_short-short.ensures format) _ _ c.if-short-ne0.true
 
@@ -50,7 +48,7 @@ returns-then-limits-ne0 c format =
     let parent : (format : ℕ) → ℕ = λ format. value (its_parent format (fields format)) in
     let highest : (format : ℕ) → ℕ = λ format. highest_in format (fields format) in
     let read : (format : ℕ) → Told (written format) (parent format) (highest format) c.in-Fine.parent c.in-Fine.highest = λ format. fine_tells (written format) (parent format) (highest format) _ _
-        (sym (c.parents_written-parents.ensures format) ∙ c.in-Fine.is) in
+    (sym (c.parents_written-parents.ensures format) ∙ c.in-Fine.is) in
     let from-short : (format : ℕ) → Decides (first format) (short format) (or_else c.args.own.limits (or_else (known format) (allowed format))) = λ format. record { is = sym (others_decide (written format) _ (read format).none) } in
     let from-limits : (format : ℕ) → Decides (first format) c.args.own.limits (or_else (known format) (allowed format)) = λ format. record { is = pass_on (from-short format) _ (c.tags_short-short.ensures format) c.if-short-ne0.false } in
     faulty_here (from-limits format) _ refl _ _ c.if-limits-ne0.true
@@ -66,7 +64,7 @@ returns-then-known-ne0 c format =
     let parent : (format : ℕ) → ℕ = λ format. value (its_parent format (fields format)) in
     let highest : (format : ℕ) → ℕ = λ format. highest_in format (fields format) in
     let read : (format : ℕ) → Told (written format) (parent format) (highest format) c.in-Fine.parent c.in-Fine.highest = λ format. fine_tells (written format) (parent format) (highest format) _ _
-        (sym (c.parents_written-parents.ensures format) ∙ c.in-Fine.is) in
+    (sym (c.parents_written-parents.ensures format) ∙ c.in-Fine.is) in
     let from-short : (format : ℕ) → Decides (first format) (short format) (or_else c.args.own.limits (or_else (known format) (allowed format))) = λ format. record { is = sym (others_decide (written format) _ (read format).none) } in
     let from-limits : (format : ℕ) → Decides (first format) c.args.own.limits (or_else (known format) (allowed format)) = λ format. record { is = pass_on (from-short format) _ (c.tags_short-short.ensures format) c.if-short-ne0.false } in
     let from-known : (format : ℕ) → Decides (first format) (known format) (allowed format) = λ format. record { is = pass_on (from-limits format) _ refl c.if-limits-ne0.false } in
@@ -79,7 +77,7 @@ parents_allowed-allowed-requires c =
     let parent : (format : ℕ) → ℕ = λ format. value (its_parent format (fields format)) in
     let highest : (format : ℕ) → ℕ = λ format. highest_in format (fields format) in
     let read : (format : ℕ) → Told (written format) (parent format) (highest format) c.in-Fine.parent c.in-Fine.highest = λ format. fine_tells (written format) (parent format) (highest format) _ _
-        (sym (c.parents_written-parents.ensures format) ∙ c.in-Fine.is) in
+    (sym (c.parents_written-parents.ensures format) ∙ c.in-Fine.is) in
     (c.requires.0, c.requires.1, sym (read 0).itself)
 
 pub returns-then-allowed-ne0 : goal.returns-then-allowed-ne0
@@ -93,7 +91,7 @@ returns-then-allowed-ne0 c format =
     let parent : (format : ℕ) → ℕ = λ format. value (its_parent format (fields format)) in
     let highest : (format : ℕ) → ℕ = λ format. highest_in format (fields format) in
     let read : (format : ℕ) → Told (written format) (parent format) (highest format) c.in-Fine.parent c.in-Fine.highest = λ format. fine_tells (written format) (parent format) (highest format) _ _
-        (sym (c.parents_written-parents.ensures format) ∙ c.in-Fine.is) in
+    (sym (c.parents_written-parents.ensures format) ∙ c.in-Fine.is) in
     let from-short : (format : ℕ) → Decides (first format) (short format) (or_else c.args.own.limits (or_else (known format) (allowed format))) = λ format. record { is = sym (others_decide (written format) _ (read format).none) } in
     let from-limits : (format : ℕ) → Decides (first format) c.args.own.limits (or_else (known format) (allowed format)) = λ format. record { is = pass_on (from-short format) _ (c.tags_short-short.ensures format) c.if-short-ne0.false } in
     let from-known : (format : ℕ) → Decides (first format) (known format) (allowed format) = λ format. record { is = pass_on (from-limits format) _ refl c.if-limits-ne0.false } in
@@ -112,7 +110,7 @@ returns c format =
     let parent : (format : ℕ) → ℕ = λ format. value (its_parent format (fields format)) in
     let highest : (format : ℕ) → ℕ = λ format. highest_in format (fields format) in
     let read : (format : ℕ) → Told (written format) (parent format) (highest format) c.in-Fine.parent c.in-Fine.highest = λ format. fine_tells (written format) (parent format) (highest format) _ _
-        (sym (c.parents_written-parents.ensures format) ∙ c.in-Fine.is) in
+    (sym (c.parents_written-parents.ensures format) ∙ c.in-Fine.is) in
     let from-short : (format : ℕ) → Decides (first format) (short format) (or_else c.args.own.limits (or_else (known format) (allowed format))) = λ format. record { is = sym (others_decide (written format) _ (read format).none) } in
     let from-limits : (format : ℕ) → Decides (first format) c.args.own.limits (or_else (known format) (allowed format)) = λ format. record { is = pass_on (from-short format) _ (c.tags_short-short.ensures format) c.if-short-ne0.false } in
     let from-known : (format : ℕ) → Decides (first format) (known format) (allowed format) = λ format. record { is = pass_on (from-limits format) _ refl c.if-limits-ne0.false } in

@@ -1,10 +1,7 @@
-
-use borrow.Author.Rules.{rules}
 use native.Mathlib.Omega.{arith}
 use mathlib.Core.Path.{◌≡◌, sym, ap, ◌∙◌}
 use Prim.Native.Nat.{ℕ}
 use mathlib.Core.List.{List, map}
-use Rattle.rules.specs.Texts.{Text}
 use Rattle.rules.specs.Numbers.{parent_number, value}
 use Rattle.rules.specs.Highest.{larger}
 use Rattle.rules.specs.Nodes.{its_parent, parents_written}

@@ -1,13 +1,10 @@
-
-use borrow.Author.Rules.{rules}
 use native.Mathlib.Omega.{arith}
 use mathlib.Core.Path.{◌≡◌, sym, ◌∙◌}
 use Prim.Native.Nat.{ℕ}
-use borrow.Author.Tests.{not-true, not-false}
 use lib.ListN.{drop}
 use Rattle.rules.specs.Nodes.{tags_short}
 use Rattle.steps.specs.Faults.{fault_in}
-use Rattle.nodes.specs.NodeLines.{fields_of, Whole}
+use Rattle.nodes.specs.NodeLines.{fields_of}
 use Rattle.nodes.proofs.ListedFields.{first_of}
 use Rattle.nodes.proofs.Judgements.{stops, passes}
 use Rattle.nodes.proofs.groups.tags_short.Goals as goal

@@ -1,11 +1,6 @@
-
 use borrow.Author.Rules.{rules}
 use mathlib.Core.Path.{sym, ◌∙◌}
-use Prim.Native.Nat.{◌-◌}
-use borrow.Author.Tests.{not-true, not-false}
-use Rattle.table_sheet.specs.SheetRows.{tables_in}
-use Rattle.nodes.specs.NodeLines.{fields_of, label_known}
-use Rattle.nodes.proofs.PairWalks.{Along, label_field, along_start, along_more, along_stop, along_end}
+use Rattle.nodes.proofs.PairWalks.{label_field, along_start, along_more, along_stop, along_end}
 use Rattle.nodes.proofs.pairs.labels_known.Goals as goal
 
 pub returns-then-not-is_known : goal.returns-then-not-is_known

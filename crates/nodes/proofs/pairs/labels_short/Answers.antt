@@ -1,10 +1,5 @@
-
-use borrow.Author.Rules.{rules}
 use mathlib.Core.Path.{sym, ◌∙◌}
-use Prim.Native.Nat.{◌-◌}
-use borrow.Author.Tests.{not-true, not-false}
-use Rattle.nodes.specs.NodeLines.{fields_of, label_short}
-use Rattle.nodes.proofs.PairWalks.{Along, label_field, along_start, along_more, along_stop, along_end}
+use Rattle.nodes.proofs.PairWalks.{label_field, along_start, along_more, along_stop, along_end}
 use Rattle.nodes.proofs.pairs.labels_short.Goals as goal
 
 pub returns-then-not-is_short : goal.returns-then-not-is_short

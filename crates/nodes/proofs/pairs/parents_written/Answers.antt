@@ -1,11 +1,6 @@
-
-use borrow.Author.Rules.{rules}
 use native.Mathlib.Omega.{arith}
 use mathlib.Core.Path.{◌≡◌, refl, sym, ap, ◌∙◌}
-use Prim.Native.Nat.{ℕ, ◌+◌, ◌-◌}
-use mathlib.Core.Option.{Option}
-use mathlib.Core.List.{List}
-use Rattle.rules.specs.Texts.{Text}
+use Prim.Native.Nat.{ℕ, ◌+◌}
 use Rattle.rules.specs.Columns.{text}
 use Rattle.rules.specs.Highest.{larger}
 use Rattle.steps.specs.declared.Fault.{Fault}
@@ -15,7 +10,7 @@ use Rattle.nodes.specs.NodeLines.{fields_of, pairs_from, FieldAt, phrase_in, par
 use Rattle.nodes.specs.declared.pairs.Judged.{Judged}
 use Rattle.nodes.specs.declared.pairs.Judged.TheVariants.{Fine, Faulty}
 use Rattle.nodes.proofs.ListedFields.{phrase_read}
-use Rattle.nodes.proofs.PairWalks.{Along, parent_field, highest_more, highest_end, along_start, along_more, along_stop, along_end}
+use Rattle.nodes.proofs.PairWalks.{parent_field, highest_more, highest_end, along_start, along_more, along_stop, along_end}
 use Rattle.nodes.proofs.pairs.parents_written.Goals as goal
 
 pub fault_at-requires : goal.fault_at-requires

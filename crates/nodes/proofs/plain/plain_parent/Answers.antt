@@ -2,7 +2,6 @@
 use native.Mathlib.Omega.{arith}
 use Prim.Native.Nat.{◌<◌}
 use mathlib.Core.Path.{refl, ap, ◌∙◌}
-use borrow.Author.Tests.{not-false}
 use lib.ListN.{get_or}
 use Rattle.rules.specs.Numbers.{parent_number}
 use Rattle.columns.proofs.ListedColumns.{Bounded, bounds_at}

@@ -1,10 +1,7 @@
 -- `numbers::EditorId::read` meets its contract: -1 is 0, a number is one more than it is, and what is no number stays bad.
-use borrow.Author.Rules.{rules}
 use native.Mathlib.Omega.{arith}
-use Prim.Native.Nat.{ℕ}
 use mathlib.Core.Path.{◌≡◌, refl, sym, ◌∙◌}
 use mathlib.Core.Bool.{false}
-use mathlib.Core.List.{List}
 use Rattle.rules.specs.Lists.{bytes, same}
 use Rattle.rules.specs.Numbers.{number}
 use Rattle.numbers.specs.Answers.{as_number, kind}

@@ -1,10 +1,7 @@
 -- `numbers::quick::three_digits` meets its contract: past its tests three digits stand there, and the first is 5 at least.
-use borrow.Author.Rules.{rules}
-use borrow.Author.Tests.{ltb-false}
 use native.Mathlib.Omega.{arith}
-use Prim.Native.Nat.{ℕ, ◌+◌}
+use Prim.Native.Nat.{◌+◌}
 use mathlib.Core.Path.{refl, ap, ◌∙◌}
-use mathlib.Core.List.{List}
 use lib.ListN.{get_or}
 use Rattle.rules.specs.Numbers.{phrase_number, number, parent_number}
 use Rattle.numbers.proofs.ThreeDigits.{ThreeDigits, three_there, from_500, to_999, three_phrase, three_parent}

@@ -1,11 +1,6 @@
 -- `digits::count_digits` meets its contract: the digits passed and those of what is left are the number's.
 -- The measure is what is left.
-use borrow.Author.Rules.{rules}
 use native.Mathlib.Omega.{arith}
-use Prim.Native.Nat.{◌+◌, ◌≤◌}
-use mathlib.Core.Path.{◌≡◌}
-use lib.ListN.{length}
-use Rattle.rules.specs.Tidy.{digits_of}
 use Rattle.printing.proofs.DigitLaws.{digits_few, length_one, length_more}
 use Rattle.printing.proofs.digits.count_digits.Goals as goal
 

@@ -1,6 +1,5 @@
 -- `digits::put_digits` meets its contract: the digits of what is left, put over the output so far, are the number's put over
 -- the output lent. The measure is what is left.
-use borrow.Author.Rules.{rules}
 use native.Mathlib.Omega.{arith}
 use Prim.Native.Nat.{ℕ, ◌+◌, ◌/◌, ◌≤◌}
 use mathlib.Core.Path.{◌≡◌, refl, ap, ◌∙◌}

@@ -1,15 +1,10 @@
 -- `digits::put_digits` meets its contract: the digits of what is left, put over the output so far, are the number's put over
 -- the output lent. The measure is what is left.
-use borrow.Author.Rules.{rules}
-use native.Mathlib.Omega.{arith}
-use Prim.Native.Nat.{ℕ, ◌+◌, ◌/◌, ◌≤◌}
-use mathlib.Core.Path.{◌≡◌, refl, ap, ◌∙◌}
-use mathlib.Core.List.{[], ◌∷◌}
+use Prim.Native.Nat.{◌+◌, ◌≤◌}
+use mathlib.Core.Path.{◌≡◌}
 use lib.ListN.{length}
 use Rattle.rules.specs.Tidy.{digits_of}
 use Rattle.printing.specs.Over.{over}
-use Rattle.printing.proofs.OverLaws.{over_length}
-use Rattle.printing.proofs.DigitLaws.{digits_some, length_more, last_put, first_put}
 use Rattle.printing.proofs.digits.put_digits.Given as goal
 
 abbrev pub invariant-loop-left : goal.invariant-loop-left

@@ -1,6 +1,5 @@
 -- `digits::put_id` meets its contract: one more than the id is given.
 -- No loop.
-use borrow.Author.Rules.{rules}
 use native.Mathlib.Omega.{arith}
 use Prim.Native.Nat.{suc, ◌-◌}
 use mathlib.Core.Path.{◌≡◌}

@@ -1,6 +1,5 @@
 -- `digits::put_number` meets its contract: at the output's end or behind it there is nothing to put.
 -- No loop.
-use borrow.Author.Rules.{rules}
 use native.Mathlib.Omega.{arith}
 use Prim.Native.Nat.{ℕ, ◌+◌}
 use mathlib.Core.Path.{sym, ap}

@@ -1,6 +1,5 @@
 -- `fields::put_field` meets its contract: one text behind the other.
 -- No loop.
-use borrow.Author.Rules.{rules}
 use Rattle.printing.proofs.PutLaws.{put_then}
 use Rattle.printing.proofs.fields.put_field.Goals as goal
 

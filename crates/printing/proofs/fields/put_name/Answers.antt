@@ -1,6 +1,5 @@
 -- `fields::put_name` meets its contract: what is put is the text that the sheet tells of.
 -- No loop.
-use borrow.Author.Rules.{rules}
 use native.Mathlib.Omega.{arith}
 use Rattle.printing.proofs.PutLaws.{put_as, put_wider}
 use Rattle.printing.proofs.fields.put_name.Goals as goal

@@ -1,6 +1,5 @@
 -- `fields::put_note` meets its contract: what is put is the text that the sheet tells of.
 -- No loop.
-use borrow.Author.Rules.{rules}
 use native.Mathlib.Omega.{arith}
 use Prim.Native.Nat.{ℕ}
 use mathlib.Core.Path.{ap}

@@ -1,6 +1,5 @@
 -- `fields::text_at` meets its contract: the part of the file that the sheet tells the start and the length of.
 -- No loop.
-use borrow.Author.Rules.{rules}
 use native.Mathlib.Omega.{arith}
 use Prim.Native.Nat.{◌+◌, ◌-◌}
 use lib.ListN.{get_or, drop}

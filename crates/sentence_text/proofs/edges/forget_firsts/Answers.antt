@@ -1,13 +1,12 @@
 -- `edges::forget_firsts` meets its contract: the entry of each node that no edge from here on names is 0.
 -- The measure is the count of edges left.
-use borrow.Author.Rules.{rules}
 use native.Mathlib.Omega.{arith}
-use Prim.Native.Nat.{◌+◌, ◌-◌, ◌*◌, ◌≤◌}
+use Prim.Native.Nat.{◌-◌, ◌*◌}
 use mathlib.Core.Path.{◌≡◌, refl, sym}
-use lib.ListN.{length-set, length}
+use lib.ListN.{length-set}
 use Rattle.sentence_sheet.specs.FlatEdges.{edge_width}
 use Rattle.sentence_text.specs.EdgesRead.{edge_record_at, edges_from}
-use Rattle.sentence_text.proofs.ForgottenFirsts.{Forgetting, forgetting_start, forgetting_more, forgetting_end}
+use Rattle.sentence_text.proofs.ForgottenFirsts.{forgetting_start, forgetting_more, forgetting_end}
 use Rattle.sentence_text.proofs.EdgesAlong.{edges_cons, edges_over}
 use Rattle.sentence_text.proofs.edges.forget_firsts.Goals as goal
 

@@ -1,6 +1,5 @@
 -- `edges::put_edge` meets its contract: one column behind the other.
 -- No loop.
-use borrow.Author.Rules.{rules}
 use native.Mathlib.Omega.{arith}
 use Rattle.sentence_text.proofs.EdgesAlong.{edge_text}
 use Rattle.printing.proofs.PutLaws.{put_then, put_as, put_wider}

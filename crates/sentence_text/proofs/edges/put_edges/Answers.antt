@@ -1,10 +1,8 @@
 -- `edges::put_edges` meets its contract: what is put and what is left are the edges that stand together (`EdgesAlong.Going`).
 -- The measure is the count of edges left.
-use borrow.Author.Rules.{rules}
 use native.Mathlib.Omega.{arith}
-use Prim.Native.Nat.{◌-◌}
 use Rattle.printing.proofs.PutLaws.{put_wider, put_length}
-use Rattle.sentence_text.proofs.EdgesAlong.{Going, going_start, going_next, going_stop, going_end}
+use Rattle.sentence_text.proofs.EdgesAlong.{going_start, going_next, going_stop, going_end}
 use Rattle.sentence_text.proofs.edges.put_edges.Goals as goal
 
 pub loop-k-init : goal.loop-k-init

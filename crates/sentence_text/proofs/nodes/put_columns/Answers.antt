@@ -1,6 +1,5 @@
 -- `nodes::put_columns` meets its contract: column behind column.
 -- No loop.
-use borrow.Author.Rules.{rules}
 use Prim.Native.Nat.{ℕ}
 use mathlib.Core.Path.{ap, ◌∙◌}
 use mathlib.Core.List.{◌∷◌, ◌++◌}

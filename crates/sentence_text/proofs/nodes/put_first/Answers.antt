@@ -1,6 +1,5 @@
 -- `nodes::put_first` meets its contract: a text of no bytes is absent.
 -- No loop.
-use borrow.Author.Rules.{rules}
 use native.Mathlib.Omega.{arith}
 use mathlib.Core.Path.{ap₂, ◌∙◌}
 use Rattle.printing.specs.Fields.{field_text}

@@ -1,6 +1,5 @@
 -- `nodes::put_node` meets its contract: first column, others, edges, comment and newline are the line.
 -- No loop.
-use borrow.Author.Rules.{rules}
 use native.Mathlib.Omega.{arith}
 use Prim.Native.Nat.{◌≤◌}
 use lib.ListN.{get_or}

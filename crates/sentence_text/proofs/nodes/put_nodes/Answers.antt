@@ -1,15 +1,10 @@
 -- `nodes::put_nodes` meets its contract: the lines of as many nodes as were passed are put.
 -- The measure is the count of nodes left.
-use borrow.Author.Rules.{rules}
 use native.Mathlib.Omega.{arith}
-use Prim.Native.Nat.{◌-◌, ◌*◌, ◌≤◌}
 use mathlib.Core.Path.{◌≡◌}
 use Rattle.printing.proofs.PutLaws.{put_then, put_as, put_wider, put_length, put_none}
-use Rattle.rules.specs.Lists.{counting}
-use Rattle.printing.specs.Over.{Put}
 use Rattle.sentence_text.specs.SheetRead.{node_in, edges_on_sheet}
-use Rattle.sentence_text.specs.Readable.{node_most}
-use Rattle.sentence_text.proofs.NodesAlong.{lines_of, node_more}
+use Rattle.sentence_text.proofs.NodesAlong.{node_more}
 use Rattle.sentence_text.proofs.nodes.put_nodes.Goals as goal
 
 pub loop-k-init : goal.loop-k-init

@@ -1,6 +1,5 @@
 -- `nodes::put_rest` meets its contract: the comment, then the newline.
 -- No loop.
-use borrow.Author.Rules.{rules}
 use native.Mathlib.Omega.{arith}
 use Prim.Native.Nat.{ℕ}
 use mathlib.Core.Path.{ap₂, ◌∙◌}

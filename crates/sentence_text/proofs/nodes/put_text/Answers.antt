@@ -1,6 +1,5 @@
 -- `nodes::put_text` meets its contract: the text of the two places that its field has.
 -- No loop.
-use borrow.Author.Rules.{rules}
 use native.Mathlib.Omega.{arith}
 use Prim.Native.Nat.{ℕ}
 use mathlib.Core.Path.{ap₂}

@@ -1,5 +1,4 @@
 -- `table_sheet::fours::four_without` meets its contract: a no says nothing, a yes comes behind four tests.
-use borrow.Author.Rules.{rules}
 use borrow.Author.Tests.{eqb-false, not-true}
 use mathlib.Core.Bool.{false≢true}
 use Rattle.table_sheet.proofs.fours.four_without.Goals as goal

@@ -1,10 +1,8 @@
 -- `table_sheet::fours::pass_fours` meets its contract: from here on the rows give the answer of all the rows asked for.
 -- The measure is the number of rows left.
-use borrow.Author.Rules.{rules}
-use borrow.Author.Tests.{not-false}
 use native.Mathlib.Nat.{sub-zero}
 use native.Mathlib.Omega.{arith}
-use Prim.Native.Nat.{ℕ, ◌+◌, ◌-◌, ◌*◌, ◌≤◌}
+use Prim.Native.Nat.{ℕ, ◌+◌, ◌-◌, ◌*◌}
 use mathlib.Core.Path.{◌≡◌, ◌∙◌, subst}
 use mathlib.Core.List.{List}
 use Rattle.rules.specs.Sheets.{row_width}

@@ -1,16 +1,11 @@
 -- `table_sheet::fours::pass_fours` meets its contract: from here on the rows give the answer of all the rows asked for.
 -- The measure is the number of rows left.
-use borrow.Author.Rules.{rules}
-use borrow.Author.Tests.{not-false}
-use native.Mathlib.Nat.{sub-zero}
-use native.Mathlib.Omega.{arith}
 use Prim.Native.Nat.{ℕ, ◌+◌, ◌-◌, ◌*◌, ◌≤◌}
-use mathlib.Core.Path.{◌≡◌, ◌∙◌, subst}
+use mathlib.Core.Path.{◌≡◌}
 use mathlib.Core.List.{List}
 use Rattle.rules.specs.Sheets.{row_width}
 use Rattle.table_sheet.specs.SheetRows.{rows_from}
 use Rattle.table_sheet.specs.LookUps.{id_from, id_found}
-use Rattle.table_sheet.proofs.LookUps.{ids_miss}
 use Rattle.table_sheet.proofs.fours.pass_fours.Given as goal
 
 abbrev pub invariant-loop-row : goal.invariant-loop-row

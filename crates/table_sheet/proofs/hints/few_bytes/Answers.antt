@@ -1,5 +1,4 @@
 -- `table_sheet::hints::few_bytes` meets its contract: the three bytes it reads are the definition's.
-use borrow.Author.Rules.{rules}
 use Prim.Native.Nat.{ℕ, ◌+◌, ◌-◌, ◌*◌, ◌/◌}
 use mathlib.Core.Path.{ap₂}
 use lib.Bits.{bit_or}

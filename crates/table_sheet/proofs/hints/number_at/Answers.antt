@@ -1,5 +1,4 @@
 -- `table_sheet::hints::number_at` meets its contract: the two numbers it reads are the definition's.
-use borrow.Author.Rules.{rules}
 use Prim.Native.Nat.{ℕ}
 use mathlib.Core.Path.{ap₂}
 use lib.Bits.{bit_xor}

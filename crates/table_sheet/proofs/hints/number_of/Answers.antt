@@ -1,5 +1,4 @@
 -- `table_sheet::hints::number_of` meets its contract: by the length of the tag, the number is the one of that length.
-use borrow.Author.Rules.{rules}
 use native.Mathlib.Omega.{arith}
 use mathlib.Core.Path.{◌∙◌}
 use Rattle.table_sheet.proofs.TagNumbers.{number_none, number_few, number_some, number_more}

@@ -1,5 +1,4 @@
 -- `table_sheet::hints::place_of` meets its contract: it computes as the definition does.
-use borrow.Author.Rules.{rules}
 use native.Mathlib.Nat.{mod-lt}
 use native.Mathlib.Omega.{arith}
 use Prim.Native.Nat.{◌/◌, ◌%◌, ◌*◌, ◌<◌}

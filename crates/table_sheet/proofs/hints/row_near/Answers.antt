@@ -1,5 +1,4 @@
 -- `table_sheet::hints::row_near` meets its contract: the hint is read at its place.
-use borrow.Author.Rules.{rules}
 use Prim.Native.Nat.{ℕ}
 use mathlib.Core.Path.{ap, ◌∙◌}
 use lib.ListN.{get_or}

@@ -1,6 +1,5 @@
 -- `table_sheet::outlines::is_new` meets its contract: where the outline is not noted by what the noted ones tell, else by the
 -- rows.
-use borrow.Author.Rules.{rules}
 use Prim.Native.Nat.{ℕ}
 use mathlib.Core.Path.{sym, ap, ◌∙◌}
 use mathlib.Core.Bool.{not}

@@ -1,13 +1,9 @@
 -- `table_sheet::outlines::outline_of` meets its contract: the outline from here on, with the number so far, is that of the
 -- whole tag. The measure is the number of bytes left.
-use borrow.Author.Rules.{rules}
-use native.Mathlib.Nat.{mod-lt}
-use native.Mathlib.Omega.{arith}
 use Prim.Native.Nat.{◌-◌, ◌≤◌, ◌<◌}
-use mathlib.Core.Path.{◌≡◌, refl, sym, ap, ◌∙◌}
-use lib.ListN.{length, drop, drop_of_length-le}
+use mathlib.Core.Path.{◌≡◌}
+use lib.ListN.{length, drop}
 use Rattle.table_sheet.specs.Outlines.{outline_count, outline_from, outline_of}
-use Rattle.table_sheet.proofs.NotedOutlines.{outline_on}
 use Rattle.table_sheet.proofs.outlines.outline_of.Given as goal
 
 abbrev pub invariant-loop-i : goal.invariant-loop-i

@@ -1,5 +1,4 @@
 -- `table_sheet::quick::has_by_halves` meets its contract: a row that has the tag will do, wherever it stands.
-use borrow.Author.Rules.{rules}
 use native.Mathlib.Omega.{arith}
 use native.Mathlib.Nat.{add-sub_cancel_left}
 use Prim.Native.Nat.{◌+◌, ◌*◌}

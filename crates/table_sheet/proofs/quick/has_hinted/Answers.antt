@@ -1,5 +1,4 @@
 -- `table_sheet::quick::has_hinted` meets its contract: short and long tags do, of others it says nothing.
-use borrow.Author.Rules.{rules}
 use mathlib.Core.Bool.{false≢true}
 use Rattle.table_sheet.proofs.quick.has_hinted.Goals as goal
 

@@ -1,5 +1,4 @@
 -- `table_sheet::quick::has_length` meets its contract.
-use borrow.Author.Rules.{rules}
 use borrow.Author.Tests.{eqb-true}
 use native.Mathlib.Omega.{arith}
 use Prim.Native.Nat.{◌+◌, ◌*◌}

@@ -1,6 +1,4 @@
 -- `table_sheet::quick::has_long` meets its contract: the row has as many bytes, and they are the same.
-use borrow.Author.Rules.{rules}
-use borrow.Author.Tests.{not-false}
 use native.Mathlib.Omega.{arith}
 use mathlib.Core.Bool.{false≢true}
 use Rattle.table_sheet.proofs.LookUps.{tag_among_lem}

@@ -1,6 +1,5 @@
 -- `table_sheet::quick::has_short` meets its contract: the row has as many bytes, and the same number of them.
-use borrow.Author.Rules.{rules}
-use borrow.Author.Tests.{eqb-true, not-false}
+use borrow.Author.Tests.{eqb-true}
 use native.Mathlib.Omega.{arith}
 use mathlib.Core.Path.{sym, ◌∙◌}
 use mathlib.Core.Bool.{false≢true}

@@ -1,5 +1,4 @@
 -- `table_sheet::quick::has_tag` meets its contract: either row will do.
-use borrow.Author.Rules.{rules}
 use Rattle.table_sheet.proofs.quick.has_tag.Goals as goal
 
 pub returns-then-has_hinted : goal.returns-then-has_hinted

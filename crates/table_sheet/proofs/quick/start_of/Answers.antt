@@ -1,5 +1,4 @@
 -- `table_sheet::quick::start_of` meets its contract.
-use borrow.Author.Rules.{rules}
 use native.Mathlib.Omega.{arith}
 use Prim.Native.Nat.{◌+◌, ◌*◌}
 use Rattle.rules.specs.Sheets.{row_width}

@@ -1,6 +1,5 @@
 -- `rows::put_flag` meets its contract: WORDTAG alone has flags.
 -- No loop.
-use borrow.Author.Rules.{rules}
 use native.Mathlib.Omega.{arith}
 use mathlib.Core.List.{[]}
 use Rattle.printing.proofs.PutLaws.{put_as, put_wider, put_none}

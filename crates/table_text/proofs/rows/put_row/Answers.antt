@@ -1,13 +1,6 @@
 -- `rows::put_row` meets its contract: column behind column.
 -- No loop.
-use borrow.Author.Rules.{rules}
 use native.Mathlib.Omega.{arith}
-use Prim.Native.Nat.{ℕ}
-use mathlib.Core.Path.{ap, ◌∙◌}
-use mathlib.Core.List.{List, [], ◌∷◌, ◌++◌}
-use Rattle.rules.specs.Bytes.{newline}
-use Rattle.rules.specs.Tidy.{tab, id_digits, flagged, second_text}
-use Rattle.printing.specs.Further.{further}
 use Rattle.printing.proofs.PutLaws.{put_then, put_as}
 use Rattle.table_sheet.specs.SheetRows.{row_at}
 use Rattle.table_text.proofs.RowTexts.{row_line_lem, first_inside}

@@ -1,8 +1,7 @@
 -- `rows::put_rows` meets its contract: the lines of as many rows as were passed are put.
 -- The measure is the count of rows left.
-use borrow.Author.Rules.{rules}
 use native.Mathlib.Omega.{arith}
-use Prim.Native.Nat.{ℕ, ◌+◌, ◌-◌, ◌*◌, ◌≤◌, ◌<◌}
+use Prim.Native.Nat.{ℕ, ◌+◌, ◌*◌, ◌≤◌, ◌<◌}
 use mathlib.Core.Path.{◌≡◌, ap, ◌∙◌}
 use mathlib.Core.List.{◌++◌}
 use lib.ListN.{length, get_or, take}
@@ -11,8 +10,7 @@ use Rattle.table_sheet.specs.SheetRows.{row_at}
 use Rattle.table_text.proofs.RowTexts.{row_more, listed_low}
 use Rattle.rules.specs.Sheets.{row_place}
 use Rattle.rules.specs.Tidy.{row_line}
-use Rattle.printing.specs.Over.{Put}
-use Rattle.table_text.specs.TablesShown.{row_lines, row_most}
+use Rattle.table_text.specs.TablesShown.{row_lines}
 use Rattle.table_text.proofs.rows.put_rows.Goals as goal
 
 pub loop-k-init : goal.loop-k-init

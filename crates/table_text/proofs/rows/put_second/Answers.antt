@@ -1,12 +1,6 @@
 -- `rows::put_second` meets its contract: ORIGIN alone has comments.
 -- No loop.
-use borrow.Author.Rules.{rules}
 use native.Mathlib.Omega.{arith}
-use Prim.Native.Nat.{ℕ}
-use mathlib.Core.Path.{ap, ◌∙◌}
-use mathlib.Core.List.{List, ◌∷◌}
-use Rattle.rules.specs.Tidy.{tab, commented}
-use Rattle.printing.specs.Further.{further, text_of}
 use Rattle.printing.proofs.PutLaws.{put_as, put_wider}
 use Rattle.table_sheet.specs.SheetRows.{row_at}
 use Rattle.table_text.proofs.RowTexts.{note_second, text_second, second_inside}

@@ -1,5 +1,4 @@
 -- `tables::names::table_named` meets its contract: each name in its turn, and the names behind it where it is another.
-use borrow.Author.Rules.{rules}
 use Prim.Native.Nat.{ℕ}
 use mathlib.Core.Path.{◌≡◌, sym, ◌∙◌}
 use mathlib.Core.List.{List}

@@ -1,5 +1,4 @@
 -- `tables::names::table_on` meets its contract: a line of one column names none.
-use borrow.Author.Rules.{rules}
 use native.Mathlib.Omega.{arith}
 use Prim.Native.Nat.{ℕ}
 use mathlib.Core.Path.{sym, ap, ◌∙◌}

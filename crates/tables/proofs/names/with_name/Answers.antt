@@ -1,5 +1,4 @@
 -- `tables::names::with_name` meets its contract: by the number of columns.
-use borrow.Author.Rules.{rules}
 use mathlib.Core.Path.{sym, ◌∙◌}
 use Rattle.tables.proofs.NamedLines.{name_followed, name_alone}
 use Rattle.tables.proofs.names.with_name.Goals as goal

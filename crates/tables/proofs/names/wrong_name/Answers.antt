@@ -1,5 +1,4 @@
 -- `tables::names::wrong_name` meets its contract: by the number of columns.
-use borrow.Author.Rules.{rules}
 use mathlib.Core.Path.{sym, ◌∙◌}
 use Rattle.tables.proofs.NamedLines.{name_missing, name_wrong}
 use Rattle.tables.proofs.names.wrong_name.Goals as goal

@@ -1,5 +1,4 @@
 -- `tables::origins::origin_row` meets its contract: the rules of the line in their order.
-use borrow.Author.Rules.{rules}
 use native.Mathlib.Omega.{arith}
 use Prim.Native.Nat.{ℕ, suc}
 use native.Mathlib.Numerals.{add-one}
@@ -7,8 +6,8 @@ use mathlib.Core.Path.{◌≡◌, refl, sym, ap, ◌∙◌}
 use mathlib.Core.Bool.{true}
 use mathlib.Core.Option.{Option, some}
 use mathlib.Core.List.{List, [], ◌∷◌}
-use Rattle.rules.specs.Texts.{Text, given, trim, in_front, behind}
-use Rattle.rules.specs.Columns.{Column, column, written}
+use Rattle.rules.specs.Texts.{given, trim, in_front, behind}
+use Rattle.rules.specs.Columns.{column, written}
 use Rattle.rules.specs.Numbers.{origin_id, number, value}
 use Rattle.rules.specs.Tables.{Row}
 use Rattle.rules.specs.Rows.{origin_row}

@@ -1,10 +1,8 @@
 -- `tables::origins::origin_texts` meets its contract: the name is what stands in front of two percent signs behind the id,
 -- the comment what stands behind them.
-use borrow.Author.Rules.{rules}
 use native.Mathlib.Omega.{arith}
-use Prim.Native.Nat.{ℕ, ◌≤◌}
+use Prim.Native.Nat.{◌≤◌}
 use mathlib.Core.Path.{refl, sym}
-use mathlib.Core.List.{List}
 use lib.ListN.{length, take, get_or}
 use lib.Seq.{length-take-le}
 use Rattle.rules.specs.Numbers.{file_limit}

@@ -1,13 +1,12 @@
 -- `tables::rows::editor_row` meets its contract: the rules of the line in their order.
-use borrow.Author.Rules.{rules}
 use native.Mathlib.Omega.{arith}
 use Prim.Native.Nat.{ℕ}
 use mathlib.Core.Path.{◌≡◌, refl, sym, ap, ◌∙◌}
 use mathlib.Core.Bool.{true}
-use mathlib.Core.Option.{Option, some}
+use mathlib.Core.Option.{some}
 use mathlib.Core.List.{List, [], ◌∷◌}
-use Rattle.rules.specs.Texts.{Text, given, trim}
-use Rattle.rules.specs.Columns.{Column, column, written}
+use Rattle.rules.specs.Texts.{given, trim}
+use Rattle.rules.specs.Columns.{column, written}
 use Rattle.rules.specs.Numbers.{signed_id, value}
 use Rattle.rules.specs.Tables.{Row}
 use Rattle.rules.specs.Rows.{editor_row}

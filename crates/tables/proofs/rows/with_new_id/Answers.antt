@@ -1,5 +1,4 @@
 -- `tables::rows::with_new_id` meets its contract: whether a row has the id, and then whether there is room.
-use borrow.Author.Rules.{rules}
 use Prim.Native.Nat.{ℕ}
 use mathlib.Core.Path.{◌≡◌, refl, sym, ap, ◌∙◌}
 use mathlib.Core.Bool.{not}

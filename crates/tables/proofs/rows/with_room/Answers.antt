@@ -1,5 +1,4 @@
 -- `tables::rows::with_room` meets its contract: by how many rows there are.
-use borrow.Author.Rules.{rules}
 use borrow.Author.Tests.{lt-ltb, le-ltb}
 use native.Mathlib.Omega.{arith}
 use mathlib.Core.Path.{refl, sym, ◌∙◌}

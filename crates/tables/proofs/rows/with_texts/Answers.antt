@@ -1,5 +1,4 @@
 -- `tables::rows::with_texts` meets its contract: the two limits in their order, then what is left to `with_new_id`.
-use borrow.Author.Rules.{rules}
 use Prim.Native.Nat.{ℕ}
 use mathlib.Core.Path.{refl, sym, ap, ◌∙◌}
 use mathlib.Core.List.{[], ◌∷◌}

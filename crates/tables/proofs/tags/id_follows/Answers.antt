@@ -1,9 +1,7 @@
 -- `tables::tags::id_follows` meets its contract: there is no row yet, or the id of the last one tells.
-use borrow.Author.Rules.{rules}
 use Rattle.tables.proofs.RowsSoFar.{follows_none, follows_next, follows_unknown, follows_not}
 use native.Mathlib.Omega.{arith}
-use Prim.Native.Nat.{ℕ, ◌+◌, ◌-◌, ◌*◌}
-use mathlib.Core.List.{List}
+use Prim.Native.Nat.{◌+◌, ◌-◌, ◌*◌}
 use Rattle.tables.proofs.tags.id_follows.Goals as goal
 
 pub returns-then-rows-eq0 : goal.returns-then-rows-eq0

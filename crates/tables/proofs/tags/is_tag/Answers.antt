@@ -1,5 +1,4 @@
 -- `tables::tags::is_tag` meets its contract: its length, and that it isn't %%.
-use borrow.Author.Rules.{rules}
 use borrow.Author.Tests.{le-leb, lt-leb}
 use native.Mathlib.Omega.{arith}
 use mathlib.Core.Path.{ap}

@@ -1,5 +1,4 @@
 -- `tables::tags::own_tag` meets its contract: the ids 0 and 1 have a tag each, and the others neither of these.
-use borrow.Author.Rules.{rules}
 use Prim.Native.Nat.{ℕ}
 use mathlib.Core.Path.{◌≡◌, sym, ap, ◌∙◌}
 use mathlib.Core.Bool.{not}

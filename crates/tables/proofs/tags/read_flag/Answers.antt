@@ -1,5 +1,4 @@
 -- `tables::tags::read_flag` meets its contract: by the table, and the bytes of the third column.
-use borrow.Author.Rules.{rules}
 use borrow.Author.Tests.{eq-eqb, ne_eqb}
 use mathlib.Core.Path.{◌≡◌, sym, ◌∙◌}
 use mathlib.Core.Bool.{true}

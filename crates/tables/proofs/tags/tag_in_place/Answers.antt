@@ -1,6 +1,4 @@
 -- `tables::tags::tag_in_place` meets its contract: the three tests are made one after the other.
-use borrow.Author.Rules.{rules}
-use borrow.Author.Tests.{not-true, not-false}
 use mathlib.Core.Path.{◌≡◌, sym}
 use mathlib.Core.List.{List}
 use Rattle.rules.specs.Tables.{Row}

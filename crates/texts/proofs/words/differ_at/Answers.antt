@@ -1,5 +1,4 @@
 -- `texts::words::differ_at` meets its contract: texts with other numbers at a place are not the same.
-use borrow.Author.Rules.{rules}
 use borrow.Author.Tests.{eqb-false, not-true}
 use mathlib.Core.Path.{sym, ◌∙◌}
 use Rattle.texts.specs.Words.{eight_at}

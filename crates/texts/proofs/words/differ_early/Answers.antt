@@ -1,6 +1,4 @@
 -- `texts::words::differ_early` meets its contract: one number that differs is enough.
-use borrow.Author.Rules.{rules}
-use mathlib.Core.Path.{refl}
 use Rattle.texts.proofs.words.differ_early.Goals as goal
 
 pub returns-then-differ_at : goal.returns-then-differ_at

@@ -1,5 +1,4 @@
 -- `texts::words::eight_at` meets its contract: the sum of eight bytes with their weights.
-use borrow.Author.Rules.{rules}
 use native.Mathlib.Omega.{arith}
 use Rattle.texts.proofs.AsNumbers.{eight_sum}
 use Rattle.texts.proofs.words.eight_at.Goals as goal

@@ -1,5 +1,4 @@
 -- `texts::words::front_at` meets its contract.
-use borrow.Author.Rules.{rules}
 use Prim.Native.Nat.{ℕ, ◌-◌, ◌*◌, ◌%◌, ◌^◌}
 use mathlib.Core.Path.{ap}
 use Rattle.texts.specs.Words.{front_at}

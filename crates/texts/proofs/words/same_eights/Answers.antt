@@ -1,9 +1,7 @@
 -- `texts::words::same_eights` meets its contract: the two numbers at the back and those at the front tell.
-use borrow.Author.Rules.{rules}
 use native.Mathlib.Omega.{arith}
 use Prim.Native.Nat.{ℕ, ◌-◌, ◌<◌}
 use mathlib.Core.Path.{◌≡◌, sym, ◌∙◌}
-use mathlib.Core.List.{List}
 use lib.ListN.{length, get_or}
 use Rattle.texts.specs.Words.{eight_at}
 use Rattle.texts.proofs.AsNumbers.{eight_alike, numbers_differ, numbers_tell}

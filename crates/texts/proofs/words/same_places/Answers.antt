@@ -1,5 +1,4 @@
 -- `texts::words::same_places` meets its contract: the two numbers at the back and those at the front tell.
-use borrow.Author.Rules.{rules}
 use native.Mathlib.Omega.{arith}
 use mathlib.Core.Path.{sym, ◌∙◌}
 use mathlib.Core.Bool.{false≢true}
