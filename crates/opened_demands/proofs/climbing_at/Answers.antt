@@ -1,0 +1,20 @@
+-- `opened_demands::climbing_at` meets its contract, by what the opening's says.
+use mathlib.Core.Path.{ap}
+use Rattle.opened_demands.proofs.Outcomes.{as_there}
+use Rattle.opened_demands.proofs.AsRules.{at_place}
+use Rattle.opened_demands.proofs.SheetsClimb.{climbs_at_place}
+use Rattle.opened_demands.proofs.climbing_at.Goals as goal
+
+pub returns : goal.returns
+returns c =
+    let p = ap as_there c.open_flat_at.ensures.0 in
+    (λ z. climbs_at_place _ _ _ _ _ p z, at_place _ _ _ _ _ p)
+
+pub open_flat_at-requires : goal.open_flat_at-requires
+open_flat_at-requires c = tt
+
+pub shape_of-sheet : goal.shape_of-sheet
+shape_of-sheet c = c.open_flat_at.auto.sheet
+
+pub shape_of-edges : goal.shape_of-edges
+shape_of-edges c = c.open_flat_at.auto.edges

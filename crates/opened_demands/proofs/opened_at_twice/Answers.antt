@@ -1,0 +1,28 @@
+-- `opened_demands::opened_at_twice` meets its contract: both outcomes are what the opening's contract says, which is one.
+use mathlib.Core.Path.{ap}
+use Rattle.opened_demands.proofs.Outcomes.{as_there, opened_at_only, opened_at_fresh}
+use Rattle.opened_demands.proofs.opened_at_twice.Goals as goal
+
+pub returns : goal.returns
+returns c =
+    let p = ap as_there c.open_flat_at-first.ensures.0 in
+    let q = ap as_there c.open_flat_at-second.ensures.0 in
+    (λ h e. opened_at_only _ _ _ _ _ _ _ _ p q h e, λ fits k l. opened_at_fresh _ _ _ _ _ _ _ _ p q fits k l)
+
+pub open_flat_at-first-requires : goal.open_flat_at-first-requires
+open_flat_at-first-requires c = tt
+
+pub open_flat_at-second-requires : goal.open_flat_at-second-requires
+open_flat_at-second-requires c = tt
+
+pub shape_of-sheet : goal.shape_of-sheet
+shape_of-sheet c = c.open_flat_at-first.auto.sheet
+
+pub shape_of-edges : goal.shape_of-edges
+shape_of-edges c = c.open_flat_at-first.auto.edges
+
+pub shape_of-sheet2 : goal.shape_of-sheet2
+shape_of-sheet2 c = c.open_flat_at-second.auto.sheet
+
+pub shape_of-edges2 : goal.shape_of-edges2
+shape_of-edges2 c = c.open_flat_at-second.auto.edges
