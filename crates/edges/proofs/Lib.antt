@@ -1,5 +1,3 @@
-pub mod Pieces
-pub mod LocalArray
 pub mod Filled
 pub mod Records
 pub mod Promised

@@ -84,7 +84,7 @@ module _ (file : List ℕ) (n : ℕ) (tables seen sheet edges : List ℕ) (o : L
   over a h list v = left a v.tables v.seen h (flat_list list)
 
   pub by_number_lem : OpenedByNumber file n tables seen sheet edges o
-  by_number =
+  by_number_lem =
       record {
         wrong_size = λ other. p ∙ sym (ap as_left (unfit file n tables seen sheet edges (misfits_all tables seen sheet edges other)));
         too_long = λ s h. p ∙ sym (ap as_left (too_long file n tables seen sheet edges (fits_all tables seen sheet edges s) (long_misfits file h)));

@@ -8,7 +8,7 @@ use Rattle.opened_demands.proofs.climbing.Goals as goal
 pub returns : goal.returns
 returns c =
     let p = ap as_left c.open_flat.ensures.0 in
-    (λ z. climbs_by_number _ _ _ _ _ _ _ p z, by_number_lem _ _ _ _ _ _ _ p)
+    record { climbs = λ z. climbs_by_number _ _ _ _ _ _ _ p z; whole = by_number_lem _ _ _ _ _ _ _ p }
 
 pub open_flat-requires : goal.open_flat-requires
 open_flat-requires c = tt

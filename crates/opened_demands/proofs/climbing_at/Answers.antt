@@ -8,7 +8,7 @@ use Rattle.opened_demands.proofs.climbing_at.Goals as goal
 pub returns : goal.returns
 returns c =
     let p = ap as_there c.open_flat_at.ensures.0 in
-    (λ z. climbs_at_place _ _ _ _ _ p z, at_place _ _ _ _ _ p)
+    record { climbs = λ z. climbs_at_place _ _ _ _ _ p z; whole = at_place _ _ _ _ _ p }
 
 pub open_flat_at-requires : goal.open_flat_at-requires
 open_flat_at-requires c = tt

@@ -7,7 +7,7 @@ pub returns : goal.returns
 returns c =
     let p = ap as_there c.open_flat_at-first.ensures.0 in
     let q = ap as_there c.open_flat_at-second.ensures.0 in
-    (λ h e. opened_at_only _ _ _ _ _ _ _ _ p q h e, λ fits k l. opened_at_fresh _ _ _ _ _ _ _ _ p q fits k l)
+    record { only = λ h e. opened_at_only _ _ _ _ _ _ _ _ p q h e; fresh = λ fits k l. opened_at_fresh _ _ _ _ _ _ _ _ p q fits k l }
 
 pub open_flat_at-first-requires : goal.open_flat_at-first-requires
 open_flat_at-first-requires c = tt

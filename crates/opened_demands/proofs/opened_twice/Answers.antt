@@ -7,7 +7,7 @@ pub returns : goal.returns
 returns c =
     let p = ap as_left c.open_flat-first.ensures.0 in
     let q = ap as_left c.open_flat-second.ensures.0 in
-    (λ t s h e. opened_only _ _ _ _ _ _ _ _ _ _ _ _ p q t s h e, λ fits k l. opened_fresh _ _ _ _ _ _ _ _ _ _ _ _ p q fits k l)
+    record { only = λ t s h e. opened_only _ _ _ _ _ _ _ _ _ _ _ _ p q t s h e; fresh = λ fits k l. opened_fresh _ _ _ _ _ _ _ _ _ _ _ _ p q fits k l }
 
 pub open_flat-first-requires : goal.open_flat-first-requires
 open_flat-first-requires c = tt
