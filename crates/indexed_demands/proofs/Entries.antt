@@ -56,7 +56,7 @@ module _ (file : List ℕ) (n : ℕ) (fits : WithinLimit file) (tables seen shee
   Same entry there = SameThere entry (part (after_flat file n tables seen sheet edges)) there
 
   by_number_lem : part (after_flat file n tables seen sheet edges) ≡ numbers_there (opened_as its)
-  by_number = ap part (opened_flat tables seen sheet edges sized file n fits) ∙ part_opened (survey_of file) its
+  by_number_lem = ap part (opened_flat tables seen sheet edges sized file n fits) ∙ part_opened (survey_of file) its
 
   zero_given : (o : Option Sentence) → ((s : Sentence) × (o ≡ some s)) → (opened_as o).answer ≡ 0
   zero_given o g = ap (λ (x : Option Sentence). (opened_as x).answer) g.1

@@ -9,9 +9,7 @@ use mathlib.Core.List.{List, [], ◌∷◌, ◌++◌, append-nil, reverse}
 use lib.Dec.{eqb}
 use lib.ListN.{length, drop, replicate, length-replicate, length-drop, length-reverse, drop_of_length-le}
 use borrow.Author.Tests.{ne_eqb}
-use types.Run.{OneOf}
 use Rattle.columns.specs.declared.listing.Line as listing
-use denote.Enum.Declared.{tag_of}
 use Rattle.rules.specs.Lists.{pick}
 use Rattle.rules.specs.Numbers.{file_limit}
 use Rattle.rules.specs.Rules.{Rule, rule}
@@ -25,7 +23,6 @@ use Rattle.lines.specs.LineEnds.{first_line, line_end, line_refusal}
 use Rattle.lines.specs.NextLines.{line_end_of}
 use Rattle.lines.specs.declared.NextLine.{NextLine}
 use Rattle.lines.specs.declared.NextLine.TheVariants.{Line, Unended, Illegal, TooLong}
-use Rattle.lines.specs.contracts.NextLine.{the_type}
 use Rattle.lines.proofs.Lines.{unended_none}
 use Rattle.seen.proofs.SeenSets.{length_seen_set}
 use Rattle.table_sheet.proofs.OpenSheets.{sheet_given_up, count_of_table}
@@ -40,7 +37,6 @@ use Rattle.reading.proofs.Keeping.{Tied}
 use Rattle.reading.proofs.Begins.{length_begins}
 use Rattle.judging.proofs.Counts.{none_marked}
 use Rattle.judging.proofs.SameTaking.{sheet_length}
-use Rattle.lines.proofs.Variants.{not_among}
 use Rattle.lines.proofs.LineSteps.{line_read, line_here, illegal_step, long_step}
 
 -- the list of beginnings has this size, and tells of the numbers from one on

@@ -3,11 +3,8 @@
 use Prim.Native.Nat.{ℕ, suc, ◌+◌, ◌≤◌, ◌<◌}
 use native.Mathlib.Omega.{arith}
 use mathlib.Core.Path.{◌≡◌, refl, sym, ap, ◌∙◌, subst}
-use mathlib.Core.Logic.{inl, inr}
 use mathlib.Core.List.{List, [], ◌∷◌, ◌++◌}
 use lib.ListN.{length, drop}
-use types.Run.{OneOf}
-use denote.Enum.Declared.{tag_of}
 use Rattle.rules.specs.Bytes.{ignored}
 use Rattle.rules.specs.Texts.{Text}
 use Rattle.rules.specs.Numbers.{file_limit}
@@ -27,20 +24,17 @@ use Rattle.steps.specs.Steps.{step_for, step_of}
 use Rattle.steps.specs.declared.Fault.{Fault}
 use Rattle.steps.specs.declared.Step.{Step}
 use Rattle.steps.specs.declared.Step.TheVariants as steps
-use Rattle.steps.specs.contracts.Step.{the_type}
 use Rattle.reading.specs.Effects.{Kept, kept, effect, noted_by, plain_step, Applicable}
 use Rattle.judging.specs.Judging.{judged_by, Judgeable}
 use Rattle.judging.specs.States.{tally_in}
 use Rattle.judging.specs.PlainLines.{PlainBy}
 use Rattle.judging.specs.declared.plain.Plain.{Plain}
 use Rattle.judging.specs.declared.plain.Plain.TheVariants as plain
-use Rattle.judging.specs.contracts.plain.Plain as plains
 use Rattle.judging.specs.declared.state.State.{State}
 use Rattle.reading.specs.Closing.{reached_at, Walked}
 use Rattle.reading.proofs.Keeping.{kept_of, Tied}
 use Rattle.reading.proofs.Moving.{handing, Left, MovesBy, chosen, ignored_moves, line_moves}
 use Rattle.judging.proofs.SameTaking.{same_taking, judgeable}
-use Rattle.lines.proofs.Variants.{not_among}
 use Rattle.lines.proofs.LineSteps.{line_read, line_here, taken_step}
 use Rattle.reading.proofs.RowsSound.{rows_sound}
 use Rattle.reading.proofs.Going.{Going, stop_by}

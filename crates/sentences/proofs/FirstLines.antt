@@ -1,15 +1,13 @@
 -- The heading that stands at a place: there is none where no line can be read, or where it is no #BOS as that is written.
 use Prim.Native.Nat.{ℕ, suc, ◌+◌, ◌-◌, ◌≤◌, ◌<◌}
 use native.Mathlib.Omega.{arith}
-use mathlib.Core.Path.{◌≡◌, refl, sym, ap, ◌∙◌, subst}
+use mathlib.Core.Path.{◌≡◌, refl, sym, ap, ◌∙◌}
 use mathlib.Core.Bool.{Bool, true, false, ◌||◌, and-false}
 use mathlib.Core.Option.{Option, none, some}
 use mathlib.Core.List.{List, [], ◌∷◌}
 use lib.Dec.{leb}
 use lib.ListN.{length, drop, get_or, get_or-eq_default}
 use borrow.Author.Tests.{ne_eqb, le-leb, lt-leb, leb-true, leb-false}
-use types.Run.{OneOf}
-use denote.Enum.Declared.{tag_of}
 use Rattle.rules.specs.Lists.{pick, bytes, every, same}
 use Rattle.rules.specs.Bytes.{legal}
 use Rattle.rules.specs.Texts.{Text, reads}
@@ -24,16 +22,13 @@ use Rattle.rules.proofs.RuleLaws.{holds_of, granted_holds, passes}
 use Rattle.lines.specs.LineEnds.{ends, has_end, first_line, line_end}
 use Rattle.lines.specs.declared.LineEnd.{LineEnd}
 use Rattle.lines.specs.declared.LineEnd.TheVariants.{At, Unended, Illegal, TooLong}
-use Rattle.lines.specs.contracts.LineEnd as line-ends
 use Rattle.lines.proofs.Lines.{at_ended, at_legal, at_short, at_place, at_below, at_take, unended_none, illegal_ended, illegal_marred, long_ended, long_over}
-use Rattle.lines.proofs.Variants.{not_among}
 use Rattle.columns.specs.Listing.{text_between}
 use Rattle.columns.specs.Splices.{splice}
 use Rattle.steps.specs.Steps.{heading_said, step_of}
 use Rattle.steps.specs.declared.HeadingSaid.{HeadingSaid}
 use Rattle.steps.specs.declared.Step.{Step}
 use Rattle.steps.specs.declared.Step.TheVariants.{SentenceBegins}
-use Rattle.steps.specs.contracts.Step as step-kinds
 use Rattle.judging.specs.States.{first_tally}
 use Rattle.judging.specs.declared.state.Tally.{Tally}
 use Rattle.judging.proofs.Granted.{value_within}

@@ -7,8 +7,6 @@ use mathlib.Core.Bool.{true, false}
 use mathlib.Core.Option.{Option, none, some}
 use mathlib.Core.List.{List, [], ◌∷◌}
 use lib.ListN.{length, drop, replicate, length-replicate, drop_of_length-le}
-use types.Run.{OneOf}
-use denote.Enum.Declared.{tag_of}
 use Rattle.rules.specs.Numbers.{file_limit, edge_limit}
 use Rattle.rules.specs.Rules.{Rule, rule, Verdict, refused, granted}
 use Rattle.rules.specs.Tables.{no_tables}
@@ -23,10 +21,8 @@ use Rattle.lines.specs.LineEnds.{first_line, line_end}
 use Rattle.lines.specs.NextLines.{line_end_of}
 use Rattle.lines.specs.declared.NextLine.{NextLine}
 use Rattle.lines.specs.declared.NextLine.TheVariants.{Line, Unended, Illegal, TooLong}
-use Rattle.lines.specs.contracts.NextLine.{the_type}
 use Rattle.lines.proofs.Lines.{unended_none}
 use Rattle.lines.proofs.LineSteps.{line_read, illegal_step, long_step}
-use Rattle.lines.proofs.Variants.{not_among}
 use Rattle.table_sheet.proofs.OpenSheets.{none_have_room}
 use Rattle.table_sheet.proofs.Standing.{none_stand}
 use Rattle.sentence_sheet.specs.OpenSentences.{open_sentence, counts_place}

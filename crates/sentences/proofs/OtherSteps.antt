@@ -2,17 +2,14 @@
 use Prim.Native.Nat.{ℕ}
 use mathlib.Core.Path.{◌≡◌, refl, ap, ◌∙◌}
 use mathlib.Core.Bool.{true, false}
-use mathlib.Core.List.{List, [], ◌∷◌}
+use mathlib.Core.List.{List}
 use lib.ListN.{replicate}
-use types.Run.{OneOf}
-use denote.Enum.Declared.{tag_of}
 use Rattle.rules.specs.Bytes.{ignored}
 use Rattle.rules.specs.Texts.{Text}
 use Rattle.rules.specs.Tables.{Tables}
 use Rattle.rules.specs.Sheets.{table_count}
 use Rattle.rules.specs.Keywords.{first_column}
 use Rattle.rules.specs.Lines.{among_nodes}
-use Rattle.lines.proofs.Variants.{not_among}
 use Rattle.table_sheet.specs.SheetRows.{tables_in}
 use Rattle.citations.proofs.NoTables.{no_tables_lem}
 use Rattle.steps.specs.Steps.{step_of}

@@ -3,10 +3,8 @@
 use Prim.Native.Nat.{ℕ, ◌+◌}
 use mathlib.Core.Path.{◌≡◌, refl, sym, ap, ◌∙◌, subst}
 use mathlib.Core.Option.{Option, none, some}
-use mathlib.Core.List.{List, [], ◌∷◌}
+use mathlib.Core.List.{List, []}
 use lib.ListN.{length}
-use types.Run.{OneOf}
-use denote.Enum.Declared.{tag_of}
 use Rattle.rules.specs.Texts.{Text}
 use Rattle.rules.specs.Rules.{Verdict, refused, granted}
 use Rattle.rules.specs.Tables.{no_tables}
@@ -14,16 +12,13 @@ use Rattle.rules.specs.Sentences.{Sentence, so_far}
 use Rattle.rules.specs.Nodes.{word_of, phrase_of}
 use Rattle.rules.specs.Lines.{Taking, ignored_line, format_line, table_begins, row_line, table_ends, sentence_begins, word_line, phrase_line, sentence_ends}
 use Rattle.rules.specs.Phases.{Phase, in_sentence, taken}
-use Rattle.lines.proofs.Variants.{not_among}
 use Rattle.columns.specs.Listing as listing
 use Rattle.columns.specs.declared.listing.Line.{Line}
 use Rattle.steps.specs.Steps.{step_of}
 use Rattle.steps.specs.declared.Fault.{Fault}
 use Rattle.steps.specs.declared.Step.{Step}
 use Rattle.steps.specs.declared.Step.TheVariants as steps
-use Rattle.steps.specs.contracts.Step.{the_type}
 use Rattle.nodes.specs.NodeLines.{fields_of}
-use Rattle.judging.specs.States as states
 use Rattle.judging.specs.declared.state.Tally.{Tally}
 use Rattle.sentences.specs.Keeping.{taken_by, Stored, stored_by, Storable}
 use Rattle.sentences.proofs.NodeTakings.{bare, taken_same, Taken, node_taken}

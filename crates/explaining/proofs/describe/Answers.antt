@@ -3,9 +3,7 @@ use borrow.Author.Rules.{rules}
 use native.Mathlib.Omega.{arith}
 use Prim.Native.Nat.{ℕ, ◌+◌, ◌*◌, ◌≤◌, ◌<◌}
 use mathlib.Core.Path.{sym, subst, ◌∙◌}
-use mathlib.Core.List.{List}
 use lib.ListN.{length}
-use Rattle.rules.specs.Tables.{Row}
 use Rattle.table_sheet.specs.SheetRows.{rows_from}
 use Rattle.table_sheet.specs.LookUps.{TagFound}
 use Rattle.table_sheet.specs.declared.Found.TheVariants as found

@@ -1,5 +1,4 @@
 -- `explaining::explain` meets its contract: the part stands in the file or in the list, so the bytes there are the description's.
-use borrow.Author.Rules.{rules}
 use Rattle.explaining.proofs.Lent.{inside_list, list_part, inside_file, file_part}
 use Rattle.explaining.proofs.explain.Goals as goal
 

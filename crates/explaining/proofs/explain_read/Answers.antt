@@ -1,5 +1,4 @@
 -- `explaining::explain_read` meets its contract: each survey leaves its file's tables on the sheet, and what the file tells is kept.
-use borrow.Author.Rules.{rules}
 use native.Mathlib.Omega.{arith}
 use Prim.Native.Nat.{ℕ}
 use mathlib.Core.Path.{◌≡◌, sym, ap, ◌∙◌}

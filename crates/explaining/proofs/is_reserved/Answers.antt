@@ -1,5 +1,4 @@
 -- `explaining::is_reserved` meets its contract.
-use borrow.Author.Rules.{rules}
 use mathlib.Core.Path.{refl, sym, ◌∙◌}
 use Rattle.explaining.proofs.is_reserved.Goals as goal
 

@@ -1,5 +1,4 @@
 -- `opening::open_begun` meets its contract.
-use borrow.Author.Rules.{rules}
 use mathlib.Core.Path.{◌∙◌}
 use Rattle.opening.proofs.Opens.{not_begun, as_begun}
 use Rattle.opening.proofs.open_begun.Goals as goal

@@ -1,6 +1,6 @@
 -- `opening::open_flat` meets its contract.
 use borrow.Author.Rules.{rules}
-use borrow.Author.Tests.{not-true, not-false, lt-leb, le-leb}
+use borrow.Author.Tests.{lt-leb, le-leb}
 use mathlib.Core.Path.{◌≡◌, refl, sym, ◌∙◌}
 use mathlib.Core.Bool.{true, false}
 use lib.ListN.{length}
@@ -35,7 +35,7 @@ returns-then-file-gt-FILE_LIMIT c =
     let sheets-sized : sheets_fit c.args.tables.now c.args.seen.now ≡ true = sym c.sheets_fit.ensures ∙ c.if-not-sheets_fit.false in
     let sentence-sized : flat_fits c.args.sheet.now c.args.edges.now ≡ true = sym c.sentence_fits.ensures ∙ c.if-not-sentence_fits.false in
     let all-sized : all_flat_fit c.args.tables.now c.args.seen.now c.args.sheet.now c.args.edges.now ≡ true = let x = c.args in
-        sym (all_fit_lem x.tables.now x.seen.now x.sheet.now x.edges.now) ∙ rw (sheets-sized, sentence-sized) refl in
+    sym (all_fit_lem x.tables.now x.seen.now x.sheet.now x.edges.now) ∙ rw (sheets-sized, sentence-sized) refl in
     let x = c.args in (
       too_long x.file.now x.number x.tables.now x.seen.now x.sheet.now x.edges.now all-sized
           (lt-leb (length x.file.now) 268435456 c.if-file-gt-FILE_LIMIT.true),
@@ -61,7 +61,7 @@ returns c =
     let sheets-sized : sheets_fit c.args.tables.now c.args.seen.now ≡ true = sym c.sheets_fit.ensures ∙ c.if-not-sheets_fit.false in
     let sentence-sized : flat_fits c.args.sheet.now c.args.edges.now ≡ true = sym c.sentence_fits.ensures ∙ c.if-not-sentence_fits.false in
     let all-sized : all_flat_fit c.args.tables.now c.args.seen.now c.args.sheet.now c.args.edges.now ≡ true = let x = c.args in
-        sym (all_fit_lem x.tables.now x.seen.now x.sheet.now x.edges.now) ∙ rw (sheets-sized, sentence-sized) refl in
+    sym (all_fit_lem x.tables.now x.seen.now x.sheet.now x.edges.now) ∙ rw (sheets-sized, sentence-sized) refl in
     let x = c.args in (
       opened_by_number x.file.now x.number x.tables.now x.seen.now x.sheet.now x.edges.now _ _ _ _ _ _ _ _ all-sized
           (le-leb (length x.file.now) 268435456 c.if-file-gt-FILE_LIMIT.false) c.read_file.ensures refl c.open_begun.ensures,

@@ -1,5 +1,4 @@
 -- `opening::open_there` meets its contract.
-use borrow.Author.Rules.{rules}
 use mathlib.Core.Option.{Option}
 use Rattle.rules.specs.Sentences.{Sentence}
 use Rattle.rules.specs.SentenceFrom.{sentence_from}

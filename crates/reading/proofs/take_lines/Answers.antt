@@ -2,29 +2,25 @@
 -- of the open table's rows are noted. The measure is what is left of the file.
 use borrow.Author.Rules.{rules}
 use native.Mathlib.Omega.{arith}
-use Prim.Native.Nat.{ℕ, ◌+◌, ◌-◌, ◌≤◌}
+use Prim.Native.Nat.{ℕ, ◌+◌}
 use mathlib.Core.Path.{◌≡◌, refl, sym, ap, ◌∙◌}
-use mathlib.Core.List.{List, []}
+use mathlib.Core.List.{[]}
 use lib.ListN.{length, length-replicate}
-use Rattle.rules.specs.Numbers.{file_limit}
 use Rattle.rules.specs.Tables.{no_tables}
 use Rattle.seen.proofs.SeenSets.{length_seen_set}
 use Rattle.table_sheet.proofs.OpenSheets.{none_have_room, length_table_sheet}
 use Rattle.lines.proofs.FoundLines.{told_end, told_start, told_listed}
-use Rattle.columns.specs.declared.listing.Line as listing
-use Rattle.judging.specs.Judging.{RowsOutlined}
-use Rattle.reading.specs.Effects.{Kept, kept}
-use Rattle.reading.proofs.Going.{Going, going_start, sheet_size, seen_size, begins_size, begun_limit, stop_unread, stop_end}
+use Rattle.reading.specs.Effects.{kept}
+use Rattle.reading.proofs.Going.{going_start, sheet_size, seen_size, begins_size, begun_limit, stop_unread, stop_end}
 use Rattle.reading.proofs.Turning.{LineHere, onward, inside, ready, goes_on_noted, applies, stops, plainly}
 use Rattle.reading.proofs.RowOutlines.{tag_applies, no_row, stay_outlined, plainly_outlined}
 use Rattle.reading.proofs.take_lines.Goals as goal
 
 pub loop-at-init : goal.loop-at-init
-loop-at-init c =
-    (
-      going_start c.args.file.now c.args.from (length c.args.begins.now) _ _ _ _ _ c.first_state-s.ensures c.requires.2 c.requires.3 refl c.requires.4,
-      rw c.first_state-s.ensures (no_row _ c.args.file.now (length-replicate {A = ℕ} 7168 0)),
-    )
+loop-at-init c = (
+  going_start c.args.file.now c.args.from (length c.args.begins.now) _ _ _ _ _ c.first_state-s.ensures c.requires.2 c.requires.3 refl c.requires.4,
+  rw c.first_state-s.ensures (no_row _ c.args.file.now (length-replicate {A = ℕ} 7168 0)),
+)
 
 pub next_line-found-requires : goal.next_line-found-requires
 next_line-found-requires c = (c.loop-at.invariant.0.in_file, c.requires.0, c.requires.1)
@@ -43,41 +39,41 @@ returns-in_default c =
 pub plain_line-plain-requires : goal.plain_line-plain-requires
 plain_line-plain-requires c =
     let line-here : LineHere c.args.file.now c.args.from (length c.args.begins.now) c.loop-at.at (kept c.loop-at.s c.loop-at.sheet c.loop-at.seen c.loop-at.marks c.loop-at.begins) c.in-Line.line c.next_line-found.new.places = let told = c.next_line-found.ensures in
-        let is = c.in-Line.is in
-        record {
-          going = c.loop-at.invariant.0;
-          short = c.requires.1;
-          starts = told_start c.args.file.now c.loop-at.at _ _ told c.in-Line.line is;
-          ends = told_end c.args.file.now c.loop-at.at _ _ told c.in-Line.line is;
-          listed = told_listed c.args.file.now c.loop-at.at _ _ told c.in-Line.line is;
-        } in
+    let is = c.in-Line.is in
+    record {
+      going = c.loop-at.invariant.0;
+      short = c.requires.1;
+      starts = told_start c.args.file.now c.loop-at.at _ _ told c.in-Line.line is;
+      ends = told_end c.args.file.now c.loop-at.at _ _ told c.in-Line.line is;
+      listed = told_listed c.args.file.now c.loop-at.at _ _ told c.in-Line.line is;
+    } in
     let h = line-here in (h.listed, (_, ready h))
 
 -- an ordinary line is taken
 pub take_plain-s-requires : goal.take_plain-s-requires
 take_plain-s-requires c =
     let line-here : LineHere c.args.file.now c.args.from (length c.args.begins.now) c.loop-at.at (kept c.loop-at.s c.loop-at.sheet c.loop-at.seen c.loop-at.marks c.loop-at.begins) c.in-Line.line c.next_line-found.new.places = let told = c.next_line-found.ensures in
-        let is = c.in-Line.is in
-        record {
-          going = c.loop-at.invariant.0;
-          short = c.requires.1;
-          starts = told_start c.args.file.now c.loop-at.at _ _ told c.in-Line.line is;
-          ends = told_end c.args.file.now c.loop-at.at _ _ told c.in-Line.line is;
-          listed = told_listed c.args.file.now c.loop-at.at _ _ told c.in-Line.line is;
-        } in
+    let is = c.in-Line.is in
+    record {
+      going = c.loop-at.invariant.0;
+      short = c.requires.1;
+      starts = told_start c.args.file.now c.loop-at.at _ _ told c.in-Line.line is;
+      ends = told_end c.args.file.now c.loop-at.at _ _ told c.in-Line.line is;
+      listed = told_listed c.args.file.now c.loop-at.at _ _ told c.in-Line.line is;
+    } in
     (plainly line-here c.plain_line-plain.result (c.plain_line-plain.ensures _) c.in_default-plain.not-Other).0
 
 pub overflow_add-at : goal.overflow_add-at
 overflow_add-at c =
     let line-here : LineHere c.args.file.now c.args.from (length c.args.begins.now) c.loop-at.at (kept c.loop-at.s c.loop-at.sheet c.loop-at.seen c.loop-at.marks c.loop-at.begins) c.in-Line.line c.next_line-found.new.places = let told = c.next_line-found.ensures in
-        let is = c.in-Line.is in
-        record {
-          going = c.loop-at.invariant.0;
-          short = c.requires.1;
-          starts = told_start c.args.file.now c.loop-at.at _ _ told c.in-Line.line is;
-          ends = told_end c.args.file.now c.loop-at.at _ _ told c.in-Line.line is;
-          listed = told_listed c.args.file.now c.loop-at.at _ _ told c.in-Line.line is;
-        } in
+    let is = c.in-Line.is in
+    record {
+      going = c.loop-at.invariant.0;
+      short = c.requires.1;
+      starts = told_start c.args.file.now c.loop-at.at _ _ told c.in-Line.line is;
+      ends = told_end c.args.file.now c.loop-at.at _ _ told c.in-Line.line is;
+      listed = told_listed c.args.file.now c.loop-at.at _ _ told c.in-Line.line is;
+    } in
     let h = line-here in
     let b = inside h in
     let w = h.short in
@@ -86,27 +82,27 @@ overflow_add-at c =
 pub loop-at-smaller-in_default-plain : goal.loop-at-smaller-in_default-plain
 loop-at-smaller-in_default-plain c =
     let line-here : LineHere c.args.file.now c.args.from (length c.args.begins.now) c.loop-at.at (kept c.loop-at.s c.loop-at.sheet c.loop-at.seen c.loop-at.marks c.loop-at.begins) c.in-Line.line c.next_line-found.new.places = let told = c.next_line-found.ensures in
-        let is = c.in-Line.is in
-        record {
-          going = c.loop-at.invariant.0;
-          short = c.requires.1;
-          starts = told_start c.args.file.now c.loop-at.at _ _ told c.in-Line.line is;
-          ends = told_end c.args.file.now c.loop-at.at _ _ told c.in-Line.line is;
-          listed = told_listed c.args.file.now c.loop-at.at _ _ told c.in-Line.line is;
-        } in
+    let is = c.in-Line.is in
+    record {
+      going = c.loop-at.invariant.0;
+      short = c.requires.1;
+      starts = told_start c.args.file.now c.loop-at.at _ _ told c.in-Line.line is;
+      ends = told_end c.args.file.now c.loop-at.at _ _ told c.in-Line.line is;
+      listed = told_listed c.args.file.now c.loop-at.at _ _ told c.in-Line.line is;
+    } in
     let h = line-here in omega (arith, inside h, onward h)
 
 pub loop-at-preserved-in_default-plain : goal.loop-at-preserved-in_default-plain
 loop-at-preserved-in_default-plain c =
     let line-here : LineHere c.args.file.now c.args.from (length c.args.begins.now) c.loop-at.at (kept c.loop-at.s c.loop-at.sheet c.loop-at.seen c.loop-at.marks c.loop-at.begins) c.in-Line.line c.next_line-found.new.places = let told = c.next_line-found.ensures in
-        let is = c.in-Line.is in
-        record {
-          going = c.loop-at.invariant.0;
-          short = c.requires.1;
-          starts = told_start c.args.file.now c.loop-at.at _ _ told c.in-Line.line is;
-          ends = told_end c.args.file.now c.loop-at.at _ _ told c.in-Line.line is;
-          listed = told_listed c.args.file.now c.loop-at.at _ _ told c.in-Line.line is;
-        } in
+    let is = c.in-Line.is in
+    record {
+      going = c.loop-at.invariant.0;
+      short = c.requires.1;
+      starts = told_start c.args.file.now c.loop-at.at _ _ told c.in-Line.line is;
+      ends = told_end c.args.file.now c.loop-at.at _ _ told c.in-Line.line is;
+      listed = told_listed c.args.file.now c.loop-at.at _ _ told c.in-Line.line is;
+    } in
     let goes = plainly line-here c.plain_line-plain.result (c.plain_line-plain.ensures _) c.in_default-plain.not-Other in
     let e = c.take_plain-s.ensures c.args.from c.loop-at.at ((c.in-Line.line.end) + 1) (kept c.loop-at.s c.loop-at.sheet c.loop-at.seen c.loop-at.marks c.loop-at.begins).sheet (kept c.loop-at.s c.loop-at.sheet c.loop-at.seen c.loop-at.marks c.loop-at.begins).seen (kept c.loop-at.s c.loop-at.sheet c.loop-at.seen c.loop-at.marks c.loop-at.begins).begins in
     (goes.1 _ e, plainly_outlined c.loop-at.outlines c.args.file.now c.args.from c.loop-at.at ((c.in-Line.line.end) + 1) 0 (kept c.loop-at.s c.loop-at.sheet c.loop-at.seen c.loop-at.marks c.loop-at.begins) c.loop-at.invariant.1 c.plain_line-plain.result goes.0 _ e)
@@ -115,27 +111,27 @@ loop-at-preserved-in_default-plain c =
 pub judge-step-requires : goal.judge-step-requires
 judge-step-requires c =
     let line-here : LineHere c.args.file.now c.args.from (length c.args.begins.now) c.loop-at.at (kept c.loop-at.s c.loop-at.sheet c.loop-at.seen c.loop-at.marks c.loop-at.begins) c.in-Line.line c.next_line-found.new.places = let told = c.next_line-found.ensures in
-        let is = c.in-Line.is in
-        record {
-          going = c.loop-at.invariant.0;
-          short = c.requires.1;
-          starts = told_start c.args.file.now c.loop-at.at _ _ told c.in-Line.line is;
-          ends = told_end c.args.file.now c.loop-at.at _ _ told c.in-Line.line is;
-          listed = told_listed c.args.file.now c.loop-at.at _ _ told c.in-Line.line is;
-        } in
+    let is = c.in-Line.is in
+    record {
+      going = c.loop-at.invariant.0;
+      short = c.requires.1;
+      starts = told_start c.args.file.now c.loop-at.at _ _ told c.in-Line.line is;
+      ends = told_end c.args.file.now c.loop-at.at _ _ told c.in-Line.line is;
+      listed = told_listed c.args.file.now c.loop-at.at _ _ told c.in-Line.line is;
+    } in
     (c.requires.0, line-here.listed, ready line-here, c.loop-at.invariant.1)
 
 pub returns-in-Refused : goal.returns-in-Refused
 returns-in-Refused c =
     let line-here : LineHere c.args.file.now c.args.from (length c.args.begins.now) c.loop-at.at (kept c.loop-at.s c.loop-at.sheet c.loop-at.seen c.loop-at.marks c.loop-at.begins) c.in-Line.line c.next_line-found.new.places = let told = c.next_line-found.ensures in
-        let is = c.in-Line.is in
-        record {
-          going = c.loop-at.invariant.0;
-          short = c.requires.1;
-          starts = told_start c.args.file.now c.loop-at.at _ _ told c.in-Line.line is;
-          ends = told_end c.args.file.now c.loop-at.at _ _ told c.in-Line.line is;
-          listed = told_listed c.args.file.now c.loop-at.at _ _ told c.in-Line.line is;
-        } in
+    let is = c.in-Line.is in
+    record {
+      going = c.loop-at.invariant.0;
+      short = c.requires.1;
+      starts = told_start c.args.file.now c.loop-at.at _ _ told c.in-Line.line is;
+      ends = told_end c.args.file.now c.loop-at.at _ _ told c.in-Line.line is;
+      listed = told_listed c.args.file.now c.loop-at.at _ _ told c.in-Line.line is;
+    } in
     rw c.stop_at-in-Refused.ensures (stops line-here _ c.judge-step.ensures _ c.in-Refused.is)
 
 pub note_end-requires : goal.note_end-requires
@@ -144,40 +140,40 @@ note_end-requires c = begun_limit c.args.file.now c.args.from (length c.args.beg
 pub note_tag-requires : goal.note_tag-requires
 note_tag-requires c =
     let line-here : LineHere c.args.file.now c.args.from (length c.args.begins.now) c.loop-at.at (kept c.loop-at.s c.loop-at.sheet c.loop-at.seen c.loop-at.marks c.loop-at.begins) c.in-Line.line c.next_line-found.new.places = let told = c.next_line-found.ensures in
-        let is = c.in-Line.is in
-        record {
-          going = c.loop-at.invariant.0;
-          short = c.requires.1;
-          starts = told_start c.args.file.now c.loop-at.at _ _ told c.in-Line.line is;
-          ends = told_end c.args.file.now c.loop-at.at _ _ told c.in-Line.line is;
-          listed = told_listed c.args.file.now c.loop-at.at _ _ told c.in-Line.line is;
-        } in
+    let is = c.in-Line.is in
+    record {
+      going = c.loop-at.invariant.0;
+      short = c.requires.1;
+      starts = told_start c.args.file.now c.loop-at.at _ _ told c.in-Line.line is;
+      ends = told_end c.args.file.now c.loop-at.at _ _ told c.in-Line.line is;
+      listed = told_listed c.args.file.now c.loop-at.at _ _ told c.in-Line.line is;
+    } in
     tag_applies _ c.judge-step.result _ (applies line-here _ c.judge-step.ensures c.in_default-step.not-Refused).2
 
 pub apply-s-requires : goal.apply-s-requires
 apply-s-requires c =
     let line-here : LineHere c.args.file.now c.args.from (length c.args.begins.now) c.loop-at.at (kept c.loop-at.s c.loop-at.sheet c.loop-at.seen c.loop-at.marks c.loop-at.begins) c.in-Line.line c.next_line-found.new.places = let told = c.next_line-found.ensures in
-        let is = c.in-Line.is in
-        record {
-          going = c.loop-at.invariant.0;
-          short = c.requires.1;
-          starts = told_start c.args.file.now c.loop-at.at _ _ told c.in-Line.line is;
-          ends = told_end c.args.file.now c.loop-at.at _ _ told c.in-Line.line is;
-          listed = told_listed c.args.file.now c.loop-at.at _ _ told c.in-Line.line is;
-        } in
+    let is = c.in-Line.is in
+    record {
+      going = c.loop-at.invariant.0;
+      short = c.requires.1;
+      starts = told_start c.args.file.now c.loop-at.at _ _ told c.in-Line.line is;
+      ends = told_end c.args.file.now c.loop-at.at _ _ told c.in-Line.line is;
+      listed = told_listed c.args.file.now c.loop-at.at _ _ told c.in-Line.line is;
+    } in
     applies line-here _ c.judge-step.ensures c.in_default-step.not-Refused
 
 pub overflow_add-at-in-loop-at : goal.overflow_add-at-in-loop-at
 overflow_add-at-in-loop-at c =
     let line-here : LineHere c.args.file.now c.args.from (length c.args.begins.now) c.loop-at.at (kept c.loop-at.s c.loop-at.sheet c.loop-at.seen c.loop-at.marks c.loop-at.begins) c.in-Line.line c.next_line-found.new.places = let told = c.next_line-found.ensures in
-        let is = c.in-Line.is in
-        record {
-          going = c.loop-at.invariant.0;
-          short = c.requires.1;
-          starts = told_start c.args.file.now c.loop-at.at _ _ told c.in-Line.line is;
-          ends = told_end c.args.file.now c.loop-at.at _ _ told c.in-Line.line is;
-          listed = told_listed c.args.file.now c.loop-at.at _ _ told c.in-Line.line is;
-        } in
+    let is = c.in-Line.is in
+    record {
+      going = c.loop-at.invariant.0;
+      short = c.requires.1;
+      starts = told_start c.args.file.now c.loop-at.at _ _ told c.in-Line.line is;
+      ends = told_end c.args.file.now c.loop-at.at _ _ told c.in-Line.line is;
+      listed = told_listed c.args.file.now c.loop-at.at _ _ told c.in-Line.line is;
+    } in
     let h = line-here in
     let b = inside h in
     let w = h.short in
@@ -186,27 +182,27 @@ overflow_add-at-in-loop-at c =
 pub loop-at-smaller : goal.loop-at-smaller
 loop-at-smaller c =
     let line-here : LineHere c.args.file.now c.args.from (length c.args.begins.now) c.loop-at.at (kept c.loop-at.s c.loop-at.sheet c.loop-at.seen c.loop-at.marks c.loop-at.begins) c.in-Line.line c.next_line-found.new.places = let told = c.next_line-found.ensures in
-        let is = c.in-Line.is in
-        record {
-          going = c.loop-at.invariant.0;
-          short = c.requires.1;
-          starts = told_start c.args.file.now c.loop-at.at _ _ told c.in-Line.line is;
-          ends = told_end c.args.file.now c.loop-at.at _ _ told c.in-Line.line is;
-          listed = told_listed c.args.file.now c.loop-at.at _ _ told c.in-Line.line is;
-        } in
+    let is = c.in-Line.is in
+    record {
+      going = c.loop-at.invariant.0;
+      short = c.requires.1;
+      starts = told_start c.args.file.now c.loop-at.at _ _ told c.in-Line.line is;
+      ends = told_end c.args.file.now c.loop-at.at _ _ told c.in-Line.line is;
+      listed = told_listed c.args.file.now c.loop-at.at _ _ told c.in-Line.line is;
+    } in
     let h = line-here in omega (arith, inside h, onward h)
 
 pub loop-at-preserved : goal.loop-at-preserved
 loop-at-preserved c =
     let line-here : LineHere c.args.file.now c.args.from (length c.args.begins.now) c.loop-at.at (kept c.loop-at.s c.loop-at.sheet c.loop-at.seen c.loop-at.marks c.loop-at.begins) c.in-Line.line c.next_line-found.new.places = let told = c.next_line-found.ensures in
-        let is = c.in-Line.is in
-        record {
-          going = c.loop-at.invariant.0;
-          short = c.requires.1;
-          starts = told_start c.args.file.now c.loop-at.at _ _ told c.in-Line.line is;
-          ends = told_end c.args.file.now c.loop-at.at _ _ told c.in-Line.line is;
-          listed = told_listed c.args.file.now c.loop-at.at _ _ told c.in-Line.line is;
-        } in
+    let is = c.in-Line.is in
+    record {
+      going = c.loop-at.invariant.0;
+      short = c.requires.1;
+      starts = told_start c.args.file.now c.loop-at.at _ _ told c.in-Line.line is;
+      ends = told_end c.args.file.now c.loop-at.at _ _ told c.in-Line.line is;
+      listed = told_listed c.args.file.now c.loop-at.at _ _ told c.in-Line.line is;
+    } in
     let h = line-here in
     let o = c.in_default-step.not-Refused in (
       goes_on_noted h _ c.judge-step.ensures o _ _ _ _ _ c.note_end.ensures (c.apply-s.ensures.0 _ _),

@@ -1,11 +1,8 @@
 -- `sentences::read_into` meets its contract.
-use borrow.Author.Rules.{rules}
-use Prim.Native.Nat.{ℕ, ◌*◌}
-use mathlib.Core.Path.{◌≡◌, sym, ap, ◌∙◌}
+use Prim.Native.Nat.{◌*◌}
+use mathlib.Core.Path.{◌≡◌, sym, ◌∙◌}
 use mathlib.Core.Bool.{true}
-use mathlib.Core.List.{List}
-use lib.ListN.{length, replicate, length-replicate}
-use borrow.Author.Tests.{not-true, not-false}
+use lib.ListN.{length, replicate}
 use Rattle.rules.specs.Numbers.{edge_limit}
 use Rattle.rules.specs.Sheets.{sentence_sheet_size}
 use Rattle.rules.specs.SentenceFrom.{starts_line}
@@ -30,16 +27,15 @@ returns-in_default c =
     (nothing_begins c.args.file.now c.args.place _ _ (w.1 ∙ c.requires.2) c.requires.3 starts w.0, marked_further c.requires.5)
 
 pub take_nodes-whole-requires : goal.take_nodes-whole-requires
-take_nodes-whole-requires c =
-    (
-      c.requires.0,
-      c.requires.1,
-      headed_at c.args.file.now c.args.place _ _ _ c.begin-begun.ensures _ _ c.in-Behind.is (replicate sentence_sheet_size 0) c.requires.2,
-      c.begin-begun.auto.sheet ∙ as_long c.requires.2,
-      c.requires.3,
-      c.requires.4,
-      c.requires.5,
-    )
+take_nodes-whole-requires c = (
+  c.requires.0,
+  c.requires.1,
+  headed_at c.args.file.now c.args.place _ _ _ c.begin-begun.ensures _ _ c.in-Behind.is (replicate sentence_sheet_size 0) c.requires.2,
+  c.begin-begun.auto.sheet ∙ as_long c.requires.2,
+  c.requires.3,
+  c.requires.4,
+  c.requires.5,
+)
 
 pub returns-then-whole : goal.returns-then-whole
 returns-then-whole c =

@@ -2,23 +2,18 @@
 -- measure is what is left of the file.
 use borrow.Author.Rules.{rules}
 use native.Mathlib.Omega.{arith}
-use Prim.Native.Nat.{ℕ, ◌+◌, ◌-◌, ◌≤◌, ◌<◌}
-use mathlib.Core.Path.{◌≡◌, refl, sym, ap, ◌∙◌}
-use mathlib.Core.Option.{Option}
-use mathlib.Core.List.{List}
+use Prim.Native.Nat.{ℕ, ◌+◌, ◌≤◌, ◌<◌}
+use mathlib.Core.Path.{◌≡◌, sym, ap, ◌∙◌}
 use lib.ListN.{length, length-replicate}
 use Rattle.rules.specs.Bytes.{class_table}
-use Rattle.rules.specs.Numbers.{file_limit}
-use Rattle.rules.specs.Sentences.{Sentence}
 use Rattle.lines.specs.LineEnds.{line_end}
 use Rattle.lines.specs.declared.LineEnd.TheVariants.{At}
 use Rattle.lines.proofs.Lines.{at_behind, at_below}
 use Rattle.lines.proofs.FoundLines.{told_end, told_start, told_listed}
 use Rattle.columns.specs.Listing.{text_between}
-use Rattle.columns.specs.declared.listing.Line as listing
-use Rattle.sentences.specs.Keeping.{MarkedUpTo, Stored, stored}
+use Rattle.sentences.specs.Keeping.{MarkedUpTo, stored}
 use Rattle.sentences.specs.Beginnings.{begun_at}
-use Rattle.sentences.proofs.Gathering.{Gathering, gathering_start, none_gathered, none_at_end, none_unread, marks_left, countable, all_gathered}
+use Rattle.sentences.proofs.Gathering.{gathering_start, none_gathered, none_at_end, none_unread, marks_left, countable, all_gathered}
 use Rattle.sentences.proofs.Taking.{LineHere}
 use Rattle.sentences.proofs.Turning.{refused_none, ends_found, goes_on}
 use Rattle.sentences.proofs.take_nodes.Goals as goal
@@ -36,13 +31,13 @@ judge-step-requires c =
     let classes : c.args.classes.now ≡ class_table = c.requires.0 in
     let ends : line_end c.args.file.now c.loop-at.at ≡ At (c.in-Line.line.end) = told_end c.args.file.now c.loop-at.at _ _ c.next_of_sentence-found.ensures c.in-Line.line c.in-Line.is in
     let line-here : LineHere c.args.file.now (begun_at c.args.file.now c.args.first.start) c.args.handed c.loop-at.at (stored c.loop-at.t c.loop-at.sheet c.loop-at.edges c.loop-at.marks) (c.in-Line.line.end) c.in-Line.line c.next_of_sentence-found.new.places = let told = c.next_of_sentence-found.ensures in
-        record {
-          going = c.loop-at.invariant;
-          short = c.requires.1;
-          ends = ends;
-          is = ap (λ (n : ℕ). text_between c.args.file.now n (c.in-Line.line.end)) (told_start c.args.file.now c.loop-at.at _ _ told c.in-Line.line c.in-Line.is);
-          listed = told_listed c.args.file.now c.loop-at.at _ _ told c.in-Line.line c.in-Line.is;
-        } in
+    record {
+      going = c.loop-at.invariant;
+      short = c.requires.1;
+      ends = ends;
+      is = ap (λ (n : ℕ). text_between c.args.file.now n (c.in-Line.line.end)) (told_start c.args.file.now c.loop-at.at _ _ told c.in-Line.line c.in-Line.is);
+      listed = told_listed c.args.file.now c.loop-at.at _ _ told c.in-Line.line c.in-Line.is;
+    } in
     (classes, line-here.listed, countable c.args.file.now (begun_at c.args.file.now c.args.first.start) c.args.handed c.loop-at.at (stored c.loop-at.t c.loop-at.sheet c.loop-at.edges c.loop-at.marks) c.loop-at.invariant c.requires.1 c.requires.5)
 
 pub returns-in-Refused : goal.returns-in-Refused
@@ -50,13 +45,13 @@ returns-in-Refused c =
     let marks_stay : MarkedUpTo (c.args.handed + 1) (stored c.loop-at.t c.loop-at.sheet c.loop-at.edges c.loop-at.marks).marks = marks_left c.args.file.now (begun_at c.args.file.now c.args.first.start) c.args.handed c.loop-at.at (stored c.loop-at.t c.loop-at.sheet c.loop-at.edges c.loop-at.marks) c.loop-at.invariant in
     let ends : line_end c.args.file.now c.loop-at.at ≡ At (c.in-Line.line.end) = told_end c.args.file.now c.loop-at.at _ _ c.next_of_sentence-found.ensures c.in-Line.line c.in-Line.is in
     let line-here : LineHere c.args.file.now (begun_at c.args.file.now c.args.first.start) c.args.handed c.loop-at.at (stored c.loop-at.t c.loop-at.sheet c.loop-at.edges c.loop-at.marks) (c.in-Line.line.end) c.in-Line.line c.next_of_sentence-found.new.places = let told = c.next_of_sentence-found.ensures in
-        record {
-          going = c.loop-at.invariant;
-          short = c.requires.1;
-          ends = ends;
-          is = ap (λ (n : ℕ). text_between c.args.file.now n (c.in-Line.line.end)) (told_start c.args.file.now c.loop-at.at _ _ told c.in-Line.line c.in-Line.is);
-          listed = told_listed c.args.file.now c.loop-at.at _ _ told c.in-Line.line c.in-Line.is;
-        } in
+    record {
+      going = c.loop-at.invariant;
+      short = c.requires.1;
+      ends = ends;
+      is = ap (λ (n : ℕ). text_between c.args.file.now n (c.in-Line.line.end)) (told_start c.args.file.now c.loop-at.at _ _ told c.in-Line.line c.in-Line.is);
+      listed = told_listed c.args.file.now c.loop-at.at _ _ told c.in-Line.line c.in-Line.is;
+    } in
     (none_gathered _ _ (refused_none line-here _ c.judge-step.ensures _ c.in-Refused.is), marks_stay)
 
 pub put_counts-requires : goal.put_counts-requires
@@ -67,13 +62,13 @@ returns-in-SentenceEnds c =
     let marks_stay : MarkedUpTo (c.args.handed + 1) (stored c.loop-at.t c.loop-at.sheet c.loop-at.edges c.loop-at.marks).marks = marks_left c.args.file.now (begun_at c.args.file.now c.args.first.start) c.args.handed c.loop-at.at (stored c.loop-at.t c.loop-at.sheet c.loop-at.edges c.loop-at.marks) c.loop-at.invariant in
     let ends : line_end c.args.file.now c.loop-at.at ≡ At (c.in-Line.line.end) = told_end c.args.file.now c.loop-at.at _ _ c.next_of_sentence-found.ensures c.in-Line.line c.in-Line.is in
     let line-here : LineHere c.args.file.now (begun_at c.args.file.now c.args.first.start) c.args.handed c.loop-at.at (stored c.loop-at.t c.loop-at.sheet c.loop-at.edges c.loop-at.marks) (c.in-Line.line.end) c.in-Line.line c.next_of_sentence-found.new.places = let told = c.next_of_sentence-found.ensures in
-        record {
-          going = c.loop-at.invariant;
-          short = c.requires.1;
-          ends = ends;
-          is = ap (λ (n : ℕ). text_between c.args.file.now n (c.in-Line.line.end)) (told_start c.args.file.now c.loop-at.at _ _ told c.in-Line.line c.in-Line.is);
-          listed = told_listed c.args.file.now c.loop-at.at _ _ told c.in-Line.line c.in-Line.is;
-        } in
+    record {
+      going = c.loop-at.invariant;
+      short = c.requires.1;
+      ends = ends;
+      is = ap (λ (n : ℕ). text_between c.args.file.now n (c.in-Line.line.end)) (told_start c.args.file.now c.loop-at.at _ _ told c.in-Line.line c.in-Line.is);
+      listed = told_listed c.args.file.now c.loop-at.at _ _ told c.in-Line.line c.in-Line.is;
+    } in
     let found = ends_found line-here _ c.judge-step.ensures c.in-SentenceEnds.is in
     (all_gathered c.args.file.now (begun_at c.args.file.now c.args.first.start) c.args.handed c.loop-at.at (stored c.loop-at.t c.loop-at.sheet c.loop-at.edges c.loop-at.marks) line-here.going found _ c.put_counts.ensures, marks_stay)
 
@@ -82,13 +77,13 @@ keep-t-requires c =
     let classes : c.args.classes.now ≡ class_table = c.requires.0 in
     let ends : line_end c.args.file.now c.loop-at.at ≡ At (c.in-Line.line.end) = told_end c.args.file.now c.loop-at.at _ _ c.next_of_sentence-found.ensures c.in-Line.line c.in-Line.is in
     let line-here : LineHere c.args.file.now (begun_at c.args.file.now c.args.first.start) c.args.handed c.loop-at.at (stored c.loop-at.t c.loop-at.sheet c.loop-at.edges c.loop-at.marks) (c.in-Line.line.end) c.in-Line.line c.next_of_sentence-found.new.places = let told = c.next_of_sentence-found.ensures in
-        record {
-          going = c.loop-at.invariant;
-          short = c.requires.1;
-          ends = ends;
-          is = ap (λ (n : ℕ). text_between c.args.file.now n (c.in-Line.line.end)) (told_start c.args.file.now c.loop-at.at _ _ told c.in-Line.line c.in-Line.is);
-          listed = told_listed c.args.file.now c.loop-at.at _ _ told c.in-Line.line c.in-Line.is;
-        } in
+    record {
+      going = c.loop-at.invariant;
+      short = c.requires.1;
+      ends = ends;
+      is = ap (λ (n : ℕ). text_between c.args.file.now n (c.in-Line.line.end)) (told_start c.args.file.now c.loop-at.at _ _ told c.in-Line.line c.in-Line.is);
+      listed = told_listed c.args.file.now c.loop-at.at _ _ told c.in-Line.line c.in-Line.is;
+    } in
     (classes, c.requires.5, (goes_on line-here _ c.judge-step.ensures c.in_default-step.not-Refused c.in_default-step-2.not-SentenceEnds).0)
 
 pub overflow_add-at : goal.overflow_add-at
@@ -110,13 +105,13 @@ pub loop-at-preserved : goal.loop-at-preserved
 loop-at-preserved c =
     let ends : line_end c.args.file.now c.loop-at.at ≡ At (c.in-Line.line.end) = told_end c.args.file.now c.loop-at.at _ _ c.next_of_sentence-found.ensures c.in-Line.line c.in-Line.is in
     let line-here : LineHere c.args.file.now (begun_at c.args.file.now c.args.first.start) c.args.handed c.loop-at.at (stored c.loop-at.t c.loop-at.sheet c.loop-at.edges c.loop-at.marks) (c.in-Line.line.end) c.in-Line.line c.next_of_sentence-found.new.places = let told = c.next_of_sentence-found.ensures in
-        record {
-          going = c.loop-at.invariant;
-          short = c.requires.1;
-          ends = ends;
-          is = ap (λ (n : ℕ). text_between c.args.file.now n (c.in-Line.line.end)) (told_start c.args.file.now c.loop-at.at _ _ told c.in-Line.line c.in-Line.is);
-          listed = told_listed c.args.file.now c.loop-at.at _ _ told c.in-Line.line c.in-Line.is;
-        } in
+    record {
+      going = c.loop-at.invariant;
+      short = c.requires.1;
+      ends = ends;
+      is = ap (λ (n : ℕ). text_between c.args.file.now n (c.in-Line.line.end)) (told_start c.args.file.now c.loop-at.at _ _ told c.in-Line.line c.in-Line.is);
+      listed = told_listed c.args.file.now c.loop-at.at _ _ told c.in-Line.line c.in-Line.is;
+    } in
     (goes_on line-here _ c.judge-step.ensures c.in_default-step.not-Refused c.in_default-step-2.not-SentenceEnds).1 _ c.keep-t.ensures c.keep-t.auto.sheet
     c.keep-t.auto.edges
 

@@ -1,6 +1,5 @@
 -- `survey::index` meets its contract.
-use borrow.Author.Rules.{rules}
-use borrow.Author.Tests.{ne_eqb, not-true, not-false, lt-leb, le-leb}
+use borrow.Author.Tests.{ne_eqb, lt-leb, le-leb}
 use mathlib.Core.Path.{◌≡◌, refl, sym, ◌∙◌}
 use mathlib.Core.Bool.{true, false}
 use lib.ListN.{length}

@@ -88,57 +88,51 @@ returns-in-TableBegins c = (λ from begins. rw (c.in-TableBegins.is, c.moved.ens
 
 pub returns-in-Row : goal.returns-in-Row
 unfolding effect
-returns-in-Row c =
-    (
-      λ from begins. rw (c.in-Row.is, c.take_row.ensures.0, c.take_row.ensures.1),
-      c.take_row.ensures.2 ∙ rw c.in-Row.is refl,
-    )
+returns-in-Row c = (
+  λ from begins. rw (c.in-Row.is, c.take_row.ensures.0, c.take_row.ensures.1),
+  c.take_row.ensures.2 ∙ rw c.in-Row.is refl,
+)
 
 pub returns-in-TableEnds : goal.returns-in-TableEnds
 unfolding effect
-returns-in-TableEnds c =
-    (
-      λ from begins. rw (c.in-TableEnds.is, c.end_table.ensures.0, c.end_table.ensures.1),
-      rw c.in-TableEnds.is refl,
-    )
+returns-in-TableEnds c = (
+  λ from begins. rw (c.in-TableEnds.is, c.end_table.ensures.0, c.end_table.ensures.1),
+  rw c.in-TableEnds.is refl,
+)
 
 pub returns-in-SentenceBegins : goal.returns-in-SentenceBegins
 unfolding effect
-returns-in-SentenceBegins c =
-    (
+returns-in-SentenceBegins c = (
   λ from begins. rw (c.in-SentenceBegins.is, c.moved-in-SentenceBegins.ensures, c.first_tally-tally.ensures),
   rw c.in-SentenceBegins.is refl,
 )
 
 pub returns-in-Word : goal.returns-in-Word
 unfolding effect
-returns-in-Word c =
-    (
-      λ from begins. rw (c.in-Word.is, c.moved-in-Word.ensures, c.with_word.ensures, c.tally_in.ensures),
-      rw c.in-Word.is refl,
-    )
+returns-in-Word c = (
+  λ from begins. rw (c.in-Word.is, c.moved-in-Word.ensures, c.with_word.ensures, c.tally_in.ensures),
+  rw c.in-Word.is refl,
+)
 
 pub returns-in-Phrase : goal.returns-in-Phrase
 unfolding effect
-returns-in-Phrase c =
-    (
-      λ from begins. rw (
-        c.in-Phrase.is,
-        c.moved-in-Phrase.ensures,
-        c.with_phrase.ensures,
-        c.tally_in-in-Phrase.ensures,
-        c.mark.ensures,
-      ),
-      rw c.in-Phrase.is refl,
-    )
+returns-in-Phrase c = (
+  λ from begins. rw (
+    c.in-Phrase.is,
+    c.moved-in-Phrase.ensures,
+    c.with_phrase.ensures,
+    c.tally_in-in-Phrase.ensures,
+    c.mark.ensures,
+  ),
+  rw c.in-Phrase.is refl,
+)
 
 pub returns-in-SentenceEnds : goal.returns-in-SentenceEnds
 unfolding effect
-returns-in-SentenceEnds c =
-    (
-      λ from begins. rw (c.in-SentenceEnds.is, c.hand_out.ensures, c.add.ensures, c.tally_in-tally.ensures),
-      rw c.in-SentenceEnds.is refl,
-    )
+returns-in-SentenceEnds c = (
+  λ from begins. rw (c.in-SentenceEnds.is, c.hand_out.ensures, c.add.ensures, c.tally_in-tally.ensures),
+  rw c.in-SentenceEnds.is refl,
+)
 
 pub returns-in-Refused : goal.returns-in-Refused
 unfolding effect

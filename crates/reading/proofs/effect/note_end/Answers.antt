@@ -1,15 +1,11 @@
 -- `reading::effect::note_end` meets its contract.
-use borrow.Author.Rules.{rules}
 use Prim.Native.Nat.{ℕ}
 use mathlib.Core.Path.{◌≡◌, refl}
-use mathlib.Core.List.{List, [], ◌∷◌}
-use denote.Enum.Declared.{tag_of}
+use mathlib.Core.List.{List}
 use Rattle.steps.specs.declared.Step.{Step}
 use Rattle.steps.specs.declared.Step.TheVariants.{Ignored, Format, TableBegins, Row, TableEnds, SentenceBegins, Word, Phrase, SentenceEnds, Refused}
-use Rattle.steps.specs.contracts.Step.{the_type}
 use Rattle.judging.specs.declared.state.State.{State}
 use Rattle.reading.specs.Effects.{effect, noted_by}
-use Rattle.lines.proofs.Variants.{not_among}
 use Rattle.reading.proofs.effect.note_end.Goals as goal
 
 none_noted : (from : ℕ) (y : Step) (s : State) (begins : List ℕ) → (y ≡ SentenceEnds → ⊥) → begins ≡ noted_by from y s begins

@@ -3,19 +3,16 @@ use borrow.Author.Rules.{rules}
 use native.Mathlib.Nat.{add-sub_cancel_left}
 use Prim.Native.Nat.{ℕ, ◌+◌, ◌≤◌, ◌<◌}
 use mathlib.Core.Path.{◌≡◌, refl, ap₂, ◌∙◌}
-use mathlib.Core.List.{List, [], ◌∷◌}
+use mathlib.Core.List.{List}
 use lib.ListN.{length, take, drop}
-use denote.Enum.Declared.{tag_of}
 use Rattle.rules.specs.Sheets.{table_count}
 use Rattle.table_sheet.specs.Outlines.{with_outline}
 use Rattle.steps.specs.declared.Step.{Step}
 use Rattle.steps.specs.declared.RowSaid.{RowSaid}
 use Rattle.steps.specs.declared.Step.TheVariants.{Ignored, Format, TableBegins, Row, TableEnds, SentenceBegins, Word, Phrase, SentenceEnds, Refused}
-use Rattle.steps.specs.contracts.Step.{the_type}
 use Rattle.judging.specs.States.{table_open}
 use Rattle.judging.specs.declared.state.State.{State}
 use Rattle.reading.specs.NotedTags.{outlines_by}
-use Rattle.lines.proofs.Variants.{not_among}
 use Rattle.reading.proofs.effect.note_tag.Goals as goal
 
 none_noted : (y : Step) (s : State) (file outlines : List ℕ) → ((r : RowSaid) → y ≡ Row r → ⊥) → outlines ≡ outlines_by y s file outlines

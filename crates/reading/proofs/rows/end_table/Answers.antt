@@ -1,5 +1,4 @@
 -- `reading::rows::end_table` meets its contract.
-use borrow.Author.Rules.{rules}
 use mathlib.Core.Path.{refl}
 use Rattle.reading.proofs.rows.end_table.Goals as goal
 

@@ -1,5 +1,4 @@
 -- `reading::rows::put_row` meets its contract: the row's numbers are put, then a tag's row is noted.
-use borrow.Author.Rules.{rules}
 use borrow.Author.Tests.{lt-ltb, le-ltb}
 use native.Mathlib.Omega.{arith}
 use Prim.Native.Nat.{ℕ, ◌+◌, ◌-◌, ◌≤◌, ◌<◌}
@@ -25,14 +24,14 @@ module _ (row : RowSaid) (table rows : ℕ) (file sheet hints : List ℕ) where
 pub returns-then-table-lt-WORD_TAGS : goal.returns-then-table-lt-WORD_TAGS
 returns-then-table-lt-WORD_TAGS c =
     let put : let a = c.args in c.put.new.sheet ≡ splice (row_place a.table a.rows) (six_of a.row) a.sheet.now = let a = c.args in
-        c.put.ensures ∙ ap (λ (place : ℕ). splice place (six_of a.row) a.sheet.now) c.row_place.ensures in
+    c.put.ensures ∙ ap (λ (place : ℕ). splice place (six_of a.row) a.sheet.now) c.row_place.ensures in
     let a = c.args in
     (put, unhinted a.row a.table a.rows a.file.now c.put.new.sheet a.hints.now c.if-table-lt-WORD_TAGS.true)
 
 pub returns : goal.returns
 returns c =
     let put : let a = c.args in c.put.new.sheet ≡ splice (row_place a.table a.rows) (six_of a.row) a.sheet.now = let a = c.args in
-        c.put.ensures ∙ ap (λ (place : ℕ). splice place (six_of a.row) a.sheet.now) c.row_place.ensures in
+    c.put.ensures ∙ ap (λ (place : ℕ). splice place (six_of a.row) a.sheet.now) c.row_place.ensures in
     let a = c.args in
     let start = a.row.first.start in
     let len = a.row.first.len in

@@ -1,5 +1,4 @@
 -- `reading::rows::take_row` meets its contract.
-use borrow.Author.Rules.{rules}
 use Prim.Native.Nat.{ℕ}
 use mathlib.Core.Path.{refl, ap₂, ◌∙◌}
 use Rattle.reading.specs.NotedTags.{hints_with}

@@ -1,11 +1,9 @@
 -- `sentences::beginning::begin` meets its contract: one law for each way out.
 use borrow.Author.Rules.{rules}
 use native.Mathlib.Omega.{arith}
-use Prim.Native.Nat.{ℕ, ◌≤◌, ◌<◌}
+use Prim.Native.Nat.{◌≤◌, ◌<◌}
 use mathlib.Core.Path.{◌≡◌, refl, sym, ap, ◌∙◌}
-use mathlib.Core.List.{List}
 use lib.ListN.{length}
-use borrow.Author.Tests.{not-true, not-false}
 use Rattle.rules.specs.Bytes.{class_table}
 use Rattle.rules.specs.Numbers.{file_limit}
 use Rattle.rules.specs.Texts.{Text}

@@ -1,5 +1,4 @@
 -- `sentences::beginning::starts_line` meets its contract.
-use borrow.Author.Rules.{rules}
 use mathlib.Core.Path.{sym}
 use borrow.Author.Tests.{eq-eqb, ne_eqb}
 use Rattle.sentences.proofs.FirstLines.{start_none}

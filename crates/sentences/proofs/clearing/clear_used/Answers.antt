@@ -1,6 +1,4 @@
 -- `sentences::clearing::clear_used` meets its contract.
-use borrow.Author.Rules.{rules}
-use mathlib.Core.Path.{◌≡◌, ◌∙◌}
 use Rattle.sentences.proofs.Unused.{sheet_cleared, edges_cleared}
 use Rattle.sentences.proofs.clearing.clear_used.Goals as goal
 

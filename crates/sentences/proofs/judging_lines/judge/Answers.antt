@@ -1,6 +1,5 @@
 -- `sentences::judging_lines::judge` meets its contract: what the quick way takes, it takes for what the judge would; seven
 -- zeros are no tables. No loop.
-use borrow.Author.Rules.{rules}
 use native.Mathlib.Omega.{arith}
 use mathlib.Core.Path.{ap, ◌∙◌}
 use Rattle.columns.specs.declared.listing.Span.{Span}

@@ -1,5 +1,4 @@
 -- `sentences::judging_lines::judge_fully` meets its contract: seven zeros are no tables.
-use borrow.Author.Rules.{rules}
 use mathlib.Core.Path.{sym, ◌∙◌}
 use Rattle.columns.specs.Listing.{line_of}
 use Rattle.citations.proofs.NoTables.{no_tables_lem}

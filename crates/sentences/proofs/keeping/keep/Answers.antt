@@ -12,14 +12,14 @@ pub put_node-requires : goal.put_node-requires
 put_node-requires c =
     let entry : Stored = let a = c.args in stored a.t a.sheet.now a.edges.now a.marks.now in
     let needs-of : (x : Step) → c.args.step ≡ x → Storable c.args.file.now c.args.line c.args.places.now x entry = λ x e. let a = c.args in
-        subst (λ (y : Step). Storable a.file.now a.line a.places.now y entry) e c.requires.2 in
+    subst (λ (y : Step). Storable a.file.now a.line a.places.now y entry) e c.requires.2 in
     (c.requires.0, (needs-of _ c.in-Word.is).0)
 
 pub with_word-requires : goal.with_word-requires
 with_word-requires c =
     let entry : Stored = let a = c.args in stored a.t a.sheet.now a.edges.now a.marks.now in
     let needs-of : (x : Step) → c.args.step ≡ x → Storable c.args.file.now c.args.line c.args.places.now x entry = λ x e. let a = c.args in
-        subst (λ (y : Step). Storable a.file.now a.line a.places.now y entry) e c.requires.2 in
+    subst (λ (y : Step). Storable a.file.now a.line a.places.now y entry) e c.requires.2 in
     let q = needs-of _ c.in-Word.is in
     (q.1, omega (arith, q.0.few))
 
@@ -27,7 +27,7 @@ pub put_node-requires-in-Phrase : goal.put_node-requires-in-Phrase
 put_node-requires-in-Phrase c =
     let entry : Stored = let a = c.args in stored a.t a.sheet.now a.edges.now a.marks.now in
     let needs-of : (x : Step) → c.args.step ≡ x → Storable c.args.file.now c.args.line c.args.places.now x entry = λ x e. let a = c.args in
-        subst (λ (y : Step). Storable a.file.now a.line a.places.now y entry) e c.requires.2 in
+    subst (λ (y : Step). Storable a.file.now a.line a.places.now y entry) e c.requires.2 in
     (c.requires.0, (needs-of _ c.in-Phrase.is).0)
 
 pub overflow_add-handed : goal.overflow_add-handed
@@ -39,7 +39,7 @@ pub mark-requires : goal.mark-requires
 mark-requires c =
     let entry : Stored = let a = c.args in stored a.t a.sheet.now a.edges.now a.marks.now in
     let needs-of : (x : Step) → c.args.step ≡ x → Storable c.args.file.now c.args.line c.args.places.now x entry = λ x e. let a = c.args in
-        subst (λ (y : Step). Storable a.file.now a.line a.places.now y entry) e c.requires.2 in
+    subst (λ (y : Step). Storable a.file.now a.line a.places.now y entry) e c.requires.2 in
     let q = needs-of _ c.in-Phrase.is in
     (q.2, omega (arith, q.0.number))
 
@@ -47,7 +47,7 @@ pub with_phrase-requires : goal.with_phrase-requires
 with_phrase-requires c =
     let entry : Stored = let a = c.args in stored a.t a.sheet.now a.edges.now a.marks.now in
     let needs-of : (x : Step) → c.args.step ≡ x → Storable c.args.file.now c.args.line c.args.places.now x entry = λ x e. let a = c.args in
-        subst (λ (y : Step). Storable a.file.now a.line a.places.now y entry) e c.requires.2 in
+    subst (λ (y : Step). Storable a.file.now a.line a.places.now y entry) e c.requires.2 in
     let q = needs-of _ c.in-Phrase.is in
     (q.1, omega (arith, q.0.few))
 

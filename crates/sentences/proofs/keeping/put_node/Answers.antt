@@ -1,5 +1,4 @@
 -- `sentences::keeping::put_node` meets its contract: the record, then the pairs.
-use borrow.Author.Rules.{rules}
 use native.Mathlib.Omega.{arith}
 use mathlib.Core.Path.{ap, ◌∙◌}
 use Rattle.rules.specs.Sheets.{field_place}

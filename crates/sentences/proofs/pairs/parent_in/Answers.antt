@@ -1,5 +1,4 @@
 -- `sentences::pairs::parent_in` meets its contract: a number that is read is the column's, and where none is it is 0.
-use borrow.Author.Rules.{rules}
 use mathlib.Core.Path.{sym, ap, ◌∙◌}
 use Rattle.rules.specs.Numbers.{phrase_number, number, value}
 use Rattle.numbers.proofs.Told.{good_value, bad_tells}

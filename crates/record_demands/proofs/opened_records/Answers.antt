@@ -1,0 +1,6 @@
+-- What is promised of the call is what the rules say of it, told of the list of records.
+use Rattle.record_demands.proofs.AsTold.{opened_as_told}
+use Rattle.record_demands.proofs.opened_records.Goals as goal
+
+pub returns : goal.returns
+returns c = opened_as_told _ _ _ _ _ _ _ _ _ _ _ c.open_sentence.ensures
