@@ -17,7 +17,7 @@ shape_of-seen c = c.survey-answer.auto.seen
 pub returns : goal.returns
 returns c =
     let call : Surveying = let a = c.args in
-        surveying a.file.now a.sheet.now a.seen.now c.survey-answer.result c.survey-answer.new.sheet c.survey-answer.new.seen in
+    surveying a.file.now a.sheet.now a.seen.now c.survey-answer.result c.survey-answer.new.sheet c.survey-answer.new.seen in
     let met : Promised call = c.survey-answer.ensures in
     let refusal = c.survey-answer.result.refusal in
     record {

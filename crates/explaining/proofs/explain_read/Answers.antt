@@ -12,7 +12,7 @@ use Rattle.explaining.proofs.explain_read.Goals as goal
 pub returns-then-first-ne0 : goal.returns-then-first-ne0
 returns-then-first-ne0 c =
     let left : Left c.args.file.now c.survey-first.result c.survey-first.new.sheet c.survey-first.new.seen = surveyed c.args.file.now c.args.sheet.now c.args.seen.now c.survey-first.result c.survey-first.new.sheet c.survey-first.new.seen
-        c.requires.0 c.requires.1 c.survey-first.auto.sheet c.survey-first.auto.seen c.survey-first.ensures in
+    c.requires.0 c.requires.1 c.survey-first.auto.sheet c.survey-first.auto.seen c.survey-first.ensures in
     let x = c.args in
     file_refused x.file.now x.list.now x.table x.tag.now _ (λ z. c.if-first-ne0.true (left.refusal ∙ z))
     (c.refused.ensures ∙ ap (λ (n : ℕ). as_explained (refused_by n)) left.refusal)
@@ -20,21 +20,21 @@ returns-then-first-ne0 c =
 pub tag_count-own-requires : goal.tag_count-own-requires
 tag_count-own-requires c =
     let left : Left c.args.file.now c.survey-first.result c.survey-first.new.sheet c.survey-first.new.seen = surveyed c.args.file.now c.args.sheet.now c.args.seen.now c.survey-first.result c.survey-first.new.sheet c.survey-first.new.seen
-        c.requires.0 c.requires.1 c.survey-first.auto.sheet c.survey-first.auto.seen c.survey-first.ensures in
+    c.requires.0 c.requires.1 c.survey-first.auto.sheet c.survey-first.auto.seen c.survey-first.ensures in
     omega (arith, (fitting c.survey-first.new.sheet c.survey-first.new.seen left.fits).0)
 
 pub look_up-told-requires : goal.look_up-told-requires
 look_up-told-requires c =
     let left : Left c.args.file.now c.survey-first.result c.survey-first.new.sheet c.survey-first.new.seen = surveyed c.args.file.now c.args.sheet.now c.args.seen.now c.survey-first.result c.survey-first.new.sheet c.survey-first.new.seen
-        c.requires.0 c.requires.1 c.survey-first.auto.sheet c.survey-first.auto.seen c.survey-first.ensures in
+    c.requires.0 c.requires.1 c.survey-first.auto.sheet c.survey-first.auto.seen c.survey-first.ensures in
     telling c.args.file.now c.survey-first.result _ _ left
 
 pub returns-then-second-ne0 : goal.returns-then-second-ne0
 returns-then-second-ne0 c =
     let left : Left c.args.file.now c.survey-first.result c.survey-first.new.sheet c.survey-first.new.seen = surveyed c.args.file.now c.args.sheet.now c.args.seen.now c.survey-first.result c.survey-first.new.sheet c.survey-first.new.seen
-        c.requires.0 c.requires.1 c.survey-first.auto.sheet c.survey-first.auto.seen c.survey-first.ensures in
+    c.requires.0 c.requires.1 c.survey-first.auto.sheet c.survey-first.auto.seen c.survey-first.ensures in
     let then-left : Left c.args.list.now c.survey-second.result c.survey-second.new.sheet c.survey-second.new.seen = surveyed c.args.list.now c.survey-first.new.sheet c.survey-first.new.seen c.survey-second.result c.survey-second.new.sheet c.survey-second.new.seen
-        left.fits c.requires.2 c.survey-second.auto.sheet c.survey-second.auto.seen c.survey-second.ensures in
+    left.fits c.requires.2 c.survey-second.auto.sheet c.survey-second.auto.seen c.survey-second.ensures in
     let accepted : (survey_of c.args.file.now).refusal ≡ 0 = sym left.refusal ∙ c.if-first-ne0.false in
     let x = c.args in
     list_refused x.file.now x.list.now x.table x.tag.now _ accepted
@@ -43,9 +43,9 @@ returns-then-second-ne0 c =
 pub returns-then-own-ne0 : goal.returns-then-own-ne0
 returns-then-own-ne0 c =
     let left : Left c.args.file.now c.survey-first.result c.survey-first.new.sheet c.survey-first.new.seen = surveyed c.args.file.now c.args.sheet.now c.args.seen.now c.survey-first.result c.survey-first.new.sheet c.survey-first.new.seen
-        c.requires.0 c.requires.1 c.survey-first.auto.sheet c.survey-first.auto.seen c.survey-first.ensures in
+    c.requires.0 c.requires.1 c.survey-first.auto.sheet c.survey-first.auto.seen c.survey-first.ensures in
     let then-left : Left c.args.list.now c.survey-second.result c.survey-second.new.sheet c.survey-second.new.seen = surveyed c.args.list.now c.survey-first.new.sheet c.survey-first.new.seen c.survey-second.result c.survey-second.new.sheet c.survey-second.new.seen
-        left.fits c.requires.2 c.survey-second.auto.sheet c.survey-second.auto.seen c.survey-second.ensures in
+    left.fits c.requires.2 c.survey-second.auto.sheet c.survey-second.auto.seen c.survey-second.ensures in
     let accepted : (survey_of c.args.file.now).refusal ≡ 0 = sym left.refusal ∙ c.if-first-ne0.false in
     let both : (survey_of c.args.list.now).refusal ≡ 0 = sym then-left.refusal ∙ c.if-second-ne0.false in
     let x = c.args in
@@ -56,9 +56,9 @@ returns-then-own-ne0 c =
 pub look_up-requires : goal.look_up-requires
 look_up-requires c =
     let left : Left c.args.file.now c.survey-first.result c.survey-first.new.sheet c.survey-first.new.seen = surveyed c.args.file.now c.args.sheet.now c.args.seen.now c.survey-first.result c.survey-first.new.sheet c.survey-first.new.seen
-        c.requires.0 c.requires.1 c.survey-first.auto.sheet c.survey-first.auto.seen c.survey-first.ensures in
+    c.requires.0 c.requires.1 c.survey-first.auto.sheet c.survey-first.auto.seen c.survey-first.ensures in
     let then-left : Left c.args.list.now c.survey-second.result c.survey-second.new.sheet c.survey-second.new.seen = surveyed c.args.list.now c.survey-first.new.sheet c.survey-first.new.seen c.survey-second.result c.survey-second.new.sheet c.survey-second.new.seen
-        left.fits c.requires.2 c.survey-second.auto.sheet c.survey-second.auto.seen c.survey-second.ensures in
+    left.fits c.requires.2 c.survey-second.auto.sheet c.survey-second.auto.seen c.survey-second.ensures in
     telling c.args.list.now c.survey-second.result _ _ then-left
 
 pub shape_of-sheet : goal.shape_of-sheet
@@ -70,9 +70,9 @@ shape_of-seen c = c.survey-second.auto.seen ∙ c.survey-first.auto.seen
 pub returns : goal.returns
 returns c =
     let left : Left c.args.file.now c.survey-first.result c.survey-first.new.sheet c.survey-first.new.seen = surveyed c.args.file.now c.args.sheet.now c.args.seen.now c.survey-first.result c.survey-first.new.sheet c.survey-first.new.seen
-        c.requires.0 c.requires.1 c.survey-first.auto.sheet c.survey-first.auto.seen c.survey-first.ensures in
+    c.requires.0 c.requires.1 c.survey-first.auto.sheet c.survey-first.auto.seen c.survey-first.ensures in
     let then-left : Left c.args.list.now c.survey-second.result c.survey-second.new.sheet c.survey-second.new.seen = surveyed c.args.list.now c.survey-first.new.sheet c.survey-first.new.seen c.survey-second.result c.survey-second.new.sheet c.survey-second.new.seen
-        left.fits c.requires.2 c.survey-second.auto.sheet c.survey-second.auto.seen c.survey-second.ensures in
+    left.fits c.requires.2 c.survey-second.auto.sheet c.survey-second.auto.seen c.survey-second.ensures in
     let accepted : (survey_of c.args.file.now).refusal ≡ 0 = sym left.refusal ∙ c.if-first-ne0.false in
     let both : (survey_of c.args.list.now).refusal ≡ 0 = sym then-left.refusal ∙ c.if-second-ne0.false in
     let x = c.args in

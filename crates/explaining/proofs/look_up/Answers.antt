@@ -49,7 +49,7 @@ describe-requires c =
     let at_count : c.tag_count-count.result ≡ get_or c.args.sheet.now (c.args.table - 1) 0 = count-is ∙ its_count c.args.file.now c.args.sheet.now c.args.table there in
     let some-rows : get_or c.args.sheet.now (c.args.table - 1) 0 ≡ 0 → ⊥ = λ z. c.if-count-eq0.false (at_count ∙ z) in
     let as_called : (P : ℕ → ℕ → Type 0) → P (row_place (c.args.table - 1) 0) (get_or c.args.sheet.now (c.args.table - 1) 0 - 1) → P c.row_place-place.result (c.tag_count-count.result - 1) = λ P p. subst (λ (at : ℕ). P at (c.tag_count-count.result - 1)) (sym c.row_place-place.ensures)
-        (subst (λ (k : ℕ). P (row_place (c.args.table - 1) 0) (k - 1)) (sym at_count) p) in
+    (subst (λ (k : ℕ). P (row_place (c.args.table - 1) 0) (k - 1)) (sym at_count) p) in
     let f = c.args.file.now in
     let t = c.args.sheet.now in (
       as_called (λ (at rows : ℕ). at + row_width * rows ≤ length t) (rows_in_sheet f t (c.args.table - 1) below c.requires.tabled.counted some-rows),

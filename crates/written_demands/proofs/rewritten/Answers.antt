@@ -11,7 +11,7 @@ pub returns : goal.returns
 returns c =
     let p = ap as_text c.write_flat-written.ensures in
     let q = c.cut-again.ensures.whole in
-    (λ z sized. read_back _ _ _ _ _ _ _ p z _ q refl sized, (λ ne. output_as_lent _ _ _ _ _ _ _ p ne, (as_called _ _ _ _ _ _ _ p, q)))
+    record { back = λ z sized. read_back _ _ _ _ _ _ _ p z _ q refl sized; refused = λ ne. output_as_lent _ _ _ _ _ _ _ p ne; whole = as_called _ _ _ _ _ _ _ p; again = q }
 
 pub write_flat-written-requires : goal.write_flat-written-requires
 write_flat-written-requires c = tt
