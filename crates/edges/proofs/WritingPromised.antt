@@ -1,6 +1,6 @@
 -- What the writing answers and leaves behind with a list of records, by what it does with one of plain numbers. No file within the
 -- limit is refused by 1 or 2, so then the whole list is filled.
-use mathlib.Core.Path.{◌≡◌, refl, sym, ap, ◌∙◌}
+use mathlib.Core.Path.{◌≡◌, refl, ap, ◌∙◌}
 use mathlib.Core.Logic.{◌≢◌}
 use Prim.Native.Nat.{ℕ, ◌≤◌}
 use native.Mathlib.Omega.{arith}

@@ -2,7 +2,7 @@
 // record of it.
 #![tactic(auto)]
 
-ghost use Rattle.std.specs.Prelude.{◌≡◌, true, IsOk};
+ghost use Rattle.std.specs.Prelude.{◌≡◌, true};
 ghost use Rattle.rules.specs.Opening.{after_opening, after_opening_at, no_edges};
 ghost use Rattle.rules.specs.Writing.{after_writing};
 ghost use Rattle.list_owner.specs.Promise.{outcome, first_parent_of, outcome_at, first_parent_at, outcome_of, length_of};
@@ -66,35 +66,31 @@ fn tidy_length(
     written.length
 }
 
-// A value that is not what is proved of it.
-#[derive(Debug, Drop)]
-struct Unexpected;
-
-// It is proved that what is expected holds. A machine on which it doesn't ends the run with a failure.
-fn expect(ok: bool) -> Result<(), Unexpected>
+// It is proved that what is expected holds. A machine on which it doesn't divides by zero.
+fn expect(ok: bool)
     requires { ok ≡ true }
-    ensures { IsOk result }
 {
-    if ok { Ok(()) } else { Err(Unexpected) }
+    let holds = if ok { 1u32 } else { 0 };
+    let _ = 1 / holds;
 }
 
 // In this file the word Ja has one secondary edge, to the phrase 501.
-fn main() -> Result<(), Unexpected> {
+fn main() {
     let file =
         b"#FORMAT 3\n#BOT ORIGIN\n1 lab\n#EOT ORIGIN\n#BOT EDITOR\n2 kim Kim\n#EOT EDITOR\n#BOS 7 2 0 1\nJa ITJ -- -- 500 SB 501\n#500 S -- -- 501\n#501 S -- -- 0\n#EOS 7\n";
     let mut tables = [0u32; 10759];
     let mut seen = [0u8; 8192];
     let mut sheet = [0u32; 11009];
     let parent = first_secondary_parent(file, 7, &mut tables, &mut seen, &mut sheet);
-    expect(parent == 501)?;
+    expect(parent == 501);
     let mut sheet2 = [0u32; 11009];
     let there = first_parent_at(file, 74, &mut sheet2);
-    expect(there == 501)?;
+    expect(there == 501);
     let mut tables3 = [0u32; 10759];
     let mut seen3 = [0u8; 8192];
     let mut sheet3 = [0u32; 11009];
     let mut output = [0u8; 256];
     let length = tidy_length(file, &mut output, &mut tables3, &mut seen3, &mut sheet3);
-    expect(length == 150)?;
-    expect(output[23] == 9)
+    expect(length == 150);
+    expect(output[23] == 9);
 }

@@ -18,7 +18,7 @@ use Rattle.rules.specs.Survey.{SurveyOutcome, survey_of, sheets_fit}
 use Rattle.rules.specs.SentenceFrom.{sentence_from}
 use Rattle.rules.specs.Opening.{after_opening_at}
 use Rattle.rules.specs.Layout.{zero_record, flat_list}
-use Rattle.rules.specs.LentBuffers.{WithinLimit, OpeningRule}
+use Rattle.rules.specs.LentBuffers.{OpeningRule}
 use Rattle.rules.specs.IndexRules.{SentenceSized, OpeningAtRule}
 use Rattle.rules.proofs.Conjunctions.{and_left, and_right, false_if_never}
 use Rattle.rules.proofs.Sizes.{sheets_fit_lem, fit_sheets, long_misfits, wrong_sizes}

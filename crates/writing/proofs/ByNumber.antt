@@ -6,7 +6,7 @@ use mathlib.Core.Path.{◌≡◌, refl, sym, ap, ap₂, ◌∙◌}
 use mathlib.Core.Bool.{Bool, true, false}
 use mathlib.Core.List.{List, [], ◌∷◌, ◌++◌, map}
 use lib.Dec.{leb, eqb}
-use borrow.Author.Tests.{leb-false, eq-eqb, ne_eqb, eqb-true, eqb-false}
+use borrow.Author.Tests.{leb-false, ne_eqb, eqb-true, eqb-false}
 use Rattle.rules.specs.Lists.{pick, joined, counting, inserted, sorted, Each}
 use Rattle.rules.proofs.EachElement.{each_then}
 use Rattle.rules.proofs.Sorting.{Distinct, Rising, all_sorted, rising_sorted}

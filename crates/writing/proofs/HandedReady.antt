@@ -1,10 +1,10 @@
 -- Every sentence that the index of a file finds is ready to be read, printed and cleared: its words are numbered from 0 and its
 -- phrases from 500 without a gap, so the rest of its sheet is zero.
-use Prim.Native.Nat.{ℕ, zero, suc, ◌+◌, ◌*◌, ◌≤◌, ◌<◌}
+use Prim.Native.Nat.{ℕ, zero, suc, ◌+◌, ◌≤◌, ◌<◌}
 use native.Mathlib.Omega.{arith}
-use mathlib.Core.Path.{◌≡◌, refl, sym, ap, ◌∙◌, subst}
+use mathlib.Core.Path.{◌≡◌, refl, sym, ap, ◌∙◌}
 use mathlib.Core.Logic.{◌⊎◌, inl, inr}
-use mathlib.Core.Bool.{Bool, true, false, ◌||◌}
+use mathlib.Core.Bool.{Bool, true, false}
 use mathlib.Core.Option.{some}
 use mathlib.Core.List.{List, [], ◌∷◌, map}
 use lib.ListN.{length, get_or}
@@ -12,7 +12,7 @@ use lib.Dec.{eqb}
 use borrow.Author.Tests.{ne_eqb}
 use Rattle.rules.specs.Lists.{pick, member, counting, sorted, Each}
 use Rattle.rules.specs.Numbers.{edge_limit}
-use Rattle.rules.specs.Sentences.{Node, Sentence, edge_count, edges_of, listed}
+use Rattle.rules.specs.Sentences.{Node, Sentence, edge_count, listed}
 use Rattle.rules.specs.Reading.{Handed}
 use Rattle.rules.specs.SheetFields.{edges_place, node_room}
 use Rattle.rules.specs.Sheets.{nodes, sentence_sheet}
@@ -29,14 +29,14 @@ use Rattle.rules.proofs.SentencesKept.{edges_append}
 use Rattle.rules.proofs.FieldsOnSheet.{no_field}
 use Rattle.rules.proofs.LaidOut.{laid_out}
 use Rattle.rules.proofs.FromThere.{from_there}
-use Rattle.sentence_sheet.specs.FlatEdges.{edge_width, edges_among, flat_edges}
+use Rattle.sentence_sheet.specs.FlatEdges.{edges_among, flat_edges}
 use Rattle.sentences.specs.UsedRoom.{Unused, UsedOnly}
 use Rattle.sentences.proofs.Growing.{listed_apart, flat_behind}
 use Rattle.sentence_text.specs.Printable.{Printable}
 use Rattle.sentence_text.proofs.EdgesReadBack.{length_flat}
 use Rattle.sentence_text.proofs.HandedPrintable.{handed_printable}
 use Rattle.writing.specs.TextParts.{sentence_long}
-use Rattle.writing.specs.Ready.{ReadyToPrint, Found, Entry}
+use Rattle.writing.specs.Ready.{ReadyToPrint, Entry}
 use Rattle.writing.proofs.TextLengths.{handed_short}
 
 -- ---- numbers that no node has

@@ -1,14 +1,14 @@
 -- No sentence handed out is printed with more than 1,002 lines, and no line is longer than the limit: of any file.
-use Prim.Native.Nat.{ℕ, suc, ◌+◌, ◌*◌, ◌≤◌}
+use Prim.Native.Nat.{ℕ, ◌*◌, ◌≤◌}
 use native.Mathlib.Omega.{arith}
-use mathlib.Core.Path.{◌≡◌, refl, sym, ap, ◌∙◌, subst}
+use mathlib.Core.Path.{◌≡◌, refl, sym, ◌∙◌, subst}
 use mathlib.Core.Bool.{false}
 use mathlib.Core.List.{List, [], ◌∷◌, ◌++◌, map}
 use lib.ListN.{length, length-append, length-map}
 use Rattle.rules.specs.Lists.{bytes, joined, sorted, Each}
 use Rattle.rules.specs.Bytes.{newline, ignored}
 use Rattle.rules.specs.Tables.{Tables}
-use Rattle.rules.specs.Sentences.{Node, Heading, Sentence}
+use Rattle.rules.specs.Sentences.{Node, Sentence}
 use Rattle.rules.specs.Reading.{Handed}
 use Rattle.rules.specs.Survey.{Survey, survey_of}
 use Rattle.rules.specs.Meaning.{bare_node, node_number, meant_tables, meant_sentence}

@@ -1,11 +1,11 @@
 -- What a writing answers and leaves in the lent buffers, for each way out: a wrong size, a file too long, one that is refused,
 -- and one whose text is known.
-use Prim.Native.Nat.{ℕ, ◌+◌, ◌≤◌, ◌<◌}
+use Prim.Native.Nat.{ℕ, ◌≤◌, ◌<◌}
 use native.Mathlib.Nat.{zero-add}
 use native.Mathlib.Omega.{arith}
-use mathlib.Core.Path.{◌≡◌, refl, sym, ap, ap₂, ◌∙◌, subst}
+use mathlib.Core.Path.{◌≡◌, refl, sym, ap, ap₂, ◌∙◌}
 use mathlib.Core.Bool.{Bool, true, false, ◌&&◌}
-use mathlib.Core.List.{List, [], ◌++◌}
+use mathlib.Core.List.{List, ◌++◌}
 use lib.ListN.{length, drop, replicate}
 use lib.Dec.{leb, eqb}
 use borrow.Author.Tests.{eqb-true, eq-eqb, ne_eqb, le-leb, lt-leb}
@@ -17,7 +17,7 @@ use Rattle.rules.specs.Survey.{survey_of, sheets_fit, file_fits}
 use Rattle.rules.specs.Writing as rules
 use Rattle.rules.specs.Layout.{flat_list}
 use Rattle.rules.proofs.Conjunctions.{and_both, and_left, and_right}
-use Rattle.printing.specs.Over.{over, Put}
+use Rattle.printing.specs.Over.{Put}
 use Rattle.printing.proofs.OverLaws.{over_fits}
 use Rattle.opening.specs.FlatLists.{edge_records, flat_size}
 use Rattle.opening.specs.Promise.{all_flat_fit}

@@ -1,7 +1,5 @@
 -- `edges::fill` meets its contract: behind the last turn as many records as the count are filled.
 use Rattle.std.proofs.Common.{◌≡◌, ap, ◌∙◌, arith}
-use mathlib.Core.List.{List}
-use Rattle.edges.specs.declared.Edge.{Edge}
 use Rattle.edges.proofs.Filled.{filled, filled_from}
 use Rattle.edges.proofs.fill.Goals as goal
 

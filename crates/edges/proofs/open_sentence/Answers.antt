@@ -8,11 +8,10 @@ pub returns-then-edges-ne512 : goal.returns-then-edges-ne512
 returns-then-edges-ne512 c = other_length_open_sentence _ _ _ _ _ c.args.edges.now c.if-edges-ne512.true
 
 pub fill-requires : goal.fill-requires
-fill-requires c =
-    (
-      filled_within _ c.open_numbers-answer.result _ c.records_filled-count.ensures c.if-edges-ne512.false,
-      few_filled _ c.open_numbers-answer.result c.records_filled-count.ensures,
-    )
+fill-requires c = (
+  filled_within _ c.open_numbers-answer.result _ c.records_filled-count.ensures c.if-edges-ne512.false,
+  few_filled _ c.open_numbers-answer.result c.records_filled-count.ensures,
+)
 
 pub returns : goal.returns
 returns c =

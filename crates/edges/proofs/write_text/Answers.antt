@@ -8,11 +8,10 @@ pub returns-then-edges-ne512 : goal.returns-then-edges-ne512
 returns-then-edges-ne512 c = other_length_write_text _ _ _ _ _ c.args.edges.now c.if-edges-ne512.true
 
 pub fill-requires : goal.fill-requires
-fill-requires c =
-    (
-      filled_within _ c.write_numbers-answer.result.refusal _ c.records_filled-count.ensures c.if-edges-ne512.false,
-      few_filled _ c.write_numbers-answer.result.refusal c.records_filled-count.ensures,
-    )
+fill-requires c = (
+  filled_within _ c.write_numbers-answer.result.refusal _ c.records_filled-count.ensures c.if-edges-ne512.false,
+  few_filled _ c.write_numbers-answer.result.refusal c.records_filled-count.ensures,
+)
 
 pub returns : goal.returns
 returns c =

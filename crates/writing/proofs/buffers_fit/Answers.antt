@@ -1,6 +1,4 @@
 -- `writing::buffers_fit` meets its contract: one test after the other.
-use borrow.Author.Rules.{rules}
-use borrow.Author.Tests.{not-true, not-false}
 use mathlib.Core.Path.{◌≡◌, sym, ap, ◌∙◌}
 use mathlib.Core.Bool.{Bool, false, ◌&&◌}
 use Rattle.opening.specs.Promise.{flat_fits}

@@ -1,5 +1,4 @@
 -- `writing::print_file` meets its contract: three texts, one behind the other.
-use borrow.Author.Rules.{rules}
 use native.Mathlib.Omega.{arith}
 use Rattle.writing.proofs.ReadFiles.{parts_put}
 use Rattle.writing.proofs.print_file.Goals as goal
@@ -8,15 +7,14 @@ pub print_tables-tabled-requires : goal.print_tables-tabled-requires
 print_tables-tabled-requires c = (c.requires.1, omega (arith, c.put_text-headed.ensures.place))
 
 pub print_sentences-requires : goal.print_sentences-requires
-print_sentences-requires c =
-    (
-      c.requires.0,
-      c.requires.2,
-      c.requires.3,
-      c.requires.4,
-      c.requires.5,
-      omega (arith, c.put_text-headed.ensures.place, c.print_tables-tabled.ensures.place, c.print_tables-tabled.ensures.within),
-    )
+print_sentences-requires c = (
+  c.requires.0,
+  c.requires.2,
+  c.requires.3,
+  c.requires.4,
+  c.requires.5,
+  omega (arith, c.put_text-headed.ensures.place, c.print_tables-tabled.ensures.place, c.print_tables-tabled.ensures.within),
+)
 
 pub returns : goal.returns
 returns c =

@@ -1,5 +1,4 @@
 -- `writing::write_measured` meets its contract: no room in the output, none below the limit, or written.
-use borrow.Author.Rules.{rules}
 use mathlib.Core.Path.{refl}
 use Rattle.writing.proofs.WaysOut.{too_short, too_large, granted}
 use Rattle.writing.proofs.write_measured.Goals as goal

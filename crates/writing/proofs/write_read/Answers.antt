@@ -1,5 +1,4 @@
 -- `writing::write_read` meets its contract: a text that could lack room is measured, any other is written at once.
-use borrow.Author.Rules.{rules}
 use native.Mathlib.Omega.{arith}
 use mathlib.Core.Path.{refl}
 use Rattle.writing.proofs.WaysOut.{granted}

@@ -1,5 +1,4 @@
 -- `writing::found::print_begun` meets its contract: nothing is printed where no sentence begins, else what is read there.
-use borrow.Author.Rules.{rules}
 use native.Mathlib.Omega.{arith}
 use Prim.Native.Nat.{◌<◌}
 use Rattle.sentences.proofs.StampedMarks.{marked_further}
@@ -24,8 +23,7 @@ clear_used-requires c =
 
 pub returns : goal.returns
 returns c =
-    let given : 0 < c.args.begin = omega (arith, c.if-begin-eq0.false) in
-    (
+    let given : 0 < c.args.begin = omega (arith, c.if-begin-eq0.false) in (
       found_put c.args.file.now c.args.begin c.requires.2 given _ _ _ c.read_into.ensures.0 _ _ _ _ c.print_sentence-end.ensures.0,
       c.clear_used.ensures.0,
       c.clear_used.ensures.1,

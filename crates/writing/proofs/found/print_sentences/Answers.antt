@@ -2,24 +2,21 @@
 -- between two of them sheet, list and first edges are zero, and no mark is larger than the number of the next.
 use borrow.Author.Rules.{rules}
 use native.Mathlib.Omega.{arith}
-use Prim.Native.Nat.{ℕ, ◌+◌, ◌-◌, ◌*◌, ◌≤◌}
+use Prim.Native.Nat.{ℕ, ◌*◌}
 use mathlib.Core.Path.{◌≡◌, refl, sym, ap, ◌∙◌}
 use mathlib.Core.List.{List}
-use lib.ListN.{length, replicate, take, length-replicate}
+use lib.ListN.{length, replicate, length-replicate}
 use Rattle.rules.specs.Numbers.{edge_limit}
 use Rattle.rules.specs.SheetFields.{node_room}
 use Rattle.rules.specs.Sheets.{sentence_sheet_size}
 use Rattle.rules.proofs.Rooms.{each_at}
 use Rattle.sentence_sheet.specs.FlatEdges.{edge_width}
-use Rattle.sentences.specs.Keeping.{MarkedUpTo}
 use Rattle.sentences.proofs.StampedMarks.{zeros_marked}
-use Rattle.printing.specs.Over.{Put}
 use Rattle.printing.proofs.PutLaws.{put_length}
-use Rattle.writing.specs.TextParts.{sentences_text, sentence_long, sentences_most}
+use Rattle.writing.specs.TextParts.{sentences_most}
 use Rattle.writing.specs.Ready.{Entry}
 use Rattle.writing.proofs.FoundTexts.{all_start, all_more, all_put}
 use Rattle.writing.proofs.found.print_sentences.Goals as goal
-use Rattle.writing.proofs.found.print_sentences.Invariants.{Going}
 
 zeros_long : (n : ℕ) (xs ys : List ℕ) → xs ≡ replicate n 0 → ys ≡ replicate n 0 → length xs ≡ length ys
 zeros_long n xs ys a b = ap length (a ∙ sym b)

@@ -1,23 +1,16 @@
 -- `writing::found::print_sentences` meets its contract: the texts of the first numbers are put one behind the other, and
 -- between two of them sheet, list and first edges are zero, and no mark is larger than the number of the next.
-use borrow.Author.Rules.{rules}
-use native.Mathlib.Omega.{arith}
-use Prim.Native.Nat.{ℕ, ◌+◌, ◌-◌, ◌*◌, ◌≤◌}
-use mathlib.Core.Path.{◌≡◌, refl, sym, ap, ◌∙◌}
+use Prim.Native.Nat.{ℕ, ◌-◌, ◌*◌, ◌≤◌}
+use mathlib.Core.Path.{◌≡◌}
 use mathlib.Core.List.{List}
-use lib.ListN.{length, replicate, take, length-replicate}
+use lib.ListN.{length, replicate, take}
 use Rattle.rules.specs.Numbers.{edge_limit}
 use Rattle.rules.specs.SheetFields.{node_room}
 use Rattle.rules.specs.Sheets.{sentence_sheet_size}
-use Rattle.rules.proofs.Rooms.{each_at}
 use Rattle.sentence_sheet.specs.FlatEdges.{edge_width}
 use Rattle.sentences.specs.Keeping.{MarkedUpTo}
-use Rattle.sentences.proofs.StampedMarks.{zeros_marked}
 use Rattle.printing.specs.Over.{Put}
-use Rattle.printing.proofs.PutLaws.{put_length}
-use Rattle.writing.specs.TextParts.{sentences_text, sentence_long, sentences_most}
-use Rattle.writing.specs.Ready.{Entry}
-use Rattle.writing.proofs.FoundTexts.{all_start, all_more, all_put}
+use Rattle.writing.specs.TextParts.{sentences_text, sentence_long}
 use Rattle.writing.proofs.found.print_sentences.Given as goal
 
 -- so many numbers are printed
