@@ -2,10 +2,9 @@
 -- stands in a file by its place or as its bytes: the theorems over the rules, one for each way out.
 use Prim.Native.Nat.{ℕ}
 use native.Mathlib.Omega.{arith}
-use mathlib.Core.Path.{◌≡◌, refl, sym, ap, subst, ◌∙◌}
+use mathlib.Core.Path.{◌≡◌, sym, ap, subst, ◌∙◌}
 use mathlib.Core.Logic.{◌≢◌}
 use mathlib.Core.List.{List, []}
-use lib.ListN.{length}
 use Rattle.rules.specs.Texts.{Text, no_text}
 use Rattle.rules.specs.Survey.{survey_of}
 use Rattle.rules.specs.Places.{LiesIn}
