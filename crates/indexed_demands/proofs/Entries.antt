@@ -20,7 +20,7 @@ use Rattle.rules.specs.LentBuffers.{WithinLimit}
 use Rattle.rules.specs.IndexRules.{IndexSized}
 use Rattle.rules.proofs.Sizes.{sheets_fit_lem, within_fits}
 use Rattle.rules.proofs.AtIndex.{at_index, not_at_index, begun_found, entry_is}
-use Rattle.opened_demands.specs.Calls.{FlatSized, AllFlatSized, Left, LeftThere, left_there, nothing}
+use Rattle.opened_demands.specs.Calls.{FlatSized, AllFlatSized, Left, LeftThere, left_there}
 use Rattle.opened_demands.specs.OpenedRules.{OpenedAtPlace}
 use Rattle.opened_demands.proofs.Outcomes.{after_flat, numbers_there, part, opened_flat, part_opened, nothing_flat}
 use Rattle.indexed_demands.specs.Entries.{OpenedAtEntry, SameThere}

@@ -1,5 +1,5 @@
 -- What the owner of the list has after an opening and after a writing, by what they promise.
-use mathlib.Core.Path.{◌≡◌, refl, ap, subst, ◌∙◌}
+use mathlib.Core.Path.{◌≡◌, refl, ap, ◌∙◌}
 use Prim.Native.Nat.{ℕ, zero, suc}
 use mathlib.Core.List.{List, [], ◌∷◌, map}
 use lib.ListN.{get_or, replicate}

@@ -2,9 +2,9 @@
 -- was written otherwise. By the tests of a writing, one after the other.
 use Prim.Native.Nat.{ℕ, ◌≤◌}
 use native.Mathlib.Omega.{arith}
-use mathlib.Core.Path.{◌≡◌, sym}
+use mathlib.Core.Path.{sym}
 use mathlib.Core.Bool.{Bool, true, false, ◌&&◌}
-use mathlib.Core.List.{List, ◌++◌}
+use mathlib.Core.List.{List}
 use lib.ListN.{length, drop, length-append}
 use lib.Dec.{leb, eqb}
 use lib.Seq.{length-take-le}

@@ -24,7 +24,7 @@ use Rattle.rules.proofs.Sizes.{wrong_sizes}
 use Rattle.rules.proofs.OpenedExactly.{opened_exactly}
 use Rattle.rules.proofs.OpenedThere.{opened_at_exactly}
 use Rattle.opening.proofs.Flattened.{flat_none}
-use Rattle.opened_demands.specs.Calls.{FlatSized, AllFlatSized, Left, left, LeftThere, left_there}
+use Rattle.opened_demands.specs.Calls.{FlatSized, AllFlatSized, Left, left, left_there}
 use Rattle.opened_demands.specs.OpenedRules.{OpenedByNumber, OpenedAtPlace}
 use Rattle.opened_demands.proofs.Outcomes.{numbers_of, numbers_there}
 use Rattle.edges.specs.declared.Edge.{Edge}

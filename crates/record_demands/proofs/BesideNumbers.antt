@@ -1,6 +1,6 @@
 -- With records lent the openings leave what those with plain numbers leave, if these were lent the records' numbers: from both
 -- contracts, by whether the list has its size.
-use Prim.Native.Nat.{ℕ, ◌*◌}
+use Prim.Native.Nat.{ℕ}
 use native.Mathlib.Omega.{arith}
 use mathlib.Core.Path.{◌≡◌, refl, sym, ap, ◌∙◌}
 use mathlib.Core.Bool.{Bool, true, false}

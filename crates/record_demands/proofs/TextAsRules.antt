@@ -2,7 +2,6 @@
 -- size of the list.
 use Prim.Native.Nat.{ℕ, ◌≤◌}
 use mathlib.Core.Path.{◌≡◌, sym, ap, ◌∙◌, subst}
-use mathlib.Core.Logic.{◌↔◌}
 use mathlib.Core.List.{List}
 use lib.ListN.{length}
 use Rattle.rules.specs.Numbers.{edge_limit}
@@ -11,7 +10,7 @@ use Rattle.rules.specs.Survey.{SurveyOutcome, survey_of}
 use Rattle.rules.specs.Writing.{WritingOutcome, after_writing}
 use Rattle.rules.specs.Writing as rules
 use Rattle.rules.specs.Layout.{flat_list}
-use Rattle.rules.specs.WritingRule.{HasRoom, WritingRule}
+use Rattle.rules.specs.WritingRule.{WritingRule}
 use Rattle.rules.proofs.Sizes.{wrong_sizes}
 use Rattle.rules.proofs.WrittenExactly.{written_exactly}
 use Rattle.opening.proofs.Flattened.{flat_none}

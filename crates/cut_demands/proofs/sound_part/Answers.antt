@@ -1,6 +1,5 @@
 -- `cut_demands::sound_part` meets its contract: the second survey reads the first bytes up to the sound end that the first one
 -- told, into buffers whose lengths it has kept. A sound end past the file's end would leave the whole file.
-use borrow.Author.Rules.{rules}
 use native.Mathlib.Omega.{arith}
 use mathlib.Core.Path.{◌≡◌, refl, sym}
 use Prim.Native.Nat.{◌≤◌}
@@ -24,7 +23,7 @@ survey-second-requires c = tt
 pub returns-then-end-file : goal.returns-then-end-file
 returns-then-end-file c =
     let first : Surveying = let a = c.args in
-        surveying a.file.now a.sheet.now a.seen.now c.survey-first.result c.survey-first.new.sheet c.survey-first.new.seen in
+    surveying a.file.now a.sheet.now a.seen.now c.survey-first.result c.survey-first.new.sheet c.survey-first.new.seen in
     let met : Promised first = c.survey-first.ensures in
     let sized-still : sheets_fit c.args.sheet.now c.args.seen.now ≡ true → sheets_fit c.survey-first.new.sheet c.survey-first.new.seen ≡ true = λ k. still_sized c.args.sheet.now c.args.seen.now c.survey-first.new.sheet c.survey-first.new.seen c.survey-first.auto.sheet c.survey-first.auto.seen k in
     let a = c.args in record {
@@ -40,7 +39,7 @@ survey-second-requires-2 c = tt
 pub returns : goal.returns
 returns c =
     let first : Surveying = let a = c.args in
-        surveying a.file.now a.sheet.now a.seen.now c.survey-first.result c.survey-first.new.sheet c.survey-first.new.seen in
+    surveying a.file.now a.sheet.now a.seen.now c.survey-first.result c.survey-first.new.sheet c.survey-first.new.seen in
     let met : Promised first = c.survey-first.ensures in
     let sized-still : sheets_fit c.args.sheet.now c.args.seen.now ≡ true → sheets_fit c.survey-first.new.sheet c.survey-first.new.seen ≡ true = λ k. still_sized c.args.sheet.now c.args.seen.now c.survey-first.new.sheet c.survey-first.new.seen c.survey-first.auto.sheet c.survey-first.auto.seen k in
     let a = c.args in

@@ -1,5 +1,4 @@
 -- `indexed_demands::open_entry` meets its contract.
-use borrow.Author.Rules.{rules}
 use mathlib.Core.Path.{refl, ap}
 use Rattle.opened_demands.proofs.Outcomes.{as_there}
 use Rattle.opened_demands.proofs.AsRules.{at_place}

@@ -24,6 +24,6 @@ shape_of-seen2 c = c.survey-second.auto.seen
 pub returns : goal.returns
 returns c =
     record {
-  only = λ t s. only_outcome _ _ c.survey-first.ensures c.survey-second.ensures refl t s;
-  fresh = λ k l. old_never_shows _ _ c.survey-first.ensures c.survey-second.ensures refl k l;
+      only = λ t s. only_outcome _ _ c.survey-first.ensures c.survey-second.ensures refl t s;
+      fresh = λ k l. old_never_shows _ _ c.survey-first.ensures c.survey-second.ensures refl k l;
     }

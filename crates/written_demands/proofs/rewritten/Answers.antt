@@ -1,6 +1,5 @@
 -- `written_demands::rewritten` meets its contract: the round trip of what was written, by what the contracts of the writing and
 -- of the survey of its first bytes say.
-use borrow.Author.Rules.{rules}
 use mathlib.Core.Path.{refl, ap}
 use Rattle.written_demands.proofs.Alike.{as_text}
 use Rattle.written_demands.proofs.AsRules.{as_called}
