@@ -25,29 +25,29 @@ class Layouts(unittest.TestCase):
 
     def test_widths_and_counts(self):
         for here, there in (
-            (layout.TABLE_COUNT, "tableCount"), (layout.ROW_SIZE, "rowWidth"), (layout.ROWS_OF_A_TABLE, "rowLimit"),
-            (layout.HEAD_SIZE, "leadingCount"), (layout.NODE_SIZE, "nodeWidth"), (layout.NODE_ROOM, "nodeRoom"),
-            (layout.EDGE_SIZE, "edgeWidth"), (layout.FILE_LIMIT, "fileLimit"), (layout.FIRST_PHRASE, "wordLimit"),
+            (layout.TABLE_COUNT, "table_count"), (layout.ROW_SIZE, "row_width"), (layout.ROWS_OF_A_TABLE, "row_limit"),
+            (layout.HEAD_SIZE, "leading_count"), (layout.NODE_SIZE, "node_width"), (layout.NODE_ROOM, "node_room"),
+            (layout.EDGE_SIZE, "edge_width"), (layout.FILE_LIMIT, "file_limit"), (layout.FIRST_PHRASE, "word_limit"),
         ):  # fmt: skip
             self.assertEqual(here, self.rules[there], there)
         self.assertEqual(len(layout.TABLE_NAMES), layout.TABLE_COUNT)
 
     def test_places(self):
         for here, there in (
-            (layout.HEAD_NUMBER, "numberPlace"), (layout.HEAD_EDITOR, "editorPlace"), (layout.HEAD_DATE, "datePlace"),
-            (layout.HEAD_ORIGIN, "originPlace"), (layout.HEAD_COMMENT, "remarkStart"), (layout.HEAD_WORDS, "wordsPlace"),
-            (layout.HEAD_PHRASES, "phrasesPlace"), (layout.HEAD_EDGES, "edgesPlace"), (layout.NODE_WORD, "wordStart"),
-            (layout.NODE_TAG, "tagStart"), (layout.NODE_MORPHOLOGY, "morphologyStart"), (layout.NODE_EDGE, "edgeStart"),
-            (layout.NODE_PARENT, "parentPlace"), (layout.NODE_COMMENT, "commentStart"),
+            (layout.HEAD_NUMBER, "number_place"), (layout.HEAD_EDITOR, "editor_place"), (layout.HEAD_DATE, "date_place"),
+            (layout.HEAD_ORIGIN, "origin_place"), (layout.HEAD_COMMENT, "remark_start"), (layout.HEAD_WORDS, "words_place"),
+            (layout.HEAD_PHRASES, "phrases_place"), (layout.HEAD_EDGES, "edges_place"), (layout.NODE_WORD, "word_start"),
+            (layout.NODE_TAG, "tag_start"), (layout.NODE_MORPHOLOGY, "morphology_start"), (layout.NODE_EDGE, "edge_start"),
+            (layout.NODE_PARENT, "parent_place"), (layout.NODE_COMMENT, "comment_start"),
         ):  # fmt: skip
             self.assertEqual(here, self.rules[there], there)
 
     def test_sizes(self):
         rules = self.rules
-        table_room = rules["rowLimit"] * rules["rowWidth"]
-        self.assertEqual(layout.TABLE_SHEET, rules["tableCount"] * (1 + table_room))
-        self.assertEqual(layout.SENTENCE_SHEET, rules["leadingCount"] + rules["nodeRoom"] * rules["nodeWidth"])
-        self.assertEqual(layout.EDGE_LIST, rules["edgeLimit"] * rules["edgeWidth"])
+        table_room = rules["row_limit"] * rules["row_width"]
+        self.assertEqual(layout.TABLE_SHEET, rules["table_count"] * (1 + table_room))
+        self.assertEqual(layout.SENTENCE_SHEET, rules["leading_count"] + rules["node_room"] * rules["node_width"])
+        self.assertEqual(layout.EDGE_LIST, rules["edge_limit"] * rules["edge_width"])
         self.assertEqual(layout.PLACES, 8 * layout.SEEN_SET)
 
     def test_each_answer_has_one_name(self):
