@@ -29,7 +29,7 @@ def commands(block):
 
 def in_the_clone():
     """The files of the repository but those that are built."""
-    built = {"target", "dist", "__pycache__", ".git"}
+    built = {"target", "out", "dist", "__pycache__", ".git"}
     for folder, folders, files in os.walk(ROOT):
         folders[:] = set(folders) - built
         yield from (os.path.join(folder, name) for name in files)
