@@ -1,5 +1,5 @@
 -- What the contract of survey says leaves no second outcome; refusals 1 and 2 change nothing; what buffers held before never
--- shows. By the three cases of afterSurvey. The functions of src/ have Promised from the contract of the survey they call.
+-- shows. By the three cases of after_survey. The functions of src/ have Promised from the contract of the survey they call.
 use Prim.Native.Nat.{ℕ, ◌≤◌, ◌<◌}
 use mathlib.Core.Path.{◌≡◌, sym, ap, ap₂, ◌∙◌}
 use mathlib.Core.Bool.{true, false}
@@ -13,7 +13,7 @@ use Rattle.rules.specs.Survey.{SurveyOutcome, survey_of, told, nothing_read, she
 use Rattle.survey.specs.Promise.{outcome, as_surveyed}
 use Rattle.demands.specs.Surveying.{Surveying, Readable, SameOutcome, Untouched, Promised}
 
--- ---- afterSurvey, case by case
+-- ---- after_survey, case by case
 
 module _ (f tables seen : List ℕ) where
   after_wrong_size : sheets_fit tables seen ≡ false

@@ -1,4 +1,4 @@
--- The list of secondary edges lent as plain numbers (rules/Layout's flatList), taken for records again: four for each of the 512.
+-- The list of secondary edges lent as plain numbers (rules/Layout's flat_list), taken for records again: four for each of the 512.
 use Rattle.std.specs.Prelude.{ℕ, zero, suc, ◌*◌, List, [], ◌∷◌, drop, get_or}
 use Rattle.rules.specs.Numbers.{edge_limit}
 use Rattle.rules.specs.Sheets.{EdgeRecord}
