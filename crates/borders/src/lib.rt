@@ -12,35 +12,16 @@ use explaining::Explained;
 use survey::Surveyed;
 use writing::Written;
 
-// The answers of two surveys or indexes.
-#[derive(Clone, Copy)]
-pub struct Surveys {
-    pub first: Surveyed,
-    pub second: Surveyed,
-}
-
-fn both(first: Surveyed, refusal: u32, place: u32, sentences: u32, sound_end: u32) -> Surveys
-    ensures { (result.first ≡ first) × (result.second ≡ record { refusal = refusal; place = place; sentences = sentences; sound_end = sound_end }) }
-{
-    let second = Surveyed {
-        refusal,
-        place,
-        sentences,
-        sound_end,
-    };
-    Surveys { first, second }
-}
-
 pub fn survey_across(
     file: &[u8],
     tables: &mut [u32],
     seen: &mut [u8],
     tables2: &mut [u32],
     seen2: &mut [u8],
-) -> Surveys
+) -> (Surveyed, Surveyed)
     ensures { tables.old ≡ tables2.old → seen.old ≡ seen2.old
-        → survey_left result.first tables.new seen.new
-        ≡ survey_left result.second tables2.new seen2.new }
+        → survey_left result.0 tables.new seen.new
+        ≡ survey_left result.1 tables2.new seen2.new }
 {
     let first = survey::survey(file, tables, seen);
     let mut place = 0u32;
@@ -54,7 +35,13 @@ pub fn survey_across(
         &mut sentences,
         &mut sound_end,
     );
-    both(first, refusal, place, sentences, sound_end)
+    let second = Surveyed {
+        refusal,
+        place,
+        sentences,
+        sound_end,
+    };
+    (first, second)
 }
 
 pub fn index_across(
@@ -65,10 +52,10 @@ pub fn index_across(
     tables2: &mut [u32],
     seen2: &mut [u8],
     places2: &mut [u32],
-) -> Surveys
+) -> (Surveyed, Surveyed)
     ensures { tables.old ≡ tables2.old → seen.old ≡ seen2.old → places.old ≡ places2.old
-        → index_left result.first tables.new seen.new places.new
-        ≡ index_left result.second tables2.new seen2.new places2.new }
+        → index_left result.0 tables.new seen.new places.new
+        ≡ index_left result.1 tables2.new seen2.new places2.new }
 {
     let first = survey::index(file, tables, seen, places);
     let mut place = 0u32;
@@ -83,14 +70,13 @@ pub fn index_across(
         &mut sentences,
         &mut sound_end,
     );
-    both(first, refusal, place, sentences, sound_end)
-}
-
-// The answers of two openings.
-#[derive(Clone, Copy)]
-pub struct Openings {
-    pub first: u32,
-    pub second: u32,
+    let second = Surveyed {
+        refusal,
+        place,
+        sentences,
+        sound_end,
+    };
+    (first, second)
 }
 
 pub fn open_across(
@@ -104,14 +90,14 @@ pub fn open_across(
     seen2: &mut [u8],
     sheet2: &mut [u32],
     edges2: &mut [u32],
-) -> Openings
+) -> (u32, u32)
     ensures { tables.old ≡ tables2.old → seen.old ≡ seen2.old → sheet.old ≡ sheet2.old → edges.old ≡ edges2.old
-        → left result.first tables.new seen.new sheet.new edges.new
-        ≡ left result.second tables2.new seen2.new sheet2.new edges2.new }
+        → left result.0 tables.new seen.new sheet.new edges.new
+        ≡ left result.1 tables2.new seen2.new sheet2.new edges2.new }
 {
     let first = opening::open_flat(file, number, tables, seen, sheet, edges);
     let second = hraunlik::hraunlik_open(file, number, tables2, seen2, sheet2, edges2);
-    Openings { first, second }
+    (first, second)
 }
 
 pub fn open_at_across(
@@ -121,21 +107,14 @@ pub fn open_at_across(
     edges: &mut [u32],
     sheet2: &mut [u32],
     edges2: &mut [u32],
-) -> Openings
+) -> (u32, u32)
     ensures { sheet.old ≡ sheet2.old → edges.old ≡ edges2.old
-        → left_there result.first sheet.new edges.new
-        ≡ left_there result.second sheet2.new edges2.new }
+        → left_there result.0 sheet.new edges.new
+        ≡ left_there result.1 sheet2.new edges2.new }
 {
     let first = opening::open_flat_at(file, place, sheet, edges);
     let second = hraunlik::hraunlik_open_at(file, place, sheet2, edges2);
-    Openings { first, second }
-}
-
-// The answers of two writings.
-#[derive(Clone, Copy)]
-pub struct Writings {
-    pub first: Written,
-    pub second: Written,
+    (first, second)
 }
 
 pub fn write_across(
@@ -150,11 +129,11 @@ pub fn write_across(
     seen2: &mut [u8],
     sheet2: &mut [u32],
     edges2: &mut [u32],
-) -> Writings
+) -> (Written, Written)
     ensures { output.old ≡ output2.old → tables.old ≡ tables2.old → seen.old ≡ seen2.old
         → sheet.old ≡ sheet2.old → edges.old ≡ edges2.old
-        → text_left result.first tables.new seen.new sheet.new edges.new output.new
-        ≡ text_left result.second tables2.new seen2.new sheet2.new edges2.new output2.new }
+        → text_left result.0 tables.new seen.new sheet.new edges.new output.new
+        ≡ text_left result.1 tables2.new seen2.new sheet2.new edges2.new output2.new }
 {
     let first = writing::write_flat(file, output, tables, seen, sheet, edges);
     let mut place = 0u32;
@@ -174,14 +153,7 @@ pub fn write_across(
         place,
         length,
     };
-    Writings { first, second }
-}
-
-// The answers of two explainings.
-#[derive(Clone, Copy)]
-pub struct Explanations {
-    pub first: Explained,
-    pub second: Explained,
+    (first, second)
 }
 
 pub fn explain_across(
@@ -193,9 +165,9 @@ pub fn explain_across(
     seen: &mut [u8],
     tables2: &mut [u32],
     seen2: &mut [u8],
-) -> Explanations
+) -> (Explained, Explained)
     ensures { tables.old ≡ tables2.old → seen.old ≡ seen2.old
-        → SameAnswer result.first result.second × (tables.new ≡ tables2.new) × (seen.new ≡ seen2.new) }
+        → SameAnswer result.0 result.1 × (tables.new ≡ tables2.new) × (seen.new ≡ seen2.new) }
 {
     let first = explaining::explain_place(file, list, table, tag, tables, seen);
     let mut of = 0u32;
@@ -210,5 +182,5 @@ pub fn explain_across(
         start,
         len,
     };
-    Explanations { first, second }
+    (first, second)
 }

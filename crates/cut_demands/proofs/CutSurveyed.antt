@@ -7,15 +7,13 @@ use mathlib.Core.Logic.{◌⊎◌, inl, inr}
 use mathlib.Core.Bool.{true}
 use mathlib.Core.List.{List, ◌++◌}
 use lib.ListN.{length, take, drop, length-append, take-append-drop}
-use lib.Seq.{take_all}
 use Rattle.rules.specs.Numbers.{file_limit}
 use Rattle.rules.specs.Reading.{Handed, numbers}
 use Rattle.rules.specs.Sheets.{table_sheet, seen_set}
 use Rattle.rules.specs.Survey.{last_end, survey_of, sheets_fit}
 use Rattle.rules.specs.Cutting.{ended_within, sound_part, SoundPart}
 use Rattle.rules.proofs.CutRule.{cut_rule, sound_part_lem}
-use Rattle.survey.specs.declared.Surveyed.{Surveyed}
-use Rattle.demands.specs.Surveying.{Surveying, surveying, Readable, Filled, Promised}
+use Rattle.demands.specs.Surveying.{Surveying, Readable, Filled, Promised}
 use Rattle.cut_demands.specs.Cutting.{Restored, SoundAlone}
 use Rattle.demands.proofs.Accepted.{sound_end_is, seen_first, handed_by_survey}
 
@@ -90,8 +88,3 @@ sound_by_survey c part p q of_part k l = by (sound_part_lem c.file k.short)
           tables = b.tables ∙ ap table_sheet tables;
           seen = b.seen ∙ ap (λ (gs : List Handed). seen_set (numbers gs)) handed;
         })
-
--- past its end the first n bytes are the whole file
-pub promised_part : (f : List ℕ) (n : ℕ) (tables seen : List ℕ) (answer : Surveyed) (tables_left seen_left : List ℕ) → length f ≤ n
-    → Promised (surveying f tables seen answer tables_left seen_left) → Promised (surveying (take n f) tables seen answer tables_left seen_left)
-promised_part f n tables seen answer tables_left seen_left h p = subst (λ (l : List ℕ). Promised (surveying l tables seen answer tables_left seen_left)) (sym (take_all n f h)) p

@@ -31,41 +31,19 @@ pub fn cut(file: &[u8], n: usize, sheet: &mut [u32], seen: &mut [u8]) -> Surveye
         → Restored file.now n [] (surveying (take n file.now) sheet.old seen.old result sheet.new seen.new) }
     ensures whole { Promised (surveying (take n file.now) sheet.old seen.old result sheet.new seen.new) }
 {
-    if n <= file.len() {
-        return survey::survey(&file[..n], sheet, seen);
-    }
-    survey::survey(file, sheet, seen)
-}
-
-// The answers of two surveys.
-#[derive(Clone, Copy)]
-pub struct Surveys {
-    pub first: Surveyed,
-    pub second: Surveyed,
+    survey::survey(&file[..n.min(file.len())], sheet, seen)
 }
 
 // The file, then its sound part by itself.
-pub fn sound_part(file: &[u8], sheet: &mut [u32], seen: &mut [u8]) -> Surveys
+pub fn sound_part(file: &[u8], sheet: &mut [u32], seen: &mut [u8]) -> (Surveyed, Surveyed)
     ensures sound { Readable file.now sheet.old seen.old
-        → SoundAlone file.now result.first result.second sheet.new seen.new }
-    ensures whole { (sheet' : List ℕ) × (seen' : List ℕ) × Promised (surveying file.now sheet.old seen.old result.first sheet' seen')
-        × Promised (surveying (take result.first.sound_end file.now) sheet' seen' result.second sheet.new seen.new) }
+        → SoundAlone file.now result.0 result.1 sheet.new seen.new }
+    ensures whole { (sheet' : List ℕ) × (seen' : List ℕ) × Promised (surveying file.now sheet.old seen.old result.0 sheet' seen')
+        × Promised (surveying (take result.0.sound_end file.now) sheet' seen' result.1 sheet.new seen.new) }
 {
     let first = survey::survey(file, sheet, seen);
-    let end = first.sound_end as usize;
-    if end <= file.len() {
-        let second = survey::survey(&file[..end], sheet, seen);
-        return Surveys { first, second };
-    }
-    let second = survey::survey(file, sheet, seen);
-    Surveys { first, second }
-}
-
-// The answers of two openings.
-#[derive(Clone, Copy)]
-pub struct Openings {
-    pub first: u32,
-    pub second: u32,
+    let second = cut(file, first.sound_end as usize, sheet, seen);
+    (first, second)
 }
 
 // A number opened in a file, and in what was restored of it: the first n bytes, with any bytes x behind them.
@@ -81,23 +59,23 @@ pub fn cut_opened(
     seen2: &mut [u8],
     sheet2: &mut [u32],
     edges2: &mut [u32],
-) -> Openings
+) -> (u32, u32)
     ensures alike { (n : ℕ) (x : List ℕ) (front : List Handed) (h : Handed) (back : List Handed)
         → n ≤ length file.now → WithinLimit file.now
         → restored.now ≡ take n file.now ++ x → WithinLimit restored.now
         → (survey_of file.now).handed ≡ front ++ (h ∷ back) → h.sentence.heading.number ≡ number
         → AllFlatSized tables.old seen.old sheet.old edges.old
         → AllFlatSized tables2.old seen2.old sheet2.old edges2.old
-        → CutAlike h n x (left_there result.first sheet.new edges.new)
-        (left_there result.second sheet2.new edges2.new) }
+        → CutAlike h n x (left_there result.0 sheet.new edges.new)
+        (left_there result.1 sheet2.new edges2.new) }
     ensures whole { OpenedByNumber file.now number tables.old seen.old sheet.old edges.old
-        (left result.first tables.new seen.new sheet.new edges.new) }
+        (left result.0 tables.new seen.new sheet.new edges.new) }
     ensures after { OpenedByNumber restored.now number tables2.old seen2.old sheet2.old edges2.old
-        (left result.second tables2.new seen2.new sheet2.new edges2.new) }
+        (left result.1 tables2.new seen2.new sheet2.new edges2.new) }
 {
     let first = opening::open_flat(file, number, tables, seen, sheet, edges);
     let second = opening::open_flat(restored, number, tables2, seen2, sheet2, edges2);
-    Openings { first, second }
+    (first, second)
 }
 
 // The same at the place where a sentence of the file begins.
@@ -109,19 +87,19 @@ pub fn cut_opened_at(
     edges: &mut [u32],
     sheet2: &mut [u32],
     edges2: &mut [u32],
-) -> Openings
+) -> (u32, u32)
     ensures alike { (n : ℕ) (x : List ℕ) (front : List Handed) (h : Handed) (back : List Handed) → WithinLimit file.now
         → restored.now ≡ take n file.now ++ x → WithinLimit restored.now
         → (survey_of file.now).handed ≡ front ++ (h ∷ back) → h.sentence.start ≡ place
         → FlatSized sheet.old edges.old → FlatSized sheet2.old edges2.old
-        → CutAlike h n x (left_there result.first sheet.new edges.new)
-        (left_there result.second sheet2.new edges2.new) }
+        → CutAlike h n x (left_there result.0 sheet.new edges.new)
+        (left_there result.1 sheet2.new edges2.new) }
     ensures whole { OpenedAtPlace file.now place sheet.old edges.old
-        (left_there result.first sheet.new edges.new) }
+        (left_there result.0 sheet.new edges.new) }
     ensures after { OpenedAtPlace restored.now place sheet2.old edges2.old
-        (left_there result.second sheet2.new edges2.new) }
+        (left_there result.1 sheet2.new edges2.new) }
 {
     let first = opening::open_flat_at(file, place, sheet, edges);
     let second = opening::open_flat_at(restored, place, sheet2, edges2);
-    Openings { first, second }
+    (first, second)
 }

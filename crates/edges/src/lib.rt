@@ -10,6 +10,7 @@ ghost use Rattle.rules.specs.Writing.{after_writing};
 ghost use Rattle.edges.specs.Promise.{as_records, outcome, outcome_at, written_outcome};
 
 use plain_lists::{open_numbers, open_numbers_at, write_numbers};
+use sentence_sheet::{EDGE_LIMIT, EDGE_LIST_SIZE, EDGE_WIDTH};
 use steps::refusals;
 use writing::Written;
 
@@ -22,12 +23,22 @@ pub struct Edge {
     pub parent: u32,
 }
 
+impl Edge {
+    // What stands behind a sentence's edges.
+    pub const NONE: Edge = Edge {
+        child: 0,
+        label: 0,
+        label_len: 0,
+        parent: 0,
+    };
+}
+
 // The record of the four numbers at a place of the list.
-pub fn edge_at(numbers: &[u32; 2048], k: usize) -> Edge
+pub fn edge_at(numbers: &[u32; EDGE_LIST_SIZE], k: usize) -> Edge
     requires { k < 512 }
     ensures { result ≡ edge_at numbers.now k }
 {
-    let place = k * 4;
+    let place = k * EDGE_WIDTH;
     Edge {
         child: numbers[place],
         label: numbers[place + 1],
@@ -37,14 +48,12 @@ pub fn edge_at(numbers: &[u32; 2048], k: usize) -> Edge
 }
 
 // The first records of the list are made of the numbers.
-pub fn fill(edges: &mut [Edge], numbers: &[u32; 2048], count: usize)
+pub fn fill(edges: &mut [Edge], numbers: &[u32; EDGE_LIST_SIZE], count: usize)
     requires { (count ≤ length edges.old) × (count ≤ 512) }
     ensures { edges.new ≡ first_edges numbers.now count ++ drop count edges.old }
 {
-    let mut k = 0;
-    while k < count {
+    for k in 0..count {
         edges[k] = edge_at(numbers, k);
-        k += 1;
     }
 }
 
@@ -52,13 +61,10 @@ pub fn fill(edges: &mut [Edge], numbers: &[u32; 2048], count: usize)
 fn records_filled(answer: u32) -> usize
     ensures { result ≡ filled_by answer }
 {
-    if answer == refusals::WRONG_SIZE {
-        return 0;
+    match answer {
+        refusals::WRONG_SIZE | refusals::FILE_TOO_LONG => 0,
+        _ => EDGE_LIMIT,
     }
-    if answer == refusals::FILE_TOO_LONG {
-        return 0;
-    }
-    512
 }
 
 // Document 01, "What the library does": open(file, number, table sheet, seen set, sentence sheet, edge list).
@@ -72,10 +78,10 @@ pub fn open_sentence(
 ) -> u32
     ensures { outcome result tables.new seen.new sheet.new edges.new ≡ after_opening file.now number tables.old seen.old sheet.old (as_records edges.old) }
 {
-    if edges.len() != 512 {
-        return 1;
+    if edges.len() != EDGE_LIMIT {
+        return refusals::WRONG_SIZE;
     }
-    let mut numbers = [0u32; 2048];
+    let mut numbers = [0u32; EDGE_LIST_SIZE];
     let answer = open_numbers(file, number, tables, seen, sheet, &mut numbers);
     let count = records_filled(answer);
     fill(edges, &numbers, count);
@@ -86,10 +92,10 @@ pub fn open_sentence(
 pub fn open_at(file: &[u8], place: u32, sheet: &mut [u32], edges: &mut [Edge]) -> u32
     ensures { outcome_at result sheet.new edges.new ≡ after_opening_at file.now place sheet.old (as_records edges.old) }
 {
-    if edges.len() != 512 {
-        return 1;
+    if edges.len() != EDGE_LIMIT {
+        return refusals::WRONG_SIZE;
     }
-    let mut numbers = [0u32; 2048];
+    let mut numbers = [0u32; EDGE_LIST_SIZE];
     let answer = open_numbers_at(file, place, sheet, &mut numbers);
     let count = records_filled(answer);
     fill(edges, &numbers, count);
@@ -107,14 +113,14 @@ pub fn write_text(
 ) -> Written
     ensures { written_outcome result tables.new seen.new sheet.new edges.new output.new ≡ after_writing file.now tables.old seen.old sheet.old (as_records edges.old) output.old }
 {
-    if edges.len() != 512 {
+    if edges.len() != EDGE_LIMIT {
         return Written {
-            refusal: 1,
+            refusal: refusals::WRONG_SIZE,
             place: 0,
             length: 0,
         };
     }
-    let mut numbers = [0u32; 2048];
+    let mut numbers = [0u32; EDGE_LIST_SIZE];
     let answer = write_numbers(file, output, tables, seen, sheet, &mut numbers);
     let count = records_filled(answer.refusal);
     fill(edges, &numbers, count);

@@ -39,13 +39,6 @@ pub fn explains<'a>(
     explaining::explain(file, list, table, tag, refusal, tables, seen)
 }
 
-// The answers of two calls.
-#[derive(Clone, Copy)]
-pub struct Two {
-    pub first: Explained,
-    pub second: Explained,
-}
-
 // The contract leaves no second outcome, and what buffers of the right size held before never shows.
 pub fn placed_twice(
     file: &[u8],
@@ -56,16 +49,16 @@ pub fn placed_twice(
     seen: &mut [u8],
     tables2: &mut [u32],
     seen2: &mut [u8],
-) -> Two
+) -> (Explained, Explained)
     ensures only { tables.old ≡ tables2.old → seen.old ≡ seen2.old
-        → SameAnswer result.first result.second × (tables.new ≡ tables2.new) × (seen.new ≡ seen2.new) }
+        → SameAnswer result.0 result.1 × (tables.new ≡ tables2.new) × (seen.new ≡ seen2.new) }
     ensures fresh { WithinLimit file.now → WithinLimit list.now
         → SheetsSized tables.old seen.old → SheetsSized tables2.old seen2.old
-        → SameAnswer result.first result.second × (tables.new ≡ tables2.new) × (seen.new ≡ seen2.new) }
+        → SameAnswer result.0 result.1 × (tables.new ≡ tables2.new) × (seen.new ≡ seen2.new) }
 {
     let first = explaining::explain_place(file, list, table, tag, tables, seen);
     let second = explaining::explain_place(file, list, table, tag, tables2, seen2);
-    Two { first, second }
+    (first, second)
 }
 
 // The same of the parts: whether both have the same bytes.

@@ -11,14 +11,8 @@ ghost use Rattle.opened_demands.specs.Calls.{FlatSized, AllFlatSized, left, left
 ghost use Rattle.opened_demands.specs.OpenedRules.{OpenedByNumber};
 ghost use Rattle.indexed_demands.specs.Entries.{index_left, OpenedAtEntry, SameThere};
 
+use steps::refusals;
 use survey::Surveyed;
-
-// The answers of two surveys, or of two indexes.
-#[derive(Clone, Copy)]
-pub struct Two {
-    pub first: Surveyed,
-    pub second: Surveyed,
-}
 
 // The contract of a survey leaves no second outcome, and what buffers of the right size held before never shows.
 pub fn surveyed_twice(
@@ -27,17 +21,17 @@ pub fn surveyed_twice(
     seen: &mut [u8],
     sheet2: &mut [u32],
     seen2: &mut [u8],
-) -> Two
+) -> (Surveyed, Surveyed)
     ensures only { sheet.old ≡ sheet2.old → seen.old ≡ seen2.old
-        → SameOutcome (surveying file.now sheet.old seen.old result.first sheet.new seen.new)
-        (surveying file.now sheet2.old seen2.old result.second sheet2.new seen2.new) }
+        → SameOutcome (surveying file.now sheet.old seen.old result.0 sheet.new seen.new)
+        (surveying file.now sheet2.old seen2.old result.1 sheet2.new seen2.new) }
     ensures fresh { Readable file.now sheet.old seen.old → Readable file.now sheet2.old seen2.old
-        → SameOutcome (surveying file.now sheet.old seen.old result.first sheet.new seen.new)
-        (surveying file.now sheet2.old seen2.old result.second sheet2.new seen2.new) }
+        → SameOutcome (surveying file.now sheet.old seen.old result.0 sheet.new seen.new)
+        (surveying file.now sheet2.old seen2.old result.1 sheet2.new seen2.new) }
 {
     let first = survey::survey(file, sheet, seen);
     let second = survey::survey(file, sheet2, seen2);
-    Two { first, second }
+    (first, second)
 }
 
 // So the contract of an index.
@@ -49,35 +43,31 @@ pub fn indexed_twice(
     tables2: &mut [u32],
     seen2: &mut [u8],
     places2: &mut [u32],
-) -> Two
+) -> (Surveyed, Surveyed)
     ensures only { tables.old ≡ tables2.old → seen.old ≡ seen2.old → places.old ≡ places2.old
-        → index_left result.first tables.new seen.new places.new
-        ≡ index_left result.second tables2.new seen2.new places2.new }
+        → index_left result.0 tables.new seen.new places.new
+        ≡ index_left result.1 tables2.new seen2.new places2.new }
     ensures fresh { WithinLimit file.now → IndexSized tables.old seen.old places.old
         → IndexSized tables2.old seen2.old places2.old
-        → index_left result.first tables.new seen.new places.new
-        ≡ index_left result.second tables2.new seen2.new places2.new }
+        → index_left result.0 tables.new seen.new places.new
+        ≡ index_left result.1 tables2.new seen2.new places2.new }
 {
     let first = survey::index(file, tables, seen, places);
     let second = survey::index(file, tables2, seen2, places2);
-    Two { first, second }
+    (first, second)
 }
 
 fn entry_of(places: &[u32], number: u32) -> u32
     ensures { result ≡ get_or places.now number 0 }
 {
-    let at = number as usize;
-    if at < places.len() {
-        return places[at];
-    }
-    0
+    places.get(number as usize).copied().unwrap_or(0)
 }
 
 fn open_entry(file: &[u8], entry: u32, sheet: &mut [u32], edges: &mut [u32]) -> u32
     ensures { OpenedAtEntry file.now entry sheet.old edges.old (left_there result sheet.new edges.new) }
 {
     if entry == 0 {
-        return 24;
+        return refusals::NOT_HANDED_OUT;
     }
     opening::open_flat_at(file, entry - 1, sheet, edges)
 }

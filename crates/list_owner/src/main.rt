@@ -8,6 +8,7 @@ ghost use Rattle.rules.specs.Writing.{after_writing};
 ghost use Rattle.list_owner.specs.Promise.{outcome, first_parent_of, outcome_at, first_parent_at, outcome_of, length_of};
 
 use edges::Edge;
+use sentence_sheet::EDGE_LIMIT;
 
 // The parent of the sentence's first secondary edge; 0 where there is none.
 fn first_secondary_parent(
@@ -19,30 +20,18 @@ fn first_secondary_parent(
 ) -> u32
     ensures { outcome result tables.new seen.new sheet.new ≡ first_parent_of (after_opening file.now number tables.old seen.old sheet.old no_edges) }
 {
-    let mut list = [Edge {
-        child: 0,
-        label: 0,
-        label_len: 0,
-        parent: 0,
-    }; 512];
+    let mut list = [Edge::NONE; EDGE_LIMIT];
     edges::open_sentence(file, number, tables, seen, sheet, &mut list);
-    let first = list[0];
-    first.parent
+    list[0].parent
 }
 
 // The same, of the sentence that begins at a place.
 fn first_parent_at(file: &[u8], place: u32, sheet: &mut [u32]) -> u32
     ensures { outcome_at result sheet.new ≡ first_parent_at (after_opening_at file.now place sheet.old no_edges) }
 {
-    let mut list = [Edge {
-        child: 0,
-        label: 0,
-        label_len: 0,
-        parent: 0,
-    }; 512];
+    let mut list = [Edge::NONE; EDGE_LIMIT];
     edges::open_at(file, place, sheet, &mut list);
-    let first = list[0];
-    first.parent
+    list[0].parent
 }
 
 // How many bytes of tidy text are written.
@@ -56,12 +45,7 @@ fn tidy_length(
     ensures { outcome_of result tables.new seen.new sheet.new output.new
         ≡ length_of (after_writing file.now tables.old seen.old sheet.old no_edges output.old) }
 {
-    let mut list = [Edge {
-        child: 0,
-        label: 0,
-        label_len: 0,
-        parent: 0,
-    }; 512];
+    let mut list = [Edge::NONE; EDGE_LIMIT];
     let written = edges::write_text(file, output, tables, seen, sheet, &mut list);
     written.length
 }
@@ -70,25 +54,24 @@ fn tidy_length(
 fn expect(ok: bool)
     requires { ok ≡ true }
 {
-    let holds = if ok { 1u32 } else { 0 };
-    let _ = 1 / holds;
+    let _ = 1 / u32::from(ok);
 }
 
 // In this file the word Ja has one secondary edge, to the phrase 501.
 fn main() {
     let file =
         b"#FORMAT 3\n#BOT ORIGIN\n1 lab\n#EOT ORIGIN\n#BOT EDITOR\n2 kim Kim\n#EOT EDITOR\n#BOS 7 2 0 1\nJa ITJ -- -- 500 SB 501\n#500 S -- -- 501\n#501 S -- -- 0\n#EOS 7\n";
-    let mut tables = [0u32; 10759];
-    let mut seen = [0u8; 8192];
-    let mut sheet = [0u32; 11009];
+    let mut tables = [0u32; table_sheet::SIZE];
+    let mut seen = [0u8; seen::SIZE];
+    let mut sheet = [0u32; sentence_sheet::SIZE];
     let parent = first_secondary_parent(file, 7, &mut tables, &mut seen, &mut sheet);
     expect(parent == 501);
-    let mut sheet2 = [0u32; 11009];
+    let mut sheet2 = [0u32; sentence_sheet::SIZE];
     let there = first_parent_at(file, 74, &mut sheet2);
     expect(there == 501);
-    let mut tables3 = [0u32; 10759];
-    let mut seen3 = [0u8; 8192];
-    let mut sheet3 = [0u32; 11009];
+    let mut tables3 = [0u32; table_sheet::SIZE];
+    let mut seen3 = [0u8; seen::SIZE];
+    let mut sheet3 = [0u32; sentence_sheet::SIZE];
     let mut output = [0u8; 256];
     let length = tidy_length(file, &mut output, &mut tables3, &mut seen3, &mut sheet3);
     expect(length == 150);

@@ -18,11 +18,7 @@ use writing::Written;
 const MOST: u64 = 65_536;
 
 // The file's bytes and two more for each of 256 origins: no tidy text is longer.
-const LONGEST: usize = 66048;
-
-const SPACE: u8 = 32;
-
-const NEWLINE: u8 = 10;
+const LONGEST: usize = MOST as usize + 2 * 256;
 
 fn survey_file(file: &[u8]) -> Surveyed
     ensures { result ≡ as_surveyed (surveyed file.now).answer }
@@ -48,10 +44,10 @@ fn put_answer(told: Surveyed, line: &mut [u8]) -> usize
     ensures { Put 44 (keyword_line (digits_of told.refusal ∷ digits_of told.place ∷ digits_of told.sentences ∷ digits_of told.sound_end ∷ [])) 0 line.old result line.new × IsPrefixLen result line.new }
 {
     let refused = printing::digits::put_number(told.refusal, line, 0);
-    let placed = printing::put_number_column(SPACE, told.place, line, refused);
-    let counted = printing::put_number_column(SPACE, told.sentences, line, placed);
-    let ended = printing::put_number_column(SPACE, told.sound_end, line, counted);
-    printing::put_byte(NEWLINE, line, ended)
+    let placed = printing::put_number_column(b' ', told.place, line, refused);
+    let counted = printing::put_number_column(b' ', told.sentences, line, placed);
+    let ended = printing::put_number_column(b' ', told.sound_end, line, counted);
+    printing::put_byte(b'\n', line, ended)
 }
 
 fn print_answer<W: Write>(out: &mut W, told: Surveyed) -> io::Result<()> {

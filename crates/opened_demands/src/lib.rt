@@ -8,13 +8,6 @@ ghost use Rattle.opened_demands.specs.ClimbingSheets.{SheetClimbs};
 ghost use Rattle.opened_demands.specs.Calls.{FlatSized, AllFlatSized, left, left_there};
 ghost use Rattle.opened_demands.specs.OpenedRules.{OpenedByNumber, OpenedAtPlace};
 
-// The answers of two openings.
-#[derive(Clone, Copy)]
-pub struct Two {
-    pub first: u32,
-    pub second: u32,
-}
-
 // Demand 1: the contract leaves no second outcome, and what buffers of the right size held before never shows.
 pub fn opened_twice(
     file: &[u8],
@@ -27,18 +20,18 @@ pub fn opened_twice(
     seen2: &mut [u8],
     sheet2: &mut [u32],
     edges2: &mut [u32],
-) -> Two
+) -> (u32, u32)
     ensures only { tables.old ≡ tables2.old → seen.old ≡ seen2.old → sheet.old ≡ sheet2.old → edges.old ≡ edges2.old
-        → left result.first tables.new seen.new sheet.new edges.new
-        ≡ left result.second tables2.new seen2.new sheet2.new edges2.new }
+        → left result.0 tables.new seen.new sheet.new edges.new
+        ≡ left result.1 tables2.new seen2.new sheet2.new edges2.new }
     ensures fresh { WithinLimit file.now → AllFlatSized tables.old seen.old sheet.old edges.old
         → AllFlatSized tables2.old seen2.old sheet2.old edges2.old
-        → left result.first tables.new seen.new sheet.new edges.new
-        ≡ left result.second tables2.new seen2.new sheet2.new edges2.new }
+        → left result.0 tables.new seen.new sheet.new edges.new
+        ≡ left result.1 tables2.new seen2.new sheet2.new edges2.new }
 {
     let first = opening::open_flat(file, number, tables, seen, sheet, edges);
     let second = opening::open_flat(file, number, tables2, seen2, sheet2, edges2);
-    Two { first, second }
+    (first, second)
 }
 
 // Demand 1: the same at a place.
@@ -49,15 +42,15 @@ pub fn opened_at_twice(
     edges: &mut [u32],
     sheet2: &mut [u32],
     edges2: &mut [u32],
-) -> Two
+) -> (u32, u32)
     ensures only { sheet.old ≡ sheet2.old → edges.old ≡ edges2.old
-        → left_there result.first sheet.new edges.new ≡ left_there result.second sheet2.new edges2.new }
+        → left_there result.0 sheet.new edges.new ≡ left_there result.1 sheet2.new edges2.new }
     ensures fresh { WithinLimit file.now → FlatSized sheet.old edges.old → FlatSized sheet2.old edges2.old
-        → left_there result.first sheet.new edges.new ≡ left_there result.second sheet2.new edges2.new }
+        → left_there result.0 sheet.new edges.new ≡ left_there result.1 sheet2.new edges2.new }
 {
     let first = opening::open_flat_at(file, place, sheet, edges);
     let second = opening::open_flat_at(file, place, sheet2, edges2);
-    Two { first, second }
+    (first, second)
 }
 
 // Demand 2: on whatever sheet and list an opening gives, every parent is a phrase above, and every chain climbs.

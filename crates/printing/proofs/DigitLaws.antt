@@ -84,3 +84,31 @@ pub first_put : (at n : ℕ) (out : List ℕ) (place : ℕ) → n < 10 → place
 first_put at n out place h e =
     let here : place ≡ at = omega (arith, length_one n h) in
     ap (λ (k : ℕ). over k ((48 + n % 10) ∷ []) out) here ∙ ap (λ (l : List ℕ). over at l out) (sym (digits_one n h))
+
+-- what is left of a number, as long as places are left
+pub record Putting (at n : ℕ) (lent : List ℕ) (place left : ℕ) (out : List ℕ) : Type 0 where
+  pub going : at < place → (place ≡ at + length (digits_of left)) × (over at (digits_of left) out ≡ over at (digits_of n) lent)
+  pub done : place ≤ at → out ≡ over at (digits_of n) lent
+
+pub putting_start : (at n : ℕ) (lent : List ℕ) (place : ℕ) → place ≡ at + length (digits_of n) → Putting at n lent place n lent
+putting_start at n lent place e =
+    record { going = λ h. (e, refl); done = λ h. absurd (omega (arith, digits_some n)) }
+
+pub putting_next : (at n : ℕ) (lent : List ℕ) (place left : ℕ) (out : List ℕ) → at ≤ place → Putting at n lent (place + 1) left out
+    → Putting at n lent place (left / 10) (over place ((48 + left % 10) ∷ []) out)
+putting_next at n lent place left out h p = by (ltb left 10) refl (p.going (omega arith))
+  where
+    by : (t : Bool) → ltb left 10 ≡ t → (place + 1 ≡ at + length (digits_of left)) × (over at (digits_of left) out ≡ over at (digits_of n) lent)
+        → Putting at n lent place (left / 10) (over place ((48 + left % 10) ∷ []) out)
+    by true q g =
+        let few : left < 10 = ltb-true left 10 q in
+        record {
+          going = λ k. absurd (omega (arith, length_one left few, g.0));
+          done = λ k. first_put at left out place few g.0 ∙ g.1;
+        }
+    by false q g =
+        let many : 10 ≤ left = ltb-false left 10 q in
+        record {
+          going = λ k. (omega (arith, length_more left many, g.0), last_put at left out place many g.0 ∙ g.1);
+          done = λ k. absurd (omega (arith, length_more left many, digits_some (left / 10), g.0));
+        }

@@ -1,6 +1,5 @@
 pub mod OverLaws
 pub mod PutLaws
 pub mod DigitLaws
-pub mod FieldLaws
 pub mod LineLaws
 pub mod LinesMore

@@ -10,7 +10,7 @@ fn count_digits(n: u32) -> usize
     let mut count = 1;
     let mut left = n;
     while left >= 10 {
-        left = left / 10;
+        left /= 10;
         count += 1;
     }
     count
@@ -19,7 +19,7 @@ fn count_digits(n: u32) -> usize
 fn last_digit(n: u32) -> u8
     ensures { result ≡ 48 + n % 10 }
 {
-    48 + (n % 10) as u8
+    b'0' + (n % 10) as u8
 }
 
 // The digits from the last on.
@@ -28,13 +28,10 @@ fn put_digits(n: u32, count: usize, out: &mut [u8], at: usize)
     ensures { out.new ≡ over at (digits_of n) out.old }
 {
     let mut left = n;
-    let mut place = at + count - 1;
-    while left >= 10 {
+    for place in (at..at + count).rev() {
         crate::put_byte(last_digit(left), out, place);
-        left = left / 10;
-        place -= 1;
+        left /= 10;
     }
-    crate::put_byte(last_digit(left), out, place);
 }
 
 pub fn put_number(n: u32, out: &mut [u8], at: usize) -> usize

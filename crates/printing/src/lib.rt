@@ -21,29 +21,18 @@ pub fn put_byte(b: u8, out: &mut [u8], at: usize) -> usize
     at + 1
 }
 
-fn copy(text: &[u8], count: usize, out: &mut [u8], at: usize)
-    requires { (count ≤ length text.now) × (at + count ≤ length out.old) }
-    ensures { out.new ≡ over at (take count text.now) out.old }
-{
-    let mut i = 0;
-    while i < count {
-        out[at + i] = text[i];
-        i += 1;
-    }
-}
-
 pub fn put_text(text: &[u8], out: &mut [u8], at: usize) -> usize
     requires { at + length text.now ≤ farthest }
     ensures { Put (length text.now) text.now at out.old result out.new }
 {
     let end = at + text.len();
     if end <= out.len() {
-        copy(text, text.len(), out, at);
+        out[at..end].copy_from_slice(text);
         return end;
     }
     if at < out.len() {
         let room = out.len() - at;
-        copy(text, room, out, at);
+        out[at..].copy_from_slice(&text[..room]);
     }
     end
 }
@@ -70,7 +59,7 @@ pub fn put_comment(by: u8, text: &[u8], out: &mut [u8], at: usize) -> usize
     requires { at + (4 + length text.now) ≤ farthest }
     ensures { Put (4 + length text.now) (further by (commented (text_of text.now))) at out.old result out.new }
 {
-    if text.len() == 0 {
+    if text.is_empty() {
         return at;
     }
     let signed = put_column(by, b"%%", out, at);

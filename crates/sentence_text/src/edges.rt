@@ -7,7 +7,6 @@ ghost use Rattle.printing.specs.Over.{farthest, Put};
 ghost use Rattle.sentence_text.specs.EdgesRead.{edge_record_at, edges_from, together, Firsts, edge_in, edges_text};
 ghost use Rattle.sentence_text.specs.Readable.{EdgeInside, EdgesInside, edge_most};
 
-use crate::TAB;
 use sentence_sheet::EDGE_WIDTH;
 
 // Note the place of each node's first edge, from the last edge to the first. A node without edges keeps its 0.
@@ -15,11 +14,9 @@ pub fn note_firsts(edges: &[u32], count: usize, firsts: &mut [u32])
     requires { (edge_width * count ≤ length edges.now) × (count ≤ edge_limit) × (firsts.old ≡ replicate node_room 0) × ((i : ℕ) → i < count → get_or edges.now (edge_width * i) 0 < node_room) }
     ensures { Firsts (edges_from edges.now 0 count) 0 firsts.new }
 {
-    let mut left = count;
-    while left > 0 {
-        left -= 1;
-        let child = edges[EDGE_WIDTH * left] as usize;
-        firsts[child] = left as u32;
+    for k in (0..count).rev() {
+        let child = edges[EDGE_WIDTH * k] as usize;
+        firsts[child] = k as u32;
     }
 }
 
@@ -28,11 +25,9 @@ pub fn forget_firsts(edges: &[u32], count: usize, firsts: &mut [u32])
     requires { (edge_width * count ≤ length edges.now) × (count ≤ edge_limit) × Firsts (edges_from edges.now 0 count) 0 firsts.old × ((i : ℕ) → i < count → get_or edges.now (edge_width * i) 0 < node_room) }
     ensures { firsts.new ≡ replicate node_room 0 }
 {
-    let mut k = 0;
-    while k < count {
+    for k in 0..count {
         let child = edges[EDGE_WIDTH * k] as usize;
         firsts[child] = 0;
-        k += 1;
     }
 }
 
@@ -41,8 +36,8 @@ pub fn put_edge(file: &[u8], edges: &[u32], place: usize, out: &mut [u8], at: us
     requires { EdgeInside file.now edges.now place × (at + edge_most ≤ farthest) }
     ensures { Put edge_most (edges_text (edge_in file.now (edge_record_at edges.now place) ∷ [])) at out.old result out.new }
 {
-    let labelled = printing::fields::put_field(TAB, file, edges, place + 1, place + 2, out, at);
-    printing::put_number_column(TAB, edges[place + 3], out, labelled)
+    let labelled = printing::fields::put_field(b'\t', file, edges, place + 1, place + 2, out, at);
+    printing::put_number_column(b'\t', edges[place + 3], out, labelled)
 }
 
 // The edges of a node, which stand together from the first on.
@@ -58,15 +53,13 @@ pub fn put_edges(
     requires { EdgesInside file.now edges.now count × (first ≤ count) × (count ≤ edge_limit) × (at + edge_limit * edge_most ≤ farthest) }
     ensures { Put (edge_limit * edge_most) (edges_text (map (edge_in file.now) (together node (edges_from edges.now (edge_width * first) (count - first))))) at out.old result out.new }
 {
-    let mut k = first;
     let mut end = at;
-    while k < count {
+    for k in first..count {
         let place = EDGE_WIDTH * k;
         if edges[place] != node {
             return end;
         }
         end = put_edge(file, edges, place, out, end);
-        k += 1;
     }
     end
 }

@@ -1,4 +1,5 @@
-// A sentence printed from its sheet and its list of secondary edges: document 01's "Tidy text".
+// A sentence printed from its sheet and its list of secondary edges: document 01's "Tidy text". The columns of a node's line
+// are parted by tabs, those of a keyword line by spaces.
 #![tactic(auto)]
 
 mod edges;
@@ -17,24 +18,17 @@ use sentence_sheet::{
     DATE, EDGES, EDITOR, FIRST_PHRASE, NUMBER, ORIGIN, PHRASES, REMARK, REMARK_LEN, WORDS,
 };
 
-// Tidy text parts the columns of a node's line by tabs, those of a keyword line by spaces.
-const TAB: u8 = 9;
-
-const SPACE: u8 = 32;
-
-const NEWLINE: u8 = 10;
-
 // #BOS and the sentence's numbers, without comment and newline.
 fn put_numbers(sheet: &[u32], out: &mut [u8], at: usize) -> usize
     requires { (leading_count ≤ length sheet.now) × (at + 48 ≤ farthest) }
     ensures { Put 48 (numbers_text sheet.now) at out.old result out.new }
 {
     let keyword = printing::put_text(b"#BOS", out, at);
-    let numbered = printing::put_number_column(SPACE, sheet[NUMBER], out, keyword);
-    let parted = printing::put_byte(SPACE, out, numbered);
+    let numbered = printing::put_number_column(b' ', sheet[NUMBER], out, keyword);
+    let parted = printing::put_byte(b' ', out, numbered);
     let edited = printing::digits::put_id(sheet[EDITOR], out, parted);
-    let dated = printing::put_number_column(SPACE, sheet[DATE], out, edited);
-    printing::put_number_column(SPACE, sheet[ORIGIN], out, dated)
+    let dated = printing::put_number_column(b' ', sheet[DATE], out, edited);
+    printing::put_number_column(b' ', sheet[ORIGIN], out, dated)
 }
 
 fn put_heading(file: &[u8], sheet: &[u32], out: &mut [u8], at: usize) -> usize
@@ -42,8 +36,8 @@ fn put_heading(file: &[u8], sheet: &[u32], out: &mut [u8], at: usize) -> usize
     ensures { Put heading_most (heading_line (sentence_in file.now sheet.now [])) at out.old result out.new }
 {
     let numbered = put_numbers(sheet, out, at);
-    let noted = printing::fields::put_note(SPACE, file, sheet, REMARK, REMARK_LEN, out, numbered);
-    printing::put_byte(NEWLINE, out, noted)
+    let noted = printing::fields::put_note(b' ', file, sheet, REMARK, REMARK_LEN, out, numbered);
+    printing::put_byte(b'\n', out, noted)
 }
 
 fn put_end(number: u32, out: &mut [u8], at: usize) -> usize
@@ -51,8 +45,8 @@ fn put_end(number: u32, out: &mut [u8], at: usize) -> usize
     ensures { Put end_most (keyword_line (bytes "#EOS" ∷ digits_of number ∷ [])) at out.old result out.new }
 {
     let keyword = printing::put_text(b"#EOS", out, at);
-    let numbered = printing::put_number_column(SPACE, number, out, keyword);
-    printing::put_byte(NEWLINE, out, numbered)
+    let numbered = printing::put_number_column(b' ', number, out, keyword);
+    printing::put_byte(b'\n', out, numbered)
 }
 
 // The sentence of a sheet and a list: its words, then its phrases by number. `firsts` is zero, and is so again.

@@ -10,7 +10,7 @@ ghost use Rattle.sentence_text.specs.EdgesRead.{Firsts};
 ghost use Rattle.sentence_text.specs.SheetRead.{node_text, name_text, columns_text, rest_text, node_in, edges_on_sheet};
 ghost use Rattle.sentence_text.specs.Readable.{TextInside, NodeInside, SheetReadable, node_most};
 
-use crate::{NEWLINE, TAB, edges};
+use crate::edges;
 use sentence_sheet::{COMMENT, EDGE, EDGES, MORPHOLOGY, PARENT, TAG, WORD};
 
 // A text of a node behind a tab, by the field of its start.
@@ -27,7 +27,7 @@ fn put_text(
 {
     let start = sentence_sheet::field_place(field, node);
     let len = sentence_sheet::field_place(field + 1, node);
-    printing::fields::put_field(TAB, file, sheet, start, len, out, at)
+    printing::fields::put_field(b'\t', file, sheet, start, len, out, at)
 }
 
 // A word, or # and a phrase's number.
@@ -53,7 +53,7 @@ fn put_columns(file: &[u8], sheet: &[u32], node: usize, out: &mut [u8], at: usiz
     let formed = put_text(file, sheet, MORPHOLOGY, node, out, tagged);
     let labelled = put_text(file, sheet, EDGE, node, out, formed);
     let place = sentence_sheet::field_place(PARENT, node);
-    printing::put_number_column(TAB, sheet[place], out, labelled)
+    printing::put_number_column(b'\t', sheet[place], out, labelled)
 }
 
 // The comment, if there is one, and the line's end.
@@ -63,8 +63,8 @@ fn put_rest(file: &[u8], sheet: &[u32], node: usize, out: &mut [u8], at: usize) 
 {
     let start = sentence_sheet::field_place(COMMENT, node);
     let len = sentence_sheet::field_place(COMMENT + 1, node);
-    let noted = printing::fields::put_note(TAB, file, sheet, start, len, out, at);
-    printing::put_byte(NEWLINE, out, noted)
+    let noted = printing::fields::put_note(b'\t', file, sheet, start, len, out, at);
+    printing::put_byte(b'\n', out, noted)
 }
 
 // A node's line; `firsts` tells where its secondary edges begin.
@@ -102,11 +102,9 @@ pub fn put_nodes(
     requires { SheetReadable file.now sheet.now list.now × Firsts (edges_on_sheet sheet.now list.now) 0 firsts.now × (from + count ≤ node_room) × (at + node_most * count ≤ farthest) }
     ensures { Put (node_most * count) (joined (map node_line (map (node_in file.now sheet.now (edges_on_sheet sheet.now list.now)) (counting from count)))) at out.old result out.new }
 {
-    let mut k = 0;
     let mut end = at;
-    while k < count {
-        end = put_node(file, sheet, list, firsts, from + k, out, end);
-        k += 1;
+    for node in from..from + count {
+        end = put_node(file, sheet, list, firsts, node, out, end);
     }
     end
 }

@@ -3,15 +3,11 @@ ghost use Rattle.std.specs.Prelude.{◌+◌, ◌<◌};
 ghost use Rattle.rules.specs.SheetFields.{node_width, node_room};
 
 use sentence_sheet::{
-    COMMENT, DATE, EDGE, EDGE_LIMIT, EDGE_LIST_SIZE, EDGE_WIDTH, EDITOR, MORPHOLOGY, NODE_ROOM,
-    NUMBER, ORIGIN, PARENT, REMARK, REMARK_LEN, SIZE, TAG, WORD,
+    COMMENT, DATE, EDGE, EDGE_LIST_SIZE, EDGE_WIDTH, EDITOR, MORPHOLOGY, NODE_ROOM, NUMBER, ORIGIN,
+    PARENT, REMARK, REMARK_LEN, SIZE, TAG, WORD,
 };
 use std::io;
 use std::io::Write;
-
-fn number<W: Write>(out: &mut W, before: &str, n: u32) -> io::Result<()> {
-    write!(out, "{before}{n}")
-}
 
 // Every text of an opened sentence lies within the file.
 fn text<W: Write>(
@@ -22,12 +18,11 @@ fn text<W: Write>(
     length: u32,
 ) -> io::Result<()> {
     let from = start as usize;
-    let to = from + length as usize;
-    if to > file.len() {
-        return Ok(());
+    if let Some(part) = file.get(from..from + length as usize) {
+        write!(out, "{before}")?;
+        out.write_all(part)?;
     }
-    write!(out, "{before}")?;
-    out.write_all(&file[from..to])
+    Ok(())
 }
 
 fn comment<W: Write>(out: &mut W, file: &[u8], start: u32, length: u32) -> io::Result<()> {
@@ -41,37 +36,16 @@ fn editor<W: Write>(out: &mut W, editor1: u32) -> io::Result<()> {
     if editor1 == 0 {
         write!(out, "\teditor -1")
     } else {
-        number(out, "\teditor ", editor1 - 1)
+        write!(out, "\teditor {}", editor1 - 1)
     }
 }
 
 fn heading<W: Write>(out: &mut W, file: &[u8], sheet: &[u32; SIZE]) -> io::Result<()> {
-    number(out, "sentence ", sheet[NUMBER])?;
+    write!(out, "sentence {}", sheet[NUMBER])?;
     editor(out, sheet[EDITOR])?;
-    number(out, "\tdate ", sheet[DATE])?;
-    number(out, "\torigin ", sheet[ORIGIN])?;
+    write!(out, "\tdate {}\torigin {}", sheet[DATE], sheet[ORIGIN])?;
     comment(out, file, sheet[REMARK], sheet[REMARK_LEN])?;
     out.write_all(b"\n")
-}
-
-fn edge_of<W: Write>(
-    out: &mut W,
-    file: &[u8],
-    edges: &[u32; EDGE_LIST_SIZE],
-    k: usize,
-    node: u32,
-) -> io::Result<()>
-    requires { k < 512 }
-{
-    let place = EDGE_WIDTH * k;
-    if edges[place] != node {
-        return Ok(());
-    }
-    if edges[place + 2] == 0 {
-        return Ok(());
-    }
-    text(out, "\t", file, edges[place + 1], edges[place + 2])?;
-    number(out, "\t", edges[place + 3])
 }
 
 fn edges_of<W: Write>(
@@ -80,17 +54,20 @@ fn edges_of<W: Write>(
     edges: &[u32; EDGE_LIST_SIZE],
     node: u32,
 ) -> io::Result<()> {
-    for k in 0..EDGE_LIMIT {
-        edge_of(out, file, edges, k, node)?;
+    for &[child, label, length, parent] in edges.as_chunks::<EDGE_WIDTH>().0 {
+        if child == node && length > 0 {
+            text(out, "\t", file, label, length)?;
+            write!(out, "\t{parent}")?;
+        }
     }
     Ok(())
 }
 
 // A phrase has no word.
 fn name<W: Write>(out: &mut W, file: &[u8], node: u32, start: u32, length: u32) -> io::Result<()> {
-    number(out, "", node)?;
+    write!(out, "{node}")?;
     if length == 0 {
-        number(out, "\t#", node)
+        write!(out, "\t#{node}")
     } else {
         text(out, "\t", file, start, length)
     }
@@ -141,7 +118,7 @@ fn node<W: Write>(
     column(out, file, sheet, TAG, n)?;
     column(out, file, sheet, MORPHOLOGY, n)?;
     column(out, file, sheet, EDGE, n)?;
-    number(out, "\t", field(sheet, PARENT, n))?;
+    write!(out, "\t{}", field(sheet, PARENT, n))?;
     edges_of(out, file, edges, n as u32)?;
     comment(
         out,

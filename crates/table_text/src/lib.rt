@@ -13,20 +13,27 @@ ghost use Rattle.printing.specs.Over.{farthest, Put};
 ghost use Rattle.table_text.specs.TablesShown.{shown_table, table_most, tables_most};
 ghost use Rattle.table_text.specs.WholeSheets.{WholeSheet};
 
+fn name_of(table: usize) -> &'static [u8]
+    requires { table < table_count }
+    ensures { (result.now ≡ table_name table) × (length result.now ≤ 10) }
+{
+    match table {
+        table_sheet::ORIGINS => b"ORIGIN",
+        table_sheet::EDITORS => b"EDITOR",
+        table_sheet::WORD_TAGS => b"WORDTAG",
+        table_sheet::MORPH_TAGS => b"MORPHTAG",
+        table_sheet::NODE_TAGS => b"NODETAG",
+        table_sheet::EDGE_TAGS => b"EDGETAG",
+        _ => b"SECEDGETAG",
+    }
+}
+
 // #BOT or #EOT with the table's name.
 fn put_named(keyword: &[u8], table: usize, out: &mut [u8], at: usize) -> usize
     requires { (length keyword.now ≡ 4) × (table < table_count) × (at + 16 ≤ farthest) }
     ensures { Put 16 (keyword_line (keyword.now ∷ table_name table ∷ [])) at out.old result out.new }
 {
-    match table {
-        0 => printing::put_keyword(keyword, b"ORIGIN", out, at),
-        1 => printing::put_keyword(keyword, b"EDITOR", out, at),
-        2 => printing::put_keyword(keyword, b"WORDTAG", out, at),
-        3 => printing::put_keyword(keyword, b"MORPHTAG", out, at),
-        4 => printing::put_keyword(keyword, b"NODETAG", out, at),
-        5 => printing::put_keyword(keyword, b"EDGETAG", out, at),
-        _ => printing::put_keyword(keyword, b"SECEDGETAG", out, at),
-    }
+    printing::put_keyword(keyword, name_of(table), out, at)
 }
 
 // A table, if it is present.
@@ -38,11 +45,11 @@ fn put_table(file: &[u8], sheet: &[u32], table: usize, out: &mut [u8], at: usize
     if count == 0 {
         return at;
     }
-    let rows = count - 1;
-    let mut order = [0u32; table_sheet::ROW_LIMIT];
-    order::list_rows(sheet, table, rows, &mut order);
+    let mut room = [0u32; table_sheet::ROW_LIMIT];
+    let order = &mut room[..count - 1];
+    order::list_rows(sheet, table, order);
     let opened = put_named(b"#BOT", table, out, at);
-    let filled = rows::put_rows(file, sheet, table, rows, &order, out, opened);
+    let filled = rows::put_rows(file, sheet, table, order, out, opened);
     put_named(b"#EOT", table, out, filled)
 }
 
@@ -51,11 +58,9 @@ pub fn print_tables(file: &[u8], sheet: &[u32], out: &mut [u8], at: usize) -> us
     requires { WholeSheet file.now sheet.now × (at + tables_most ≤ farthest) }
     ensures { Put tables_most (tables_text 0 (meant_tables (tables_in file.now sheet.now))) at out.old result out.new }
 {
-    let mut table = 0;
     let mut end = at;
-    while table < table_sheet::TABLE_COUNT {
+    for table in 0..table_sheet::TABLE_COUNT {
         end = put_table(file, sheet, table, out, end);
-        table += 1;
     }
     end
 }

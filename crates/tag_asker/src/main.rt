@@ -16,8 +16,8 @@ fn print_description<'a, W: Write>(
     tag: &[u8],
 ) -> io::Result<()> {
     let mut refusal = 0u32;
-    let mut tables = [0u32; 10759];
-    let mut seen = [0u8; 8192];
+    let mut tables = [0u32; table_sheet::SIZE];
+    let mut seen = [0u8; seen::SIZE];
     let part = explaining::explain(file, list, table, tag, &mut refusal, &mut tables, &mut seen);
     write!(out, "{refusal} ")?;
     out.write_all(part)?;

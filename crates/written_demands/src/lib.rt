@@ -57,13 +57,6 @@ pub fn rewritten(
     ReadAgain { written, again }
 }
 
-// The answers of two writings.
-#[derive(Clone, Copy)]
-pub struct Two {
-    pub first: Written,
-    pub second: Written,
-}
-
 // Demand 1: the contract leaves no second outcome, and of what buffers of the right size held before only the output's rest shows.
 pub fn written_twice(
     file: &[u8],
@@ -77,18 +70,18 @@ pub fn written_twice(
     seen2: &mut [u8],
     sheet2: &mut [u32],
     edges2: &mut [u32],
-) -> Two
+) -> (Written, Written)
     ensures only { output.old ≡ output2.old → tables.old ≡ tables2.old → seen.old ≡ seen2.old
         → sheet.old ≡ sheet2.old → edges.old ≡ edges2.old
-        → text_left result.first tables.new seen.new sheet.new edges.new output.new
-        ≡ text_left result.second tables2.new seen2.new sheet2.new edges2.new output2.new }
+        → text_left result.0 tables.new seen.new sheet.new edges.new output.new
+        ≡ text_left result.1 tables2.new seen2.new sheet2.new edges2.new output2.new }
     ensures fresh { WithinLimit file.now → AllFlatSized tables.old seen.old sheet.old edges.old
         → AllFlatSized tables2.old seen2.old sheet2.old edges2.old → length output.old ≡ length output2.old
         → SameWritten output.old output2.old
-        (text_left result.first tables.new seen.new sheet.new edges.new output.new)
-        (text_left result.second tables2.new seen2.new sheet2.new edges2.new output2.new) }
+        (text_left result.0 tables.new seen.new sheet.new edges.new output.new)
+        (text_left result.1 tables2.new seen2.new sheet2.new edges2.new output2.new) }
 {
     let first = writing::write_flat(file, output, tables, seen, sheet, edges);
     let second = writing::write_flat(file, output2, tables2, seen2, sheet2, edges2);
-    Two { first, second }
+    (first, second)
 }

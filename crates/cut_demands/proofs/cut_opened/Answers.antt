@@ -16,33 +16,3 @@ returns c =
       whole = by_number_lem _ _ _ _ _ _ _ p;
       after = by_number_lem _ _ _ _ _ _ _ q;
     }
-
-pub open_flat-first-requires : goal.open_flat-first-requires
-open_flat-first-requires c = tt
-
-pub open_flat-second-requires : goal.open_flat-second-requires
-open_flat-second-requires c = tt
-
-pub shape_of-tables : goal.shape_of-tables
-shape_of-tables c = c.open_flat-first.auto.tables
-
-pub shape_of-seen : goal.shape_of-seen
-shape_of-seen c = c.open_flat-first.auto.seen
-
-pub shape_of-sheet : goal.shape_of-sheet
-shape_of-sheet c = c.open_flat-first.auto.sheet
-
-pub shape_of-edges : goal.shape_of-edges
-shape_of-edges c = c.open_flat-first.auto.edges
-
-pub shape_of-tables2 : goal.shape_of-tables2
-shape_of-tables2 c = c.open_flat-second.auto.tables
-
-pub shape_of-seen2 : goal.shape_of-seen2
-shape_of-seen2 c = c.open_flat-second.auto.seen
-
-pub shape_of-sheet2 : goal.shape_of-sheet2
-shape_of-sheet2 c = c.open_flat-second.auto.sheet
-
-pub shape_of-edges2 : goal.shape_of-edges2
-shape_of-edges2 c = c.open_flat-second.auto.edges

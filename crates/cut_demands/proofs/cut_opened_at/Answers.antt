@@ -10,21 +10,3 @@ returns c =
     let p = ap as_there c.open_flat_at-first.ensures.0 in
     let q = ap as_there c.open_flat_at-second.ensures.0 in
     record { alike = λ n x front h back whole e fits its place sized sized2. cut_alike_at _ whole front h back its n _ _ sized _ _ sized2 x _ _ e fits place _ _ p q; whole = at_place _ _ _ _ _ p; after = at_place _ _ _ _ _ q }
-
-pub open_flat_at-first-requires : goal.open_flat_at-first-requires
-open_flat_at-first-requires c = tt
-
-pub open_flat_at-second-requires : goal.open_flat_at-second-requires
-open_flat_at-second-requires c = tt
-
-pub shape_of-sheet : goal.shape_of-sheet
-shape_of-sheet c = c.open_flat_at-first.auto.sheet
-
-pub shape_of-edges : goal.shape_of-edges
-shape_of-edges c = c.open_flat_at-first.auto.edges
-
-pub shape_of-sheet2 : goal.shape_of-sheet2
-shape_of-sheet2 c = c.open_flat_at-second.auto.sheet
-
-pub shape_of-edges2 : goal.shape_of-edges2
-shape_of-edges2 c = c.open_flat_at-second.auto.edges

@@ -5,15 +5,6 @@ use Rattle.demands.specs.Surveying.{Surveying, surveying, Promised}
 use Rattle.demands.proofs.Accepted.{accepted_by_survey, accepted_as_written}
 use Rattle.demands.proofs.accepts.Goals as goal
 
-pub survey-answer-requires : goal.survey-answer-requires
-survey-answer-requires c = tt
-
-pub shape_of-sheet : goal.shape_of-sheet
-shape_of-sheet c = c.survey-answer.auto.sheet
-
-pub shape_of-seen : goal.shape_of-seen
-shape_of-seen c = c.survey-answer.auto.seen
-
 pub returns : goal.returns
 returns c =
     let call : Surveying = let a = c.args in

@@ -5,12 +5,3 @@ use Rattle.explained_demands.proofs.explains.Goals as goal
 
 pub returns : goal.returns
 returns c = given_as _ _ _ _ _ _ _ _ _ _ c.explain.ensures
-
-pub explain-requires : goal.explain-requires
-explain-requires c = tt
-
-pub shape_of-tables : goal.shape_of-tables
-shape_of-tables c = c.explain.auto.sheet
-
-pub shape_of-seen : goal.shape_of-seen
-shape_of-seen c = c.explain.auto.seen

@@ -9,12 +9,3 @@ pub returns : goal.returns
 returns c =
     let p = ap as_there c.open_flat_at.ensures.0 in
     record { climbs = λ z. climbs_at_place _ _ _ _ _ p z; whole = at_place _ _ _ _ _ p }
-
-pub open_flat_at-requires : goal.open_flat_at-requires
-open_flat_at-requires c = tt
-
-pub shape_of-sheet : goal.shape_of-sheet
-shape_of-sheet c = c.open_flat_at.auto.sheet
-
-pub shape_of-edges : goal.shape_of-edges
-shape_of-edges c = c.open_flat_at.auto.edges

@@ -8,21 +8,3 @@ returns c =
     let p = ap as_there c.open_flat_at-first.ensures.0 in
     let q = ap as_there c.open_flat_at-second.ensures.0 in
     record { only = λ h e. opened_at_only _ _ _ _ _ _ _ _ p q h e; fresh = λ fits k l. opened_at_fresh _ _ _ _ _ _ _ _ p q fits k l }
-
-pub open_flat_at-first-requires : goal.open_flat_at-first-requires
-open_flat_at-first-requires c = tt
-
-pub open_flat_at-second-requires : goal.open_flat_at-second-requires
-open_flat_at-second-requires c = tt
-
-pub shape_of-sheet : goal.shape_of-sheet
-shape_of-sheet c = c.open_flat_at-first.auto.sheet
-
-pub shape_of-edges : goal.shape_of-edges
-shape_of-edges c = c.open_flat_at-first.auto.edges
-
-pub shape_of-sheet2 : goal.shape_of-sheet2
-shape_of-sheet2 c = c.open_flat_at-second.auto.sheet
-
-pub shape_of-edges2 : goal.shape_of-edges2
-shape_of-edges2 c = c.open_flat_at-second.auto.edges

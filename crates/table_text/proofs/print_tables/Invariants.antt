@@ -1,6 +1,5 @@
 -- `table_text::print_tables` meets its contract: as many tables as were passed are put.
--- The measure is the count of tables left.
-use Prim.Native.Nat.{◌-◌, ◌*◌, ◌≤◌}
+use Prim.Native.Nat.{◌*◌}
 use mathlib.Core.List.{map}
 use Rattle.rules.specs.Lists.{counting, joined}
 use Rattle.printing.specs.Over.{Put}
@@ -9,7 +8,4 @@ use Rattle.table_text.proofs.ShownTables.{shown}
 use Rattle.table_text.proofs.print_tables.Given as goal
 
 abbrev pub invariant-loop-table : goal.invariant-loop-table
-invariant-loop-table l = (l.table ≤ 7) × Put (table_most * l.table) (joined (map (shown l.file l.sheet) (counting 0 l.table))) l.at l.initial.out l.end l.out
-
-abbrev pub decreases-loop-table : goal.decreases-loop-table
-decreases-loop-table l = 7 - l.table
+invariant-loop-table l = Put (table_most * l.table) (joined (map (shown l.file l.sheet) (counting 0 l.table))) l.at l.initial.out l.end l.out

@@ -11,30 +11,3 @@ returns c =
     let p = ap as_text c.write_flat-written.ensures in
     let q = c.cut-again.ensures.whole in
     record { back = λ z sized. read_back _ _ _ _ _ _ _ p z _ q refl sized; refused = λ ne. output_as_lent _ _ _ _ _ _ _ p ne; whole = as_called _ _ _ _ _ _ _ p; again = q }
-
-pub write_flat-written-requires : goal.write_flat-written-requires
-write_flat-written-requires c = tt
-
-pub cut-again-requires : goal.cut-again-requires
-cut-again-requires c = tt
-
-pub shape_of-output : goal.shape_of-output
-shape_of-output c = c.write_flat-written.auto.output
-
-pub shape_of-tables : goal.shape_of-tables
-shape_of-tables c = c.write_flat-written.auto.tables
-
-pub shape_of-seen : goal.shape_of-seen
-shape_of-seen c = c.write_flat-written.auto.seen
-
-pub shape_of-sheet : goal.shape_of-sheet
-shape_of-sheet c = c.write_flat-written.auto.sheet
-
-pub shape_of-edges : goal.shape_of-edges
-shape_of-edges c = c.write_flat-written.auto.edges
-
-pub shape_of-tables2 : goal.shape_of-tables2
-shape_of-tables2 c = c.cut-again.auto.sheet
-
-pub shape_of-seen2 : goal.shape_of-seen2
-shape_of-seen2 c = c.cut-again.auto.seen

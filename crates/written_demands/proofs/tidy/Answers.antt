@@ -2,14 +2,5 @@
 use Rattle.written_demands.proofs.TidySurveyed.{tidy_by_survey}
 use Rattle.written_demands.proofs.tidy.Goals as goal
 
-pub survey-requires : goal.survey-requires
-survey-requires c = tt
-
-pub shape_of-sheet : goal.shape_of-sheet
-shape_of-sheet c = c.survey.auto.sheet
-
-pub shape_of-seen : goal.shape_of-seen
-shape_of-seen c = c.survey.auto.seen
-
 pub returns : goal.returns
 returns c = let promised = c.survey.ensures in record { alike = λ f e same r. tidy_by_survey f _ promised e same r; whole = promised }

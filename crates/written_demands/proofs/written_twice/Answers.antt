@@ -8,39 +8,3 @@ returns c =
     let p = ap as_text c.write_flat-first.ensures in
     let q = ap as_text c.write_flat-second.ensures in
     record { only = λ o t s h e. written_only _ _ _ _ _ _ _ _ _ _ _ _ _ p q o t s h e; fresh = λ fits k l e. written_fresh _ _ _ _ _ _ _ _ _ _ _ _ _ p q fits k l e }
-
-pub write_flat-first-requires : goal.write_flat-first-requires
-write_flat-first-requires c = tt
-
-pub write_flat-second-requires : goal.write_flat-second-requires
-write_flat-second-requires c = tt
-
-pub shape_of-output : goal.shape_of-output
-shape_of-output c = c.write_flat-first.auto.output
-
-pub shape_of-tables : goal.shape_of-tables
-shape_of-tables c = c.write_flat-first.auto.tables
-
-pub shape_of-seen : goal.shape_of-seen
-shape_of-seen c = c.write_flat-first.auto.seen
-
-pub shape_of-sheet : goal.shape_of-sheet
-shape_of-sheet c = c.write_flat-first.auto.sheet
-
-pub shape_of-edges : goal.shape_of-edges
-shape_of-edges c = c.write_flat-first.auto.edges
-
-pub shape_of-output2 : goal.shape_of-output2
-shape_of-output2 c = c.write_flat-second.auto.output
-
-pub shape_of-tables2 : goal.shape_of-tables2
-shape_of-tables2 c = c.write_flat-second.auto.tables
-
-pub shape_of-seen2 : goal.shape_of-seen2
-shape_of-seen2 c = c.write_flat-second.auto.seen
-
-pub shape_of-sheet2 : goal.shape_of-sheet2
-shape_of-sheet2 c = c.write_flat-second.auto.sheet
-
-pub shape_of-edges2 : goal.shape_of-edges2
-shape_of-edges2 c = c.write_flat-second.auto.edges

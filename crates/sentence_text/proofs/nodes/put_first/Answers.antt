@@ -7,9 +7,6 @@ use Rattle.printing.proofs.PutLaws.{put_then, put_as, put_wider}
 use Rattle.sentence_text.proofs.LineTexts.{word_text_lem, phrase_text}
 use Rattle.sentence_text.proofs.nodes.put_first.Goals as goal
 
-pub put_name-requires : goal.put_name-requires
-put_name-requires c = (rw (c.field_place-start.ensures, c.field_place-len.ensures) c.requires.1, omega arith)
-
 pub returns-then-sheet-len-gt0 : goal.returns-then-sheet-len-gt0
 returns-then-sheet-len-gt0 c =
     let a = c.args in

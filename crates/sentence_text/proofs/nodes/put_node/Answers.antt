@@ -9,15 +9,6 @@ use Rattle.sentence_text.proofs.LineTexts.{node_text_lem}
 use Rattle.sentence_text.proofs.FirstEdges.{first_low, length_edges}
 use Rattle.sentence_text.proofs.nodes.put_node.Goals as goal
 
-pub put_first-named-requires : goal.put_first-named-requires
-put_first-named-requires c = (c.requires.2, (c.requires.0.each_node c.args.node (omega arith)).word, omega arith)
-
-pub put_columns-columned-requires : goal.put_columns-columned-requires
-put_columns-columned-requires c = (c.requires.2, c.requires.0.size, c.requires.0.each_node c.args.node (omega arith), omega arith)
-
-pub overflow_cast-first : goal.overflow_cast-first
-overflow_cast-first c = omega (arith, c.shared_slice_known-5-1.given c.args.node)
-
 pub put_edges-edged-requires : goal.put_edges-edged-requires
 put_edges-edged-requires c =
     let a = c.args in
@@ -26,9 +17,6 @@ put_edges-edged-requires c =
     let first : get_or a.firsts.now a.node 0 ≤ edges_counted a.sheet.now =
     omega (arith, p.1.first a.node (omega arith), first_low 0 a.node es, length_edges a.list.now 0 (edges_counted a.sheet.now)) in
     (p.0.each_edge, first, p.0.few, omega arith)
-
-pub put_rest-requires : goal.put_rest-requires
-put_rest-requires c = (c.requires.2, (c.requires.0.each_node c.args.node (omega arith)).comment, omega arith)
 
 pub returns : goal.returns
 returns c =

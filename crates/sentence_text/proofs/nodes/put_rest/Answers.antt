@@ -1,6 +1,5 @@
 -- `nodes::put_rest` meets its contract: the comment, then the newline.
 -- No loop.
-use native.Mathlib.Omega.{arith}
 use Prim.Native.Nat.{ℕ}
 use mathlib.Core.Path.{ap₂, ◌∙◌}
 use mathlib.Core.List.{[], ◌∷◌, ◌++◌}
@@ -11,9 +10,6 @@ use Rattle.printing.specs.Fields.{field_text}
 use Rattle.printing.proofs.PutLaws.{put_then, put_as}
 use Rattle.sentence_text.proofs.LineTexts.{rest_text_lem}
 use Rattle.sentence_text.proofs.nodes.put_rest.Goals as goal
-
-pub put_note-noted-requires : goal.put_note-noted-requires
-put_note-noted-requires c = (rw (c.field_place-start.ensures, c.field_place-len.ensures) c.requires.1, omega arith)
 
 pub returns : goal.returns
 returns c =

@@ -1,15 +1,9 @@
 -- `rows::put_row` meets its contract: column behind column.
 -- No loop.
-use native.Mathlib.Omega.{arith}
 use Rattle.printing.proofs.PutLaws.{put_then, put_as}
 use Rattle.table_sheet.specs.SheetRows.{row_at}
-use Rattle.table_text.proofs.RowTexts.{row_line_lem, first_inside}
+use Rattle.table_text.proofs.RowTexts.{row_line_lem}
 use Rattle.table_text.proofs.rows.put_row.Goals as goal
-
-pub put_field-named-requires : goal.put_field-named-requires
-put_field-named-requires c =
-    let a = c.args in
-    (first_inside a.file.now a.sheet.now a.place c.requires.0 c.requires.1, omega arith)
 
 pub returns : goal.returns
 returns c =
