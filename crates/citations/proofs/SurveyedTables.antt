@@ -2,7 +2,7 @@
 -- and tells them.
 use Prim.Native.Nat.{ℕ}
 use mathlib.Core.Path.{◌≡◌}
-use mathlib.Core.Option.{Option}
+use Rattle.std.specs.Prelude.{Option}
 use mathlib.Core.List.{List}
 use Rattle.rules.specs.Lists.{Each}
 use Rattle.rules.specs.Texts.{Text}

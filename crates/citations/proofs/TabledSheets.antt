@@ -2,7 +2,7 @@
 use Prim.Native.Nat.{ℕ, suc, ◌-◌, ◌≤◌, ◌<◌}
 use native.Mathlib.Omega.{arith}
 use mathlib.Core.Path.{◌≡◌, refl, sym, ap, ◌∙◌, subst}
-use mathlib.Core.Option.{Option, none, some}
+use Rattle.std.specs.Prelude.{Option, None, Some}
 use mathlib.Core.List.{List}
 use lib.ListN.{length, get_or}
 use Rattle.rules.specs.Numbers.{row_limit}
@@ -15,12 +15,12 @@ use Rattle.table_sheet.proofs.ReadBack.{table_rows_inside}
 use Rattle.citations.specs.Tabled.{Counted, Tabled}
 
 count_bound : (t : Option (List Row)) → RowsHaveRoom (rows_of t) → count t ≤ suc row_limit
-count_bound none h = omega arith
-count_bound (some rs) h = omega arith
+count_bound None h = omega arith
+count_bound (Some rs) h = omega arith
 
 count_rows : (t : Option (List Row)) → count t - 1 ≡ length (rows_of t)
-count_rows none = refl
-count_rows (some rs) = omega arith
+count_rows None = refl
+count_rows (Some rs) = omega arith
 
 pub full_counted : (sheet : List ℕ) → length sheet ≡ table_sheet_size → ((n : ℕ) → n < table_count → get_or sheet n 0 ≤ suc row_limit) → Counted sheet
 full_counted sheet size counts =
@@ -38,7 +38,7 @@ module _ (ts : Tables) (fits : TablesHaveRoom ts) where
       full_counted (table_sheet ts) (length_table_sheet ts fits)
       (λ n h.
       rw (count_is n h)
-      (count_bound (table n ts) (each_at (λ (t : Option (List Row)). RowsHaveRoom (rows_of t)) ts n none fits.room (omega (arith, fits.seven)))))
+      (count_bound (table n ts) (each_at (λ (t : Option (List Row)). RowsHaveRoom (rows_of t)) ts n None fits.room (omega (arith, fits.seven)))))
 
   pub tabled : (file : List ℕ) → TablesStand file ts → Tabled file (table_sheet ts)
   tabled file stand =

@@ -26,11 +26,7 @@ pub fn tag_limit(table: usize) -> usize
 pub fn is_unknown(tag: &[u8]) -> bool
     ensures { result ≡ same tag.now unknown }
 {
-    if tag.len() != 7 {
-        return false;
-    }
-    let word = [85u8, 78, 75, 78, 79, 87, 78];
-    texts::same_text(tag, &word)
+    tag == b"UNKNOWN".as_slice()
 }
 
 // -- and UNKNOWN always are, and any tag of a table that the file doesn't have. The answer is the same whatever the hints.
@@ -55,8 +51,7 @@ pub fn is_known(
         return true;
     }
     let place = table_sheet::row_place(table, 0);
-    let found = table_sheet::find_tag(file, sheet, hints, table, place, count - 1, tag);
-    table_sheet::is_row(found)
+    table_sheet::find_tag(file, sheet, hints, table, place, count - 1, tag).is_some()
 }
 
 // Whether a tag has just two bytes is hard to guess. The last is at hand before that is asked, so that one branch tells both.
@@ -120,8 +115,7 @@ fn has_row(sheet: &[u32], table: usize, id1: u32) -> bool
     if ids::counts_up_to(sheet, place, count - 1, id1) {
         return true;
     }
-    let row = table_sheet::find_id(sheet, place, count - 1, id1);
-    table_sheet::is_row(row)
+    table_sheet::find_id(sheet, place, count - 1, id1).is_some()
 }
 
 // The editor's id + 1: -1 and 0 may be cited without a row.

@@ -1,11 +1,11 @@
-// The constant table of byte classes, which every walk along bytes is lent.
+// The table of byte classes, which every walk along bytes reads.
 #![tactic(auto)]
 
 ghost use Rattle.std.specs.Prelude.{◌≡◌};
-ghost use Rattle.rules.specs.Bytes.{class_table, class_of};
+ghost use Rattle.rules.specs.Bytes.{class_of};
 
 // The class of each byte: 0 illegal, 1 white, 2 digit, 3 other.
-const CLASSES: [u8; 256] = [
+static CLASSES: [u8; 256] = [
     0, 0, 0, 0, 0, 0, 0, 0, 0, 1, // 9: tab
     0, // 10: newline
     0, 0, 0, 0, 0, 0, 0, 0, 0, 0, 0, 0, 0, 0, 0, 0, 0, 0, 0, 0, 0, 1, // 32: space
@@ -21,16 +21,8 @@ const CLASSES: [u8; 256] = [
     3, 3, 3, 3, 3, 3, 3, 3, 3, 3, 3, 3, 3, 3, 3, 3, 3, 3, 3, 3, 3, 3, 3, 3, 3, 3, 3, 3, 3, 3, 3,
 ];
 
-// A local of this is lent to every walk along bytes: a constant would be built anew at each use.
-pub fn byte_classes() -> [u8; 256]
-    ensures { result ≡ class_table }
-{
-    CLASSES
-}
-
-pub fn class_of(classes: &[u8; 256], b: u8) -> u8
-    requires { classes.now ≡ class_table }
+pub fn class_of(b: u8) -> u8
     ensures { result ≡ class_of b }
 {
-    classes[b as usize]
+    CLASSES[b as usize]
 }

@@ -7,7 +7,7 @@ use mathlib.Core.Path.{◌≡◌, refl, ap}
 use mathlib.Core.List.{List, [], ◌∷◌, ◌++◌}
 use lib.ListN.{length, drop, get_or}
 use Rattle.rules.specs.Columns as lines
-use Rattle.columns.specs.Cursors.{first_of, next_column}
+use Rattle.columns.specs.Cursors.{found_at, first_of, next_column}
 use Rattle.columns.specs.Listing.{behind_text, bounds, places_of}
 use Rattle.columns.proofs.Steps.{column_between, Step, found}
 
@@ -29,7 +29,7 @@ pub record Stands (s : List ℕ) (at : ℕ) (cs : List lines.Column) (k : ℕ) :
 step_of : (s : List ℕ) (at : ℕ) (c : lines.Column) (cs : List lines.Column) → lines.columns_from at (drop at s) ≡ c ∷ cs
     → Step s at c.text.start (behind_text c.text) (record { at = behind_text c.text })
 unfolding next_column
-step_of s at c cs q = found s at c.text.start (behind_text c.text) (record { at = behind_text c.text }) (ap first_of q)
+step_of s at c cs q = found s at (found_at c.text.start (behind_text c.text)) (ap first_of q)
 
 pub stands : (s : List ℕ) (at : ℕ) (cs : List lines.Column) → lines.columns_from at (drop at s) ≡ cs → (k : ℕ) → k < length cs → Stands s at cs k
 stands s at [] q k h = absurd (not-suc-le-zero h)

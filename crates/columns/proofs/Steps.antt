@@ -14,9 +14,10 @@ use Rattle.rules.specs.Bytes.{white}
 use Rattle.rules.specs.Columns as lines
 use Rattle.rules.proofs.ColumnLaws.{columns_skip, columns_run}
 use Rattle.columns.specs.Leading.{run_length, solid}
-use Rattle.columns.specs.Cursors.{first_of, next_column}
+use Rattle.std.specs.Prelude.{Some, None}
+use Rattle.columns.specs.Cursors.{found_at, first_of, next_column}
 use Rattle.columns.specs.declared.Cursor.{Cursor}
-use Rattle.columns.specs.declared.Column.TheVariants.{Found, Missing}
+use Rattle.columns.specs.declared.Found.{Found}
 use Rattle.columns.proofs.Leading.{leading_more, leading_within, leading_every, leading_behind, leading_column, none_white}
 
 -- the column of a file's head between two places
@@ -83,30 +84,30 @@ module _ (s : List ℕ) (at : ℕ) where
       ∙ front (start_from s at) (drop (start_from s at) s) (omega (arith, end_is h))
       ∙ rw (add-sub_cancel_left (start_from s at) n, drop-drop n (start_from s at) s)
 
-  at_missing : length s ≤ start_from s at → next_column s at ≡ Missing
+  at_missing : length s ≤ start_from s at → next_column s at ≡ None
   unfolding next_column
   at_missing h = ap first_of (none_left h)
 
-  at_found : start_from s at < length s → next_column s at ≡ Found (start_from s at) (end_from s at) (record { at = end_from s at })
+  at_found : start_from s at < length s → next_column s at ≡ Some (found_at (start_from s at) (end_from s at))
   unfolding next_column
   at_found h =
       let n : ℕ = end_from s at - start_from s at in
       let m : length (take n (drop (start_from s at) s)) ≡ n = length-take-le n (drop (start_from s at) s) (omega (arith, within h, length-drop (start_from s at) s)) in
       let k : start_from s at + length (take n (drop (start_from s at) s)) ≡ end_from s at = omega arith in
-      ap first_of (first_is h) ∙ ap (λ (e : ℕ). Found (start_from s at) e (record { at = e })) k
+      ap first_of (first_is h) ∙ ap (λ (e : ℕ). Some (found_at (start_from s at) e)) k
 
 -- the same, of the places that the code comes to
 module _ (s : List ℕ) (at a : ℕ) (start : a ≡ start_from s at) where
-  pub comes_to_none : length s ≤ a → next_column s at ≡ Missing
+  pub comes_to_none : length s ≤ a → next_column s at ≡ None
   comes_to_none h = at_missing s at (omega arith)
 
-  pub comes_to_one : (e : ℕ) → e ≡ a + 1 + run_length solid (drop (a + 1) s) → a < length s → next_column s at ≡ Found a e (record { at = e })
+  pub comes_to_one : (e : ℕ) → e ≡ a + 1 + run_length solid (drop (a + 1) s) → a < length s → next_column s at ≡ Some (found_at a e)
   comes_to_one e end h =
       let k : start_from s at < length s = omega arith in
       let l : end_from s at ≡ e = end_is s at k ∙ ap (λ (n : ℕ). n + 1 + run_length solid (drop (n + 1) s)) (sym start) ∙ sym end in
       at_found s at k
-      ∙ ap (λ (n : ℕ). Found n (end_from s at) (record { at = end_from s at })) (sym start)
-      ∙ ap (λ (n : ℕ). Found a n (record { at = n })) l
+      ∙ ap (λ (n : ℕ). Some (found_at n (end_from s at))) (sym start)
+      ∙ ap (λ (n : ℕ). Some (found_at a n)) l
 
 -- what a step that found a column has found, and what it leaves
 pub record Step (s : List ℕ) (at a e : ℕ) (n : Cursor) : Type 0 where
@@ -116,24 +117,25 @@ pub record Step (s : List ℕ) (at a e : ℕ) (n : Cursor) : Type 0 where
   pub inside : e ≤ length s
   pub columns : lines.columns_from at (drop at s) ≡ column_between s a e ∷ lines.columns_from e (drop e s)
 
-pub missing : (s : List ℕ) (at : ℕ) → next_column s at ≡ Missing → lines.columns_from at (drop at s) ≡ []
+pub missing : (s : List ℕ) (at : ℕ) → next_column s at ≡ None → lines.columns_from at (drop at s) ≡ []
 missing s at q = go (ltb (start_from s at) (length s)) refl
   where
     go : (t : Bool) → ltb (start_from s at) (length s) ≡ t → lines.columns_from at (drop at s) ≡ []
     go true h = cc (at_found s at (ltb-true _ _ h))
     go false h = none_left s at (ltb-false _ _ h)
 
-pub found : (s : List ℕ) (at a e : ℕ) (n : Cursor) → next_column s at ≡ Found a e n → Step s at a e n
-found s at a e n q = go (ltb (start_from s at) (length s)) refl
+pub found : (s : List ℕ) (at : ℕ) (f : Found) → next_column s at ≡ Some f → Step s at f.start f.end f.next
+found s at f q = go (ltb (start_from s at) (length s)) refl
   where
-    go : (t : Bool) → ltb (start_from s at) (length s) ≡ t → Step s at a e n
+    go : (t : Bool) → ltb (start_from s at) (length s) ≡ t → Step s at f.start f.end f.next
     go true h =
         let l : start_from s at < length s = ltb-true _ _ h in
-        let f : next_column s at ≡ Found (start_from s at) (end_from s at) (record { at = end_from s at }) = at_found s at l in
-        let p : start_from s at ≡ a = cc in
-        let r : end_from s at ≡ e = cc in
+        let w : found_at (start_from s at) (end_from s at) ≡ f = cc (at_found s at l) in
+        let p : start_from s at ≡ f.start = ap (λ (x : Found). x.start) w in
+        let r : end_from s at ≡ f.end = ap (λ (x : Found). x.end) w in
+        let n : end_from s at ≡ f.next.at = ap (λ (x : Found). x.next.at) w in
         record {
-          next = cc;
+          next = sym n ∙ r;
           from = omega arith;
           some = omega (arith, end_is s at l);
           inside = omega (arith, within s at l);

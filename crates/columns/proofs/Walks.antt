@@ -10,10 +10,10 @@ use lib.Seq.{length-take-le, take-suc, take_all, drop-cons}
 use Rattle.rules.specs.Numbers.{line_limit}
 use Rattle.rules.specs.Columns as lines
 use Rattle.columns.specs.Splices.{splice}
+use Rattle.std.specs.Prelude.{Some, None}
 use Rattle.columns.specs.Cursors.{next_column}
 use Rattle.columns.specs.Listing.{places_of}
-use Rattle.columns.specs.declared.Cursor.{Cursor}
-use Rattle.columns.specs.declared.Column.TheVariants.{Found, Missing}
+use Rattle.columns.specs.declared.Found.{Found}
 use Rattle.columns.proofs.Steps.{column_between, missing, found}
 use Rattle.columns.proofs.Shifts.{moved, columns_moved, columns_half}
 use Rattle.columns.proofs.Stands.{length_places, places_more}
@@ -80,7 +80,7 @@ module _ (line : List ℕ) (from start : ℕ) (lent places : List ℕ) (at count
   abbrev all : List lines.Column
   all = walked line from start
 
-  pub walking_end : next_column line at ≡ Missing → (count ≡ length all) × (places ≡ splice 0 (places_of all) lent)
+  pub walking_end : next_column line at ≡ None → (count ≡ length all) × (places ≡ splice 0 (places_of all) lent)
   walking_end q =
       let none : drop count all ≡ [] = w.rest ∙ columns_moved start at (drop at line) ∙ ap (map (moved start)) (missing line at q) in
       let gone : length all ≤ count = omega (arith, length-drop count all, ap length none) in (
@@ -88,33 +88,31 @@ module _ (line : List ℕ) (from start : ℕ) (lent places : List ℕ) (at count
         w.stored ∙ ap (λ (cs : List lines.Column). splice 0 (places_of cs) lent) (take_all count all gone),
       )
 
-  module _ (a e : ℕ) (n : Cursor) (q : next_column line at ≡ Found a e n) where
-    pub walking_bounds : (at ≤ a) × (a < e) × (e ≤ length line)
-    walking_bounds = let t = found line at a e n q in (t.from, t.some, t.inside)
-
-    pub walking_leaps : n.at ≡ e
-    walking_leaps = (found line at a e n q).next
-
-    goes : drop count all ≡ moved start (column_between line a e) ∷ lines.columns_from (start + e) (drop e line)
+  module _ (f : Found) (q : next_column line at ≡ Some f) where
+    goes : drop count all ≡ moved start (column_between line f.start f.end) ∷ lines.columns_from (start + f.end) (drop f.end line)
     goes =
         w.rest
         ∙ columns_moved start at (drop at line)
-        ∙ ap (map (moved start)) (found line at a e n q).columns
-        ∙ ap (λ (cs : List lines.Column). moved start (column_between line a e) ∷ cs) (sym (columns_moved start e (drop e line)))
+        ∙ ap (map (moved start)) (found line at f q).columns
+        ∙ ap (λ (cs : List lines.Column). moved start (column_between line f.start f.end) ∷ cs) (sym (columns_moved start f.end (drop f.end line)))
 
-    pub walking_room : 2 * count + 1 < 4096
-    walking_room =
+    room : 2 * count + 1 < 4096
+    room =
         omega (arith, w.short, columns_half (start + from) (drop from line), length-drop from line, next_there all count _ _ goes)
 
-    sized : start + a + length (take (e - a) (drop a line)) ≡ start + e
-    sized =
-        let b = walking_bounds in
-        omega (arith, length-take-le (e - a) (drop a line) (omega (arith, length-drop a line)))
+    -- the column lies in the line, behind the cursor; the next cursor stands at its end, and there is room for it
+    pub walking_reach : (at ≤ f.start) × (f.start < f.end) × (f.end ≤ length line) × (f.next.at ≡ f.end) × (2 * count + 1 < 4096)
+    walking_reach = let t = found line at f q in (t.from, t.some, t.inside, t.next, room)
 
-    pub walking_next : Walking line from start lent (set (set places (2 * count) (start + a)) (2 * count + 1) (start + e)) n.at (count + 1)
+    sized : start + f.start + length (take (f.end - f.start) (drop f.start line)) ≡ start + f.end
+    sized =
+        let b = walking_reach in
+        omega (arith, length-take-le (f.end - f.start) (drop f.start line) (omega (arith, length-drop f.start line)))
+
+    pub walking_next : Walking line from start lent (set (set places (2 * count) (start + f.start)) (2 * count + 1) (start + f.end)) f.next.at (count + 1)
     walking_next =
-        let t = found line at a e n q in
-        let c = moved start (column_between line a e) in
+        let t = found line at f q in
+        let c = moved start (column_between line f.start f.end) in
         record {
           room = w.room;
           kept = simp length-set w.kept;
@@ -123,10 +121,10 @@ module _ (line : List ℕ) (from start : ℕ) (lent places : List ℕ) (at count
           below = omega (arith, next_there all count _ _ goes);
           rest = next_left all count _ _ goes ∙ ap (λ (k : ℕ). lines.columns_from (start + k) (drop k line)) (sym t.next);
           stored =
-              ap (λ (l : List ℕ). set (set l (2 * count) (start + a)) (2 * count + 1) (start + e)) w.stored
-              ∙ store_two (take count all) lent count (start + a) (start + e) (length-take-le count all w.below) (omega (arith, w.room, walking_room))
+              ap (λ (l : List ℕ). set (set l (2 * count) (start + f.start)) (2 * count + 1) (start + f.end)) w.stored
+              ∙ store_two (take count all) lent count (start + f.start) (start + f.end) (length-take-le count all w.below) (omega (arith, w.room, room))
               ∙ ap (λ (l : List ℕ). splice 0 l lent)
-              (ap (λ (k : ℕ). places_of (take count all) ++ ((start + a) ∷ k ∷ [])) (sym sized)
+              (ap (λ (k : ℕ). places_of (take count all) ++ ((start + f.start) ∷ k ∷ [])) (sym sized)
               ∙ sym (places_more (take count all) c)
               ∙ ap places_of (sym (next_taken all count _ _ goes)));
         }

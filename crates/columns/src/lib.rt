@@ -2,38 +2,35 @@
 // and each step hands back the next one.
 #![tactic(auto)]
 
+pub mod listed;
 pub mod listing;
 pub mod reader;
 
 ghost use Rattle.std.specs.Prelude.{◌≡◌, [], ◌∷◌, ◌+◌, drop};
 ghost use Rattle.rules.specs.Lists.{same};
-ghost use Rattle.rules.specs.Bytes.{class_table, white};
+ghost use Rattle.rules.specs.Bytes.{white};
 ghost use Rattle.columns.specs.Leading.{run_length, in_run};
 ghost use Rattle.columns.specs.Cursors.{next_column};
 
 // the class of white bytes
 const WHITE: u8 = 1;
 
-pub fn is_white(b: u8, classes: &[u8; 256]) -> bool
-    requires { classes.now ≡ class_table }
+pub fn is_white(b: u8) -> bool
     ensures { result ≡ white b }
 {
-    classes[b as usize] == WHITE
+    classes::class_of(b) == WHITE
 }
 
 // The first place from `at` on where a run ends: of white bytes or, in a column, of bytes that aren't white.
-pub fn skip_run(head: &[u8], at: usize, in_column: bool, classes: &[u8; 256]) -> usize
-    requires { classes.now ≡ class_table }
+pub fn skip_run(head: &[u8], at: usize, in_column: bool) -> usize
     ensures { result ≡ at + run_length (in_run in_column) (drop at head.now) }
 {
-    let mut end = at;
-    while end < head.len() {
-        if is_white(head[end], classes) == in_column {
+    for end in at..head.len() {
+        if is_white(head[end]) == in_column {
             return end;
         }
-        end += 1;
     }
-    end
+    at.max(head.len())
 }
 
 // Two bytes, both b, as -- and %% are.
@@ -54,15 +51,12 @@ pub struct Cursor {
     pub at: usize,
 }
 
-// The next column with the cursor behind it, or none.
+// A column, with the cursor behind it.
 #[derive(Clone, Copy)]
-pub enum Column {
-    Found {
-        start: usize,
-        end: usize,
-        next: Cursor,
-    },
-    Missing,
+pub struct Found {
+    pub start: usize,
+    pub end: usize,
+    pub next: Cursor,
 }
 
 impl Cursor {
@@ -73,20 +67,15 @@ impl Cursor {
     }
 
     // `head` is the line.
-    pub fn next(self, head: &[u8], classes: &[u8; 256]) -> Column
-        requires { classes.now ≡ class_table }
+    pub fn next(self, head: &[u8]) -> Option<Found>
         ensures { result ≡ next_column head.now self.at }
     {
-        let at = self.at;
-        let start = skip_run(head, at, false, classes);
+        let start = skip_run(head, self.at, false);
         if head.len() <= start {
-            return Column::Missing;
+            return None;
         }
-        let end = skip_run(head, start + 1, true, classes);
-        Column::Found {
-            start,
-            end,
-            next: Cursor { at: end },
-        }
+        let end = skip_run(head, start + 1, true);
+        let next = Cursor { at: end };
+        Some(Found { start, end, next })
     }
 }

@@ -1,15 +1,12 @@
-// The columns of a line, listed once: where each starts and ends in the file. Every judge of the line looks only there.
-ghost use Rattle.std.specs.Prelude.{◌≡◌, List, ℕ, ◌+◌, ◌-◌, ◌≤◌, ◌<◌, length, drop};
-ghost use Rattle.rules.specs.Bytes.{class_table, ignored};
+// The columns of a line, listed once: where each starts and ends in the file.
+ghost use Rattle.std.specs.Prelude.{◌≡◌, ◌+◌, ◌-◌, ◌≤◌, length, drop};
 ghost use Rattle.rules.specs.Numbers.{line_limit, file_limit};
-ghost use Rattle.rules.specs.Texts.{trim};
-ghost use Rattle.rules.specs.Columns.{columns_from, columns, column, written, fields, comment};
-ghost use Rattle.rules.specs.Keywords.{first_column};
+ghost use Rattle.rules.specs.Columns.{columns_from, columns};
 ghost use Rattle.columns.specs.Splices.{splice};
-ghost use Rattle.columns.specs.Listing.{text_between, line_of, columns_of, places_of, span_of, Listed};
+ghost use Rattle.columns.specs.Listing.{text_between, places_of};
 
+use crate::Cursor;
 use crate::reader::list_columns;
-use crate::{Column, Cursor};
 
 // A line of the file without its newline, and how many columns it has.
 #[derive(Clone, Copy)]
@@ -33,143 +30,30 @@ pub const ORDINARY: usize = 5;
 pub type Places = [u32; 4096];
 
 // The columns of `line` from `from` on. The line starts at `start` in the file.
-pub fn walk_columns(
-    line: &[u8],
-    from: usize,
-    start: usize,
-    classes: &[u8; 256],
-    places: &mut [u32],
-) -> usize
-    requires { (classes.now ≡ class_table) × (length line.now ≤ line_limit) × (start + length line.now ≤ file_limit) × (from ≤ length line.now) × (length places.old ≡ 4096) }
+pub fn walk_columns(line: &[u8], from: usize, start: usize, places: &mut [u32]) -> usize
+    requires { (length line.now ≤ line_limit) × (start + length line.now ≤ file_limit) × (from ≤ length line.now) × (length places.old ≡ 4096) }
     ensures { (result ≡ length (columns_from (start + from) (drop from line.now))) × (places.new ≡ splice 0 (places_of (columns_from (start + from) (drop from line.now))) places.old) }
 {
     let mut cursor = Cursor::new(from);
     let mut count = 0;
-    loop {
-        let step = cursor.next(line, classes);
-        let Column::Found {
-            start: first,
-            end,
-            next,
-        } = step
-        else {
-            return count;
-        };
-        places[2 * count] = (start + first) as u32;
-        places[2 * count + 1] = (start + end) as u32;
+    while let Some(column) = cursor.next(line) {
+        places[2 * count] = (start + column.start) as u32;
+        places[2 * count + 1] = (start + column.end) as u32;
         count += 1;
-        cursor = next;
+        cursor = column.next;
     }
+    count
 }
 
 // The line of the file from `start` up to `end`, its columns listed in `places`.
-pub fn read_line(
-    file: &[u8],
-    start: usize,
-    end: usize,
-    classes: &[u8; 256],
-    places: &mut Places,
-) -> Line
-    requires { (classes.now ≡ class_table) × (start ≤ end) × (end ≤ length file.now) × (end ≤ start + line_limit) × (length file.now ≤ file_limit) }
+pub fn read_line(file: &[u8], start: usize, end: usize, places: &mut Places) -> Line
+    requires { (start ≤ end) × (end ≤ length file.now) × (end ≤ start + line_limit) × (length file.now ≤ file_limit) }
     ensures { (result ≡ record { start = start; end = end; columns = length (columns (text_between file.now start end)) }) × (places.new ≡ splice 0 (places_of (columns (text_between file.now start end))) places.old) }
 {
-    let count = list_columns(&file[start..end], start, classes, places);
+    let count = list_columns(&file[start..end], start, places);
     Line {
         start,
         end,
         columns: count,
     }
-}
-
-// The bytes of column k.
-pub fn column_text<'a>(file: &'a [u8], line: Line, places: &Places, k: usize) -> &'a [u8]
-    requires { Listed file.now line places.now × (k < line.columns) }
-    ensures { result.now ≡ (written (columns_of file.now line) k).bytes }
-{
-    let start = places[2 * k] as usize;
-    let end = places[2 * k + 1] as usize;
-    &file[start..end]
-}
-
-pub fn column_span(line: Line, places: &Places, k: usize) -> Span
-    requires { (k < line.columns) × ((file : List ℕ) × Listed file line places.now) }
-    ensures { (file : List ℕ) → Listed file line places.now → result ≡ span_of (written (columns_of file line) k) }
-{
-    let start = places[2 * k];
-    Span {
-        start,
-        len: places[2 * k + 1] - start,
-    }
-}
-
-// From column k up to the line's end, without the white bytes there; 0, 0 if there is no column k.
-pub fn text_from(line: Line, places: &Places, k: usize) -> Span
-    requires { (1 ≤ k) × ((file : List ℕ) × Listed file line places.now) }
-    ensures { (file : List ℕ) → Listed file line places.now → result ≡ span_of (trim (column (columns_of file line) (k - 1)).after) }
-{
-    let columns = line.columns;
-    if columns <= k {
-        return Span { start: 0, len: 0 };
-    }
-    let start = places[2 * k];
-    Span {
-        start,
-        len: places[2 * columns - 1] - start,
-    }
-}
-
-// How many columns stand in front of the first that is exactly %%, all if none is.
-pub fn count_fields(file: &[u8], line: Line, places: &Places) -> usize
-    requires { Listed file.now line places.now }
-    ensures { result ≡ length (fields (columns_of file.now line)) }
-{
-    let mut k = 0;
-    while k < line.columns {
-        if crate::is_twice(column_text(file, line, places, k), b'%') {
-            return k;
-        }
-        k += 1;
-    }
-    k
-}
-
-// The text behind the column %% that follows the fields.
-pub fn comment_of(line: Line, places: &Places, fields_count: usize) -> Span
-    requires { (file : List ℕ) × Listed file line places.now × (fields_count ≡ length (fields (columns_of file line))) }
-    ensures { (file : List ℕ) → Listed file line places.now → fields_count ≡ length (fields (columns_of file line)) → result ≡ span_of (comment (columns_of file line)) }
-{
-    text_from(line, places, fields_count + 1)
-}
-
-// Empty if the line has no column or starts with a white byte.
-pub fn first_column<'a>(file: &'a [u8], line: Line, places: &Places) -> &'a [u8]
-    requires { Listed file.now line places.now }
-    ensures { result.now ≡ (first_column (line_of file.now line)).bytes }
-{
-    let start = line.start;
-    if line.columns == 0 {
-        return &file[start..start];
-    }
-    if places[0] as usize != start {
-        return &file[start..start];
-    }
-    column_text(file, line, places, 0)
-}
-
-// A line of white bytes only, or one that starts with %%.
-pub fn is_ignored(file: &[u8], line: Line) -> bool
-    requires { (places : List ℕ) × Listed file.now line places }
-    ensures { result ≡ ignored (line_of file.now line).bytes }
-{
-    if line.columns == 0 {
-        return true;
-    }
-    let start = line.start;
-    if line.end - start < 2 {
-        return false;
-    }
-    if file[start] != b'%' {
-        return false;
-    }
-    file[start + 1] == b'%'
 }

@@ -2,7 +2,7 @@
 use Prim.Native.Nat.{ℕ, ◌≤◌, ◌<◌}
 use native.Mathlib.Omega.{arith}
 use mathlib.Core.Path.{◌≡◌, refl, sym, ap, ap₂, ◌∙◌, subst}
-use mathlib.Core.Option.{Option, none, some}
+use Rattle.std.specs.Prelude.{Option, None, Some}
 use mathlib.Core.List.{List, ◌∷◌, ◌++◌, append-nil}
 use lib.ListN.{length, take, length-append}
 use Rattle.rules.specs.Numbers.{edge_limit}
@@ -20,8 +20,8 @@ use Rattle.opened_demands.proofs.Outcomes.{after_flat, numbers_of, numbers_there
 use Rattle.cut_demands.specs.Opening.{CutAlike}
 
 none_by_24 : (o : Option Sentence) → (opened_as o).answer ≡ 24 → numbers_there (opened_as o) ≡ nothing
-none_by_24 none e = nothing_flat
-none_by_24 (some s) e = absurd (omega (arith, e))
+none_by_24 None e = nothing_flat
+none_by_24 (Some s) e = absurd (omega (arith, e))
 
 module _ (f : List ℕ) (n : ℕ) (inside : n ≤ length f) (whole : WithinLimit f) (front : List Handed) (h : Handed) (back : List Handed) (its : (survey_of f).handed ≡ front ++ (h ∷ back)) where
   abbrev number : ℕ

@@ -1,7 +1,7 @@
 -- A sentence opened at its place, in its file and in what was restored of it: from the rule of openings at a place after a cut.
 use Prim.Native.Nat.{ℕ}
 use mathlib.Core.Path.{◌≡◌, refl, sym, ap, ap₂, ◌∙◌, subst}
-use mathlib.Core.Option.{Option, some}
+use Rattle.std.specs.Prelude.{Option, Some}
 use mathlib.Core.List.{List, ◌∷◌, ◌++◌, append-nil}
 use lib.ListN.{length, take}
 use borrow.Author.Tests.{eq-eqb}
@@ -42,9 +42,9 @@ module _ (f : List ℕ) (whole : WithinLimit f) (front : List Handed) (h : Hande
   at = h.sentence.start
 
   abbrev BegunThere : Handed → Type 0
-  BegunThere g = sentence_from f g.sentence.start ≡ some g.sentence
+  BegunThere g = sentence_from f g.sentence.start ≡ Some g.sentence
 
-  begun : sentence_from f at ≡ some h.sentence
+  begun : sentence_from f at ≡ Some h.sentence
   begun = (each_back BegunThere front (h ∷ back) (subst (Each BegunThere) its (from_there f))).0
 
   before_is : (sheet edges : List ℕ) → FlatSized sheet edges → after_flat_at f at sheet edges ≡ opened_with h.sentence

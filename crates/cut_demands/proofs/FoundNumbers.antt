@@ -4,7 +4,7 @@ use Prim.Native.Nat.{ℕ}
 use native.Mathlib.Omega.{arith}
 use mathlib.Core.Path.{◌≡◌, refl, sym, ◌∙◌, subst}
 use mathlib.Core.Bool.{Bool, true, false}
-use mathlib.Core.Option.{some}
+use Rattle.std.specs.Prelude.{Some}
 use mathlib.Core.List.{List, [], ◌∷◌, ◌++◌}
 use lib.ListN.{length}
 use lib.Dec.{leb, eqb}
@@ -61,7 +61,7 @@ distinct_front (h ∷ hs) others d = (front (number_of h) hs d.0, distinct_front
 -- ---- each is found by its number
 
 abbrev Found : List Handed → Handed → Type 0
-Found hs h = sentence_of (number_of h) hs ≡ some h.sentence
+Found hs h = sentence_of (number_of h) hs ≡ Some h.sentence
 
 -- a sentence in front with another number
 found_behind : (g : Handed) (gs hs : List Handed) → has number_of (number_of g) hs ≡ false → Each (Found gs) hs → Each (Found (g ∷ gs)) hs
@@ -79,11 +79,11 @@ each_found [] d = tt
 each_found (h ∷ hs) d = (rw (eq-eqb (number_of h) (number_of h) refl), found_behind h hs hs d.0 (each_found hs d.1))
 
 -- what is found among the first is found among all
-pub found_front : (k : ℕ) (s : Sentence) (hs others : List Handed) → sentence_of k hs ≡ some s → sentence_of k (hs ++ others) ≡ some s
+pub found_front : (k : ℕ) (s : Sentence) (hs others : List Handed) → sentence_of k hs ≡ Some s → sentence_of k (hs ++ others) ≡ Some s
 found_front k s [] others e = absurd (let z : ◌≡◌ {A = ℕ} 0 1 = cc in omega arith)
 found_front k s (h ∷ hs) others e = by (eqb k (number_of h)) e (found_front k s hs others)
   where
-    by : (t : Bool) → pick t (some h.sentence) (sentence_of k hs) ≡ some s → (sentence_of k hs ≡ some s → sentence_of k (hs ++ others) ≡ some s)
-        → pick t (some h.sentence) (sentence_of k (hs ++ others)) ≡ some s
+    by : (t : Bool) → pick t (Some h.sentence) (sentence_of k hs) ≡ Some s → (sentence_of k hs ≡ Some s → sentence_of k (hs ++ others) ≡ Some s)
+        → pick t (Some h.sentence) (sentence_of k (hs ++ others)) ≡ Some s
     by true e more = e
     by false e more = more e

@@ -3,7 +3,7 @@
 use Prim.Native.Nat.{ℕ, ◌≤◌}
 use mathlib.Core.Path.{◌≡◌, ap, ◌∙◌, subst}
 use mathlib.Core.Bool.{true}
-use mathlib.Core.Option.{some}
+use Rattle.std.specs.Prelude.{Some}
 use mathlib.Core.List.{List, ◌++◌}
 use lib.ListN.{length, take}
 use borrow.Author.Tests.{le-leb}
@@ -29,7 +29,7 @@ after_opening_lem : (f : List ℕ) (k : ℕ) (tables seen sheet : List ℕ) (edg
 unfolding after_opening
 after_opening_lem f k tables seen sheet edges e h = rw (e, le-leb (length f) file_limit h)
 
-pub found_opens : (f : List ℕ) (k : ℕ) (s : Sentence) → length f ≤ file_limit → sentence_of k (survey_of f).handed ≡ some s → Opens f k s
+pub found_opens : (f : List ℕ) (k : ℕ) (s : Sentence) → length f ≤ file_limit → sentence_of k (survey_of f).handed ≡ Some s → Opens f k s
 found_opens f k s h found =
     record {
       found = found;
@@ -46,7 +46,7 @@ found_opens f k s h found =
 
 module _ (f : List ℕ) (n : ℕ) (x : List ℕ) (h : n ≤ length f) (k : length f ≤ file_limit) (m : length (take n f ++ x) ≤ file_limit) where
   -- the sentence of a number, if it ends within the cut
-  pub records_unchanged : (i : ℕ) (s : Sentence) → sentence_of i (ended_within n (survey_of f).handed) ≡ some s → Opens f i s × Opens (take n f ++ x) i s
+  pub records_unchanged : (i : ℕ) (s : Sentence) → sentence_of i (ended_within n (survey_of f).handed) ≡ Some s → Opens f i s × Opens (take n f ++ x) i s
   records_unchanged i s e =
       let hs = ended_within n (survey_of f).handed in
       let w = front f n h k in
@@ -60,7 +60,7 @@ module _ (f : List ℕ) (n : ℕ) (x : List ℕ) (h : n ≤ length f) (k : lengt
   each_unchanged =
       let hs = ended_within n (survey_of f).handed in
       let w = front f n h k in
-      each_then (λ (g : Handed). sentence_of (number_of g) hs ≡ some g.sentence)
+      each_then (λ (g : Handed). sentence_of (number_of g) hs ≡ Some g.sentence)
       (λ (g : Handed). Opens f (number_of g) g.sentence × Opens (take n f ++ x) (number_of g) g.sentence)
       (λ g e. records_unchanged (number_of g) g.sentence e) hs
       (each_found hs (distinct_front hs w.others (subst (Distinct number_of) w.first (numbers_differ f))))

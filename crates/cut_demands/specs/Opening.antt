@@ -1,7 +1,6 @@
 -- What is said of an opening: that it gives a sentence, with its sheet and its list, whatever buffers of the right size held;
 -- and demand 3, that records are unchanged.
-use Rattle.std.specs.Prelude.{ℕ, ◌≤◌, ◌<◌, ◌≡◌, true, List, [], ◌++◌, take}
-use Rattle.std.proofs.Math.Option.{some}
+use Rattle.std.specs.Prelude.{ℕ, ◌≤◌, ◌<◌, ◌≡◌, true, List, [], ◌++◌, take, Some}
 use Rattle.rules.specs.Lists.{Each}
 use Rattle.rules.specs.Sentences.{Sentence}
 use Rattle.rules.specs.Reading.{Handed}
@@ -20,7 +19,7 @@ pub record Gives (s : Sentence) (o : Opened) : Type 0 where
 
 -- the number k of the file f is that of the sentence s, and every opening of it with buffers of the right size gives s
 pub record Opens (f : List ℕ) (k : ℕ) (s : Sentence) : Type 0 where
-  pub found : sentence_of k (survey_of f).handed ≡ some s
+  pub found : sentence_of k (survey_of f).handed ≡ Some s
   pub given : (tables seen sheet : List ℕ) (edges : List EdgeRecord) → all_fit tables seen sheet edges ≡ true
       → Gives s (after_opening f k tables seen sheet edges)
 

@@ -2,7 +2,7 @@
 use mathlib.Core.Path.{◌≡◌, refl, ap, ◌∙◌}
 use mathlib.Core.Logic.{◌≢◌}
 use Prim.Native.Nat.{ℕ}
-use mathlib.Core.Option.{Option, none, some}
+use Rattle.std.specs.Prelude.{Option, None, Some}
 use mathlib.Core.Bool.{Bool, true, false, ◌&&◌}
 use mathlib.Core.List.{List, ◌++◌}
 use lib.Dec.{eqb}
@@ -51,8 +51,8 @@ module _ (file : List ℕ) (at : ℕ) (sheet : List ℕ) where
   listed_at es x = record { answer = x.answer; sheet = x.sheet; edges = list x.answer es x.edges }
 
   listed_as : (es : List EdgeRecord) (s : Option Sentence) → listed_at es (opened_as s) ≡ opened_as s
-  listed_as es none = refl
-  listed_as es (some s) = refl
+  listed_as es None = refl
+  listed_as es (Some s) = refl
 
   listed_at_lem : (es : List EdgeRecord) → length es ≡ 512 → listed_at es (by_place zero_list) ≡ by_place es
   unfolding after_opening_at
@@ -94,8 +94,8 @@ module _ (file : List ℕ) (n : ℕ) (tables seen sheet : List ℕ) where
   listed es x = record { answer = x.answer; tables = x.tables; seen = x.seen; sheet = x.sheet; edges = list x.answer es x.edges }
 
   listed_opened : (es : List EdgeRecord) (v : Survey) (s : Option Sentence) → listed es (opened v s) ≡ opened v s
-  listed_opened es v none = refl
-  listed_opened es v (some s) = refl
+  listed_opened es v None = refl
+  listed_opened es v (Some s) = refl
 
   abbrev refused_by : ℕ → List EdgeRecord → Opened
   refused_by r es = record { answer = r; tables = tables; seen = seen; sheet = sheet; edges = es }

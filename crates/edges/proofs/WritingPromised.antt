@@ -4,7 +4,7 @@ use mathlib.Core.Path.{◌≡◌, refl, ap, ◌∙◌}
 use mathlib.Core.Logic.{◌≢◌}
 use Prim.Native.Nat.{ℕ, ◌≤◌}
 use native.Mathlib.Omega.{arith}
-use mathlib.Core.Option.{Option, none, some}
+use Rattle.std.specs.Prelude.{Option, None, Some}
 use mathlib.Core.Bool.{Bool, true, false, ◌&&◌}
 use mathlib.Core.List.{List, [], ◌∷◌, ◌++◌}
 use lib.Dec.{leb, eqb}
@@ -57,8 +57,8 @@ judged : (file : List ℕ) → filled_by (verdict (read begin file)).number ≡ 
 judged file = by (read begin file).fault refl
   where
     by : (o : Option Fault) → (read begin file).fault ≡ o → filled_by (closing_unless o (read begin file)).number ≡ 512
-    by none e = unfaulted (read begin file) (read begin file).part
-    by (some f) e = from_four f.number (fault_four file f e)
+    by None e = unfaulted (read begin file) (read begin file).part
+    by (Some f) e = from_four f.number (fault_four file f e)
 
 written_filled : (file output : List ℕ) → file_fits file ≡ true → filled_by (writing_answer file output).refusal ≡ 512
 written_filled file output fits =

@@ -1,7 +1,6 @@
 -- Document 02, request 2, of a call: "the file if it has that table, else the list"; "1, then 2 for either, then those of the
 -- file, then those of the list, then 26"; "every refusal returns the empty part"; sheets "end as zeros, or unchanged after 1 or 2".
-use Rattle.std.specs.Prelude.{ℕ, ◌≡◌, ◌≢◌, ◌↔◌, List, [], length, take, drop, replicate}
-use Rattle.std.proofs.Math.Option.{none, some}
+use Rattle.std.specs.Prelude.{ℕ, ◌≡◌, ◌≢◌, ◌↔◌, List, [], length, take, drop, replicate, None, Some}
 use Rattle.rules.specs.Texts.{Text, no_text}
 use Rattle.rules.specs.Tables.{Row, table}
 use Rattle.rules.specs.Survey.{survey_of}
@@ -59,9 +58,9 @@ pub record ExplainedAs (file list : List ℕ) (place : ℕ) (tag tables seen : L
       → Refused refusal Part (survey_of list).refusal
   -- the table decides, not the tag
   pub by_file : Readable file list tables seen → Accepted file → Accepted list → (n : ℕ) (rs : List Row) (t : Text) → TagTablePlace n place
-      → table n (survey_of file).tables ≡ some rs → RowsTell tag rs t → Granted refusal Part 1 file t
+      → table n (survey_of file).tables ≡ Some rs → RowsTell tag rs t → Granted refusal Part 1 file t
   pub by_list : Readable file list tables seen → Accepted file → Accepted list → (n : ℕ) (rs : List Row) (t : Text) → TagTablePlace n place
-      → table n (survey_of file).tables ≡ none → table n (survey_of list).tables ≡ some rs
+      → table n (survey_of file).tables ≡ None → table n (survey_of list).tables ≡ Some rs
       → RowsTell tag rs t → Granted refusal Part 2 list t
   pub exactly : Readable file list tables seen → Accepted file → Accepted list
       → (refusal ≡ 26) ↔ Unexplained (survey_of file).tables (survey_of list).tables place tag

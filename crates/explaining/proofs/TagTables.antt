@@ -3,7 +3,7 @@ use Prim.Native.Nat.{ℕ, zero, suc, ◌-◌, ◌≤◌}
 use native.Mathlib.Omega.{arith}
 use mathlib.Core.Path.{◌≡◌, refl, sym, ap, ◌∙◌, subst}
 use mathlib.Core.Bool.{Bool, true, false}
-use mathlib.Core.Option.{Option, none, some}
+use Rattle.std.specs.Prelude.{Option, None, Some}
 use mathlib.Core.List.{List}
 use lib.ListN.{get_or}
 use Rattle.rules.specs.Lists.{pick, between}
@@ -30,10 +30,10 @@ module _ (file sheet : List ℕ) (place : ℕ) where
       by true e d = between_named place e
       by false e d = absurd (d refl)
 
-  pub uncounted : tag_count sheet place ≡ 0 → tag_rows place (tables_in file sheet) ≡ none
+  pub uncounted : tag_count sheet place ≡ 0 → tag_rows place (tables_in file sheet) ≡ None
   uncounted e = by (between (suc word_tags) (suc sec_edge_tags) place) refl e
     where
-      by : (b : Bool) → between (suc word_tags) (suc sec_edge_tags) place ≡ b → pick b (get_or sheet (place - 1) 0) 0 ≡ 0 → pick b (table (place - 1) (tables_in file sheet)) none ≡ none
+      by : (b : Bool) → between (suc word_tags) (suc sec_edge_tags) place ≡ b → pick b (get_or sheet (place - 1) 0) 0 ≡ 0 → pick b (table (place - 1) (tables_in file sheet)) None ≡ None
       by true q e = let t = between_named place q in table_absent file sheet (place - 1) (omega (arith, t.first, t.last)) e
       by false q e = refl
 
@@ -44,11 +44,11 @@ module _ (file sheet : List ℕ) (place : ℕ) where
       by true d = refl
       by false d = absurd (d refl)
 
-  pub its_rows : (tag_count sheet place ≡ 0 → ⊥) → tag_rows place (tables_in file sheet) ≡ some (rows_from file sheet (row_place (place - 1) 0) (tag_count sheet place - 1))
+  pub its_rows : (tag_count sheet place ≡ 0 → ⊥) → tag_rows place (tables_in file sheet) ≡ Some (rows_from file sheet (row_place (place - 1) 0) (tag_count sheet place - 1))
   its_rows d = by (between (suc word_tags) (suc sec_edge_tags) place) refl d
     where
       by : (b : Bool) → between (suc word_tags) (suc sec_edge_tags) place ≡ b → (pick b (get_or sheet (place - 1) 0) 0 ≡ 0 → ⊥)
-          → pick b (table (place - 1) (tables_in file sheet)) none ≡ some (rows_from file sheet (row_place (place - 1) 0) (pick b (get_or sheet (place - 1) 0) 0 - 1))
+          → pick b (table (place - 1) (tables_in file sheet)) None ≡ Some (rows_from file sheet (row_place (place - 1) 0) (pick b (get_or sheet (place - 1) 0) 0 - 1))
       by true q d = let t = between_named place q in table_there file sheet (place - 1) (omega (arith, t.first, t.last)) d
       by false q d = absurd (d refl)
 
@@ -69,7 +69,7 @@ module _ (file : List ℕ) where
       by zero e = no_rows_apart file (table_sheet ts) (row_place n 0)
       by (suc rows) e =
           let d : get_or (table_sheet ts) n 0 ≡ 0 → ⊥ = λ z. omega (arith, e, z) in
-          let same : some (rows_from file (table_sheet ts) (row_place n 0) (get_or (table_sheet ts) n 0 - 1)) ≡ table n ts = sym (table_there file (table_sheet ts) n (omega (arith, high)) d) ∙ ap (table n) (tables_back file) in
+          let same : Some (rows_from file (table_sheet ts) (row_place n 0) (get_or (table_sheet ts) n 0 - 1)) ≡ table n ts = sym (table_there file (table_sheet ts) n (omega (arith, high)) d) ∙ ap (table n) (tables_back file) in
           subst (λ (c : ℕ). TagsApart (rows_from file (table_sheet ts) (row_place n 0) (c - 1))) e
           (subst (λ (o : Option (List Row)). TagsApart (rows_of o)) (sym same) (tags_differ file n low))
 
@@ -79,17 +79,17 @@ module _ (file : List ℕ) where
   count_there : (place : ℕ) → tag_count (table_sheet ts) place ≡ count (tag_rows place ts)
   count_there place = by (between (suc word_tags) (suc sec_edge_tags) place) refl
     where
-      by : (b : Bool) → between (suc word_tags) (suc sec_edge_tags) place ≡ b → pick b (get_or (table_sheet ts) (place - 1) 0) 0 ≡ count (pick b (table (place - 1) ts) none)
+      by : (b : Bool) → between (suc word_tags) (suc sec_edge_tags) place ≡ b → pick b (get_or (table_sheet ts) (place - 1) 0) 0 ≡ count (pick b (table (place - 1) ts) None)
       by true q = let t = between_named place q in count_of_table ts (place - 1) (omega (arith, t.first, t.last, (have_room file).seven))
       by false q = refl
 
   there_counted : (o : Option (List Row)) → (count o ≡ 0 → ⊥) → there o ≡ true
-  there_counted none d = absurd (d refl)
-  there_counted (some rs) d = refl
+  there_counted None d = absurd (d refl)
+  there_counted (Some rs) d = refl
 
   not_counted : (o : Option (List Row)) → count o ≡ 0 → there o ≡ false
-  not_counted none e = refl
-  not_counted (some rs) e = absurd (omega (arith, e))
+  not_counted None e = refl
+  not_counted (Some rs) e = absurd (omega (arith, e))
 
   pub file_has : (place : ℕ) → (tag_count (table_sheet ts) place ≡ 0 → ⊥) → there (tag_rows place ts) ≡ true
   file_has place d = there_counted (tag_rows place ts) (λ e. d (count_there place ∙ e))

@@ -14,7 +14,6 @@ ghost use Rattle.rules.specs.ExplainingRules.{TagsApart};
 ghost use Rattle.explaining.specs.Promise.{as_explained, placed, place_outcome, part_told, part_outcome, tag_count, Telling};
 
 use steps::refusals;
-use table_sheet::Found;
 
 // Which of the two a description is a part of; 0 is neither.
 pub const OF_FILE: u32 = 1;
@@ -72,8 +71,7 @@ fn describe(file: &[u8], sheet: &[u32], place: usize, rows: usize, tag: &[u8], o
     requires { (place + row_width * rows ≤ length sheet.now) × Inside file.now sheet.now place rows × TagsApart (rows_from file.now sheet.now place rows) }
     ensures { result ≡ as_explained (part_of of (described tag.now (rows_from file.now sheet.now place rows))) }
 {
-    let found = table_sheet::seek_tag(file, sheet, place, rows, tag);
-    if let Found::Row(row) = found {
+    if let Some(row) = table_sheet::seek_tag(file, sheet, place, rows, tag) {
         let at = place + table_sheet::ROW_WIDTH * row;
         return granted(of, sheet[at + 3], sheet[at + 4]);
     }

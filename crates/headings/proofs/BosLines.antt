@@ -3,7 +3,7 @@ use Prim.Native.Nat.{ℕ, ◌≤◌, ◌<◌}
 use native.Mathlib.Omega.{arith}
 use mathlib.Core.Path.{◌≡◌, refl, sym, ap, ◌∙◌}
 use mathlib.Core.Bool.{Bool, true, false}
-use mathlib.Core.Option.{Option, none, some}
+use Rattle.std.specs.Prelude.{Option, None, Some, Err}
 use mathlib.Core.List.{List, [], ◌∷◌}
 use lib.Dec.{ltb}
 use lib.ListN.{length, get_or, drop, drop_of_length-le}
@@ -16,7 +16,6 @@ use Rattle.rules.specs.Columns.{Column, column, written, fields, comment}
 use Rattle.rules.specs.Numbers.{sentence_number, origin_id, date, number, signed_id}
 use Rattle.rules.proofs.Conjunctions.{and_left, and_right}
 use Rattle.headings.specs.Headings.{whole, four_of, numbers_on}
-use Rattle.headings.specs.declared.bos.FourNumbers.TheVariants.{Bad}
 
 -- ---- the columns
 
@@ -58,14 +57,14 @@ module _ (cs : List Column) where
 
 -- ---- the numbers
 
-bad_within : (n e d o : Option ℕ) (k : ℕ) → four_of n e d o ≡ Bad k → k ≤ 4
-bad_within none e d o k q = let z : 1 ≡ k = cc in omega arith
-bad_within (some n) none d o k q = let z : 2 ≡ k = cc in omega arith
-bad_within (some n) (some e) none o k q = let z : 3 ≡ k = cc in omega arith
-bad_within (some n) (some e) (some d) none k q = let z : 4 ≡ k = cc in omega arith
-bad_within (some n) (some e) (some d) (some o) k q = absurd (let z : ◌≡◌ {A = ℕ} 0 1 = cc in omega arith)
+bad_within : (n e d o : Option ℕ) (k : ℕ) → four_of n e d o ≡ Err k → k ≤ 4
+bad_within None e d o k q = let z : 1 ≡ k = cc in omega arith
+bad_within (Some n) None d o k q = let z : 2 ≡ k = cc in omega arith
+bad_within (Some n) (Some e) None o k q = let z : 3 ≡ k = cc in omega arith
+bad_within (Some n) (Some e) (Some d) None k q = let z : 4 ≡ k = cc in omega arith
+bad_within (Some n) (Some e) (Some d) (Some o) k q = absurd (let z : ◌≡◌ {A = ℕ} 0 1 = cc in omega arith)
 
-pub bad_column : (cs : List Column) (k : ℕ) → numbers_on cs ≡ Bad k → k ≤ 4
+pub bad_column : (cs : List Column) (k : ℕ) → numbers_on cs ≡ Err k → k ≤ 4
 unfolding numbers_on
 bad_column cs k q =
     bad_within (number sentence_number (written cs 1).bytes) (signed_id (written cs 2).bytes) (number date (written cs 3).bytes)

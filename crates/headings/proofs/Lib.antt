@@ -1,4 +1,3 @@
 pub mod BosLines
-pub mod ColumnNumbers
 pub mod EosLines
 pub mod HeadingSteps

@@ -1,17 +1,16 @@
 // #BOS: its columns, its four numbers, and what it cites.
-ghost use Rattle.std.specs.Prelude.{◌≡◌, List, ℕ, ◌≤◌, ◌<◌, length};
-ghost use Rattle.rules.specs.Bytes.{class_table};
+ghost use Rattle.std.specs.Prelude.{◌≡◌, ◌≤◌, ◌<◌, length};
 ghost use Rattle.rules.specs.Numbers.{sentence_number, origin_id};
 ghost use Rattle.rules.specs.Sheets.{seen_set_size};
-ghost use Rattle.columns.specs.Listing.{line_of, columns_of, Listed};
+ghost use Rattle.columns.specs.Lines.{text_in, columns_in};
 ghost use Rattle.seen.specs.Bits.{bit_at};
 ghost use Rattle.table_sheet.specs.SheetRows.{tables_in};
 ghost use Rattle.citations.specs.Tabled.{Counted};
-ghost use Rattle.headings.specs.Headings.{whole, numbers_on, said_heading, judged_heading};
+ghost use Rattle.headings.specs.Headings.{whole, numbers_on, said_heading, heading_on, judged_heading};
 
-use columns::listing::{Line, Places, column_text, text_from};
-use numbers::{Date, EditorId, Number, OriginId, SentenceNumber};
-use steps::{HeadingSaid, Step, refusals, refused, refused_at};
+use columns::listed::ListedLine;
+use numbers::{Date, EditorId, OriginId, SentenceNumber};
+use steps::{Fault, HeadingSaid, Step, column_fault, line_fault, refusals};
 
 // The columns behind the keyword; the number stands behind #EOS too.
 pub const NUMBER: usize = 1;
@@ -28,17 +27,14 @@ const PERCENTS: usize = 5;
 const COMMENT: usize = 6;
 
 // Five columns, and behind them nothing or a comment.
-pub fn has_columns(file: &[u8], line: Line, places: &Places) -> bool
-    requires { Listed file.now line places.now }
-    ensures { result ≡ whole (columns_of file.now line) }
+fn has_columns(line: &ListedLine) -> bool
+    ensures { result ≡ whole (columns_in line.now) }
 {
-    if line.columns < PERCENTS {
-        return false;
+    match line.columns {
+        0..PERCENTS => false,
+        PERCENTS => true,
+        _ => columns::is_twice(line.column_text(PERCENTS), b'%'),
     }
-    if line.columns == PERCENTS {
-        return true;
-    }
-    columns::is_twice(column_text(file, line, places, PERCENTS), b'%')
 }
 
 #[derive(Clone, Copy)]
@@ -50,33 +46,16 @@ pub struct HeadingNumbers {
 }
 
 // The four numbers, or the first column that is none.
-#[derive(Clone, Copy)]
-pub enum FourNumbers {
-    Good(HeadingNumbers),
-    Bad(usize),
-}
-
-pub fn read_numbers(file: &[u8], line: Line, places: &Places, classes: &[u8; 256]) -> FourNumbers
-    requires { (classes.now ≡ class_table) × Listed file.now line places.now × (4 < line.columns) }
-    ensures { result ≡ numbers_on (columns_of file.now line) }
+#[tactic(auto, unfolding(crate::specs::Headings::numbers_on))]
+fn read_numbers(line: &ListedLine) -> Result<HeadingNumbers, usize>
+    requires { 4 < line.now.columns }
+    ensures { result ≡ numbers_on (columns_in line.now) }
 {
-    let read = SentenceNumber::read(column_text(file, line, places, NUMBER), classes);
-    let Number::Good(number) = read else {
-        return FourNumbers::Bad(NUMBER);
-    };
-    let read = EditorId::read(column_text(file, line, places, EDITOR), classes);
-    let Number::Good(editor1) = read else {
-        return FourNumbers::Bad(EDITOR);
-    };
-    let read = Date::read(column_text(file, line, places, DATE), classes);
-    let Number::Good(date) = read else {
-        return FourNumbers::Bad(DATE);
-    };
-    let read = OriginId::read(column_text(file, line, places, ORIGIN), classes);
-    let Number::Good(origin) = read else {
-        return FourNumbers::Bad(ORIGIN);
-    };
-    FourNumbers::Good(HeadingNumbers {
+    let number = SentenceNumber::read(line.column_text(NUMBER)).ok_or(NUMBER)?;
+    let editor1 = EditorId::read(line.column_text(EDITOR)).ok_or(EDITOR)?;
+    let date = Date::read(line.column_text(DATE)).ok_or(DATE)?;
+    let origin = OriginId::read(line.column_text(ORIGIN)).ok_or(ORIGIN)?;
+    Ok(HeadingNumbers {
         number,
         editor1,
         date,
@@ -85,45 +64,55 @@ pub fn read_numbers(file: &[u8], line: Line, places: &Places, classes: &[u8; 256
 }
 
 // What a heading says whose columns and numbers are good.
-pub fn say_heading(line: Line, places: &Places, four: HeadingNumbers) -> Step
-    requires { (file : List ℕ) × Listed file line places.now }
-    ensures { (file : List ℕ) → Listed file line places.now → result ≡ said_heading (columns_of file line) four }
+fn say_heading(line: &ListedLine, four: HeadingNumbers) -> HeadingSaid
+    ensures { result ≡ said_heading (columns_in line.now) four }
 {
-    let comment = text_from(line, places, COMMENT);
-    Step::SentenceBegins(HeadingSaid {
+    HeadingSaid {
         number: four.number,
         editor1: four.editor1,
         date: four.date,
         origin: four.origin,
-        comment,
-    })
+        comment: line.text_from(COMMENT),
+    }
+}
+
+// What the heading says, if its columns and its numbers are good.
+pub fn read_heading(line: &ListedLine) -> Result<HeadingSaid, Fault>
+    ensures { result ≡ heading_on (text_in line.now) }
+{
+    if !has_columns(line) {
+        return Err(line_fault(refusals::WRONG_COLUMNS, line));
+    }
+    match read_numbers(line) {
+        Ok(four) => Ok(say_heading(line, four)),
+        Err(k) => Err(column_fault(refusals::BAD_NUMBER, line, k)),
+    }
 }
 
 // The heading, unless what it cites isn't there.
+#[tactic(auto, unfolding(crate::specs::Headings::judged_heading, steps::specs::Faults::fault_in))]
 pub fn judge_cited(
-    line: Line,
-    places: &Places,
+    line: &ListedLine,
     sheet: &[u32],
     seen: &[u8],
     said: HeadingSaid,
-) -> Step
-    requires { Counted sheet.now × (length seen.now ≡ seen_set_size) × (said.number ≤ sentence_number.highest) × (said.origin ≤ origin_id.highest) × (4 < line.columns) × ((file : List ℕ) × Listed file line places.now) }
-    ensures { (file : List ℕ) → Listed file line places.now → result ≡ judged_heading (tables_in file sheet.now) (bit_at seen.now) (line_of file line) said }
+) -> Result<Step, Fault>
+    requires { Counted sheet.now × (length seen.now ≡ seen_set_size) × (said.number ≤ sentence_number.highest) × (said.origin ≤ origin_id.highest) × (4 < line.now.columns) }
+    ensures { result ≡ judged_heading (tables_in line.now.file.now sheet.now) (bit_at seen.now) (text_in line.now) said }
 {
-    if !citations::is_present(sheet, table_sheet::ORIGINS) {
-        return refused(refusals::TABLE_MISSING, line.start);
-    }
-    if !citations::is_present(sheet, table_sheet::EDITORS) {
-        return refused(refusals::TABLE_MISSING, line.start);
+    if !citations::is_present(sheet, table_sheet::ORIGINS)
+        || !citations::is_present(sheet, table_sheet::EDITORS)
+    {
+        return Err(line_fault(refusals::TABLE_MISSING, line));
     }
     if seen::has(seen, said.number) {
-        return refused(refusals::NUMBER_USED, line.start);
+        return Err(line_fault(refusals::NUMBER_USED, line));
     }
     if !citations::knows_editor(sheet, said.editor1) {
-        return refused_at(refusals::UNKNOWN_CITED, line, places, EDITOR);
+        return Err(column_fault(refusals::UNKNOWN_CITED, line, EDITOR));
     }
     if !citations::knows_origin(sheet, said.origin) {
-        return refused_at(refusals::UNKNOWN_CITED, line, places, ORIGIN);
+        return Err(column_fault(refusals::UNKNOWN_CITED, line, ORIGIN));
     }
-    Step::SentenceBegins(said)
+    Ok(Step::SentenceBegins(said))
 }

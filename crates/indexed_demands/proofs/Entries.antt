@@ -5,7 +5,7 @@ use native.Mathlib.Nat.{suc-sub-suc, sub-zero}
 use native.Mathlib.Omega.{arith}
 use mathlib.Core.Path.{◌≡◌, refl, sym, ap, ap₂, ◌∙◌, subst}
 use mathlib.Core.Logic.{◌≢◌}
-use mathlib.Core.Option.{Option, none, some}
+use Rattle.std.specs.Prelude.{Option, None, Some}
 use mathlib.Core.List.{List}
 use lib.ListN.{length, get_or}
 use borrow.Author.Tests.{eq-eqb}
@@ -33,8 +33,8 @@ there_as : (file : List ℕ) (at : ℕ) (sheet edges : List ℕ) (o : LeftThere)
 there_as file at sheet edges o rule sized fits = by (sentence_from file at) refl
   where
     by : (x : Option Sentence) → sentence_from file at ≡ x → o ≡ numbers_there (opened_as x)
-    by none e = rule.absent sized fits e ∙ sym nothing_flat
-    by (some s) e = rule.given sized fits s e
+    by None e = rule.absent sized fits e ∙ sym nothing_flat
+    by (Some s) e = rule.given sized fits s e
 
 module _ (file : List ℕ) (entry : ℕ) (sheet edges : List ℕ) (o : LeftThere) where
   pub at_entry : entry ≢ 0 → OpenedAtPlace file (entry - 1) sheet edges o → OpenedAtEntry file entry sheet edges o
@@ -58,7 +58,7 @@ module _ (file : List ℕ) (n : ℕ) (fits : WithinLimit file) (tables seen shee
   by_number_lem : part (after_flat file n tables seen sheet edges) ≡ numbers_there (opened_as its)
   by_number_lem = ap part (opened_flat tables seen sheet edges sized file n fits) ∙ part_opened (survey_of file) its
 
-  zero_given : (o : Option Sentence) → ((s : Sentence) × (o ≡ some s)) → (opened_as o).answer ≡ 0
+  zero_given : (o : Option Sentence) → ((s : Sentence) × (o ≡ Some s)) → (opened_as o).answer ≡ 0
   zero_given o g = ap (λ (x : Option Sentence). (opened_as x).answer) g.1
 
   same_at : (k : ℕ) (there : LeftThere) → beginning (survey_of file).handed n ≡ k → OpenedAtEntry file k sheet2 edges2 there → Same k there

@@ -18,6 +18,7 @@ use Rattle.rules.specs.Keywords.{first_column, format_of, table_opened, table_en
 use Rattle.rules.specs.Lines.{format_line, table_begins, row_line, table_ends, sentence_begins, word_line, phrase_line, sentence_ends, taken_as, at_start, behind_one, at_top, among_rows, among_nodes}
 use Rattle.columns.proofs.FirstBytes.{first_none}
 use Rattle.steps.specs.Faults.{refusal}
+use Rattle.std.specs.Prelude.{Ok}
 use Rattle.steps.specs.Steps.{step_of}
 use Rattle.steps.specs.declared.Step.TheVariants.{Ignored}
 use Rattle.judging.specs.Judging.{line_by, judged_by}
@@ -30,14 +31,6 @@ text n xs = record { start = n; bytes = xs }
 -- ---- kinds
 
 module _ (n : ℕ) where
-  pub row_none : (xs : List ℕ) → length xs ≡ 0 → starts_row (text n xs) ≡ false
-  row_none [] e = refl
-  row_none (b ∷ bs) e = absurd (omega arith)
-
-  pub row_hash : (xs : List ℕ) → get_or xs 0 0 ≡ 35 → starts_row (text n xs) ≡ false
-  row_hash [] e = refl
-  row_hash (b ∷ bs) e = rw (eq-eqb b 35 e)
-
   pub row_other : (xs : List ℕ) → (length xs ≡ 0 → ⊥) → (get_or xs 0 0 ≡ 35 → ⊥) → starts_row (text n xs) ≡ true
   row_other [] h e = absurd (h refl)
   row_other (b ∷ bs) h e = rw (ne_eqb b 35 e)
@@ -47,10 +40,6 @@ module _ (n : ℕ) where
 
   pub word_row : (xs : List ℕ) → same xs (bytes "#") ≡ false → starts_word (text n xs) ≡ starts_row (text n xs)
   word_row xs e = rw e
-
-pub hash_none : (xs : List ℕ) → length xs ≡ 0 → hash_and_digits xs ≡ false
-hash_none [] e = refl
-hash_none (b ∷ bs) e = absurd (omega arith)
 
 pub hash_other : (xs : List ℕ) → (get_or xs 0 0 ≡ 35 → ⊥) → hash_and_digits xs ≡ false
 hash_other [] e = refl
@@ -146,7 +135,7 @@ module _ (line : Text) (bs : List ℕ) (is : bs ≡ (first_column line).bytes) w
       nodes_none k j l = rw (reads_as (bytes "#EOS") e h, phrase_as i k, word_as j l)
 
 module _ (file : List ℕ) (line : Text) (s : State) (sheet seen marks : List ℕ) where
-  pub judged_ignored : ignored line.bytes ≡ true → Ignored ≡ step_of (judged_by file line s sheet seen marks)
+  pub judged_ignored : ignored line.bytes ≡ true → Ok Ignored ≡ step_of (judged_by file line s sheet seen marks)
   unfolding judged_by
   judged_ignored e = rw e
 

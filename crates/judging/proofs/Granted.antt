@@ -4,7 +4,7 @@ use Prim.Native.Nat.{ℕ, suc, ◌+◌, ◌≤◌, ◌<◌}
 use native.Mathlib.Omega.{arith}
 use mathlib.Core.Path.{◌≡◌, refl}
 use mathlib.Core.Bool.{Bool, true, false, not, ◌&&◌, ◌||◌}
-use mathlib.Core.Option.{Option, none, some}
+use Rattle.std.specs.Prelude.{Option, None, Some}
 use mathlib.Core.List.{List, [], ◌∷◌, ◌++◌, map}
 use lib.Dec.{leb, ltb, eqb}
 use lib.ListN.{length, length-map}
@@ -28,18 +28,18 @@ use Rattle.rules.proofs.MissingTables.{is_absent}
 -- ---- numbers
 
 pub value_within : (k : Kind) (o : Option ℕ) → value (within k o) ≤ k.highest
-value_within k none = omega arith
-value_within k (some n) = by (between k.lowest k.highest n) refl
+value_within k None = omega arith
+value_within k (Some n) = by (between k.lowest k.highest n) refl
   where
-    by : (t : Bool) → between k.lowest k.highest n ≡ t → value (pick t (some n) none) ≤ k.highest
+    by : (t : Bool) → between k.lowest k.highest n ≡ t → value (pick t (Some n) None) ≤ k.highest
     by true e = leb-true n k.highest (and_right (leb k.lowest n) (leb n k.highest) e)
     by false e = omega arith
 
 good_low : (k : Kind) (o : Option ℕ) → good (within k o) ≡ true → k.lowest ≤ value (within k o)
-good_low k none e = absurd (let z : ◌≡◌ {A = ℕ} 0 1 = cc in omega arith)
-good_low k (some n) e = by (between k.lowest k.highest n) refl e
+good_low k None e = absurd (let z : ◌≡◌ {A = ℕ} 0 1 = cc in omega arith)
+good_low k (Some n) e = by (between k.lowest k.highest n) refl e
   where
-    by : (t : Bool) → between k.lowest k.highest n ≡ t → good (pick t (some n) none) ≡ true → k.lowest ≤ value (pick t (some n) none)
+    by : (t : Bool) → between k.lowest k.highest n ≡ t → good (pick t (Some n) None) ≡ true → k.lowest ≤ value (pick t (Some n) None)
     by true q e = leb-true k.lowest n (and_left (leb k.lowest n) (leb n k.highest) q)
     by false q e = absurd (let z : ◌≡◌ {A = ℕ} 0 1 = cc in omega arith)
 
@@ -47,14 +47,14 @@ abbrev zero_or_high : ℕ → Bool
 zero_or_high n = eqb n 0 || leb 500 n
 
 zero_or_high_lem : (o : Option ℕ) → good (zero_or phrase_number o) ≡ true → zero_or_high (value (zero_or phrase_number o)) ≡ true
-zero_or_high_lem none e = absurd (let z : ◌≡◌ {A = ℕ} 0 1 = cc in omega arith)
-zero_or_high_lem (some n) e = by (eqb n 0) e
+zero_or_high_lem None e = absurd (let z : ◌≡◌ {A = ℕ} 0 1 = cc in omega arith)
+zero_or_high_lem (Some n) e = by (eqb n 0) e
   where
-    by : (t : Bool) → good (pick t (some 0) (within phrase_number (some n))) ≡ true → zero_or_high (value (pick t (some 0) (within phrase_number (some n)))) ≡ true
+    by : (t : Bool) → good (pick t (Some 0) (within phrase_number (Some n))) ≡ true → zero_or_high (value (pick t (Some 0) (within phrase_number (Some n)))) ≡ true
     by true e = refl
     by false e =
-        let m = value (within phrase_number (some n)) in
-        or_found (eqb m 0) (leb 500 m) (le-leb 500 m (good_low phrase_number (some n) e))
+        let m = value (within phrase_number (Some n)) in
+        or_found (eqb m 0) (leb 500 m) (le-leb 500 m (good_low phrase_number (Some n) e))
 
 -- ---- parents
 
@@ -147,21 +147,21 @@ heading_granted ts used line h e =
 
 -- ---- #BOT
 
-place_below : (k : ℕ) (t : Text) (names : List (List ℕ)) (n : ℕ) → place_from k t names ≡ some n → n < k + length names
+place_below : (k : ℕ) (t : Text) (names : List (List ℕ)) (n : ℕ) → place_from k t names ≡ Some n → n < k + length names
 place_below k t [] n e = absurd (let z : ◌≡◌ {A = ℕ} 0 1 = cc in omega arith)
 place_below k t (x ∷ xs) n e = by (reads x t) e (place_below (suc k) t xs n)
   where
-    by : (b : Bool) → pick b (some k) (place_from (suc k) t xs) ≡ some n → (place_from (suc k) t xs ≡ some n → n < suc k + length xs) → n < k + suc (length xs)
+    by : (b : Bool) → pick b (Some k) (place_from (suc k) t xs) ≡ Some n → (place_from (suc k) t xs ≡ Some n → n < suc k + length xs) → n < k + suc (length xs)
     by true e more = let q : k ≡ n = cc in omega arith
     by false e more = omega (arith, more e)
 
 pub record TableGranted (ts : Tables) (n : ℕ) : Type 0 where
   pub place : n < 7
-  pub absent : table n ts ≡ none
+  pub absent : table n ts ≡ None
 
 fresh_table : (ts : Tables) (t : Text) (o : Option ℕ) → table_named t ≡ o → fresh ts o ≡ true → TableGranted ts (value o)
-fresh_table ts t none q e = absurd (let z : ◌≡◌ {A = ℕ} 0 1 = cc in omega arith)
-fresh_table ts t (some n) q e =
+fresh_table ts t None q e = absurd (let z : ◌≡◌ {A = ℕ} 0 1 = cc in omega arith)
+fresh_table ts t (Some n) q e =
     record { place = place_below 0 t table_names n q; absent = is_absent (table n ts) (not_true (present n ts) e) }
 
 pub table_granted : (ts : Tables) (line : Text) (n : ℕ) → table_opened ts line ≡ granted n → TableGranted ts n

@@ -3,7 +3,7 @@
 use Prim.Native.Nat.{ℕ, suc, ◌≤◌, ◌<◌}
 use mathlib.Core.Path.{◌≡◌}
 use mathlib.Core.Bool.{true, false}
-use mathlib.Core.Option.{none}
+use Rattle.std.specs.Prelude.{None}
 use mathlib.Core.List.{List, ◌++◌}
 use lib.ListN.{length, get_or}
 use Rattle.rules.specs.Lists.{every, member}
@@ -35,7 +35,7 @@ pub record TablesKept (file : List ℕ) (ts : Tables) : Type 0 where
 pub record RowsKept (file : List ℕ) (ts : Tables) (n : ℕ) (rs : List Row) : Type 0 where
   pub tables : TablesKept file ts
   pub place : n < table_count
-  pub absent : table n ts ≡ none
+  pub absent : table n ts ≡ None
   pub few : RowsHaveRoom rs
   pub stand : RowsStand file rs
 

@@ -4,7 +4,7 @@ use Prim.Native.Nat.{ℕ, ◌+◌, ◌-◌, ◌≤◌, ◌<◌}
 use native.Mathlib.Omega.{arith}
 use mathlib.Core.Path.{◌≡◌, refl, sym, ap, subst, ◌∙◌}
 use mathlib.Core.Bool.{Bool, true, false}
-use mathlib.Core.Option.{some}
+use Rattle.std.specs.Prelude.{Some, Option}
 use mathlib.Core.List.{List, []}
 use borrow.Author.Tests.{ltb-true, ltb-false, le-leb, ne_eqb}
 use lib.Dec.{ltb}
@@ -22,8 +22,9 @@ use Rattle.rules.specs.Keywords.{first_column, hash_and_digits}
 use Rattle.rules.specs.Lines.{Taking, ignored_line, taken_as, word_line, phrase_line, among_nodes}
 use Rattle.rules.proofs.LineKinds.{number_digits}
 use Rattle.rules.proofs.Same.{same_eq}
-use Rattle.columns.specs.Listing.{line_of, columns_of, Listed}
-use Rattle.columns.specs.declared.listing.Line.{Line}
+use Rattle.columns.specs.Listing.{Listed}
+use Rattle.columns.specs.Lines.{line_in, text_in, columns_in}
+use Rattle.columns.specs.declared.listed.ListedLine.{ListedLine}
 use Rattle.columns.proofs.FirstBytes.{first_here, ignored_short, ignored_first}
 use Rattle.columns.proofs.ListedColumns as listed
 use Rattle.table_sheet.specs.SheetRows.{tables_in}
@@ -51,18 +52,18 @@ digits_no_end xs e = by (same xs (bytes "#EOS")) refl
 
 -- ---- the line
 
-module _ (file : List ℕ) (line : Line) (places : List ℕ) (p : StartsPlain file line places) where
-  abbrev l : Listed file line places
-  l = p.listed
+module _ (line : ListedLine) (p : StartsPlain line) where
+  abbrev l : Listed line.file.now (line_in line) line.places.now
+  l = line.listed
 
   abbrev text : Text
-  text = line_of file line
+  text = text_in line
 
   abbrev cs : List Column
-  cs = columns_of file line
+  cs = columns_in line
 
   abbrev byte : ℕ
-  byte = first_byte file line
+  byte = first_byte line
 
   there : 0 < line.columns
   there = omega (arith, p.five)
@@ -71,13 +72,13 @@ module _ (file : List ℕ) (line : Line) (places : List ℕ) (p : StartsPlain fi
   columned = omega (arith, there, l.counted)
 
   its_first : first_column text ≡ written cs 0
-  its_first = first_here text columned (sym (listed.start_at file line places l 0 there) ∙ p.here)
+  its_first = first_here text columned (sym (listed.start_at _ _ _ l 0 there) ∙ p.here)
 
   begins : get_or (written cs 0).bytes 0 0 ≡ byte
-  begins = first_byte_lem file line places l 0 there ∙ ap (λ (n : ℕ). get_or file n 0) p.here
+  begins = first_byte_lem _ _ _ l 0 there ∙ ap (λ (n : ℕ). get_or line.file.now n 0) p.here
 
   pub no_comment : (byte ≡ 37 → ⊥) → reads percents (written cs 0) ≡ false
-  no_comment n = not_percents file line places l 0 there (λ e. n (sym (ap (λ (n : ℕ). get_or file n 0) p.here) ∙ e))
+  no_comment n = not_percents _ _ _ l 0 there (λ e. n (sym (ap (λ (n : ℕ). get_or line.file.now n 0) p.here) ∙ e))
 
   not_ignored : (byte ≡ 37 → ⊥) → ignored text.bytes ≡ false
   not_ignored n = by (ltb (length text.bytes) 2) refl
@@ -87,7 +88,7 @@ module _ (file : List ℕ) (line : Line) (places : List ℕ) (p : StartsPlain fi
       by false q =
           let long = ltb-false (length text.bytes) 2 q in
           ignored_first line.start text.bytes columned long
-          (λ e. n (sym (listed.first_byte_lem file line places l (omega (arith, long, listed.line_length file line places l))) ∙ e))
+          (λ e. n (sym (listed.first_byte_lem _ _ _ l (omega (arith, long, listed.line_length _ _ _ l))) ∙ e))
 
   module _ (format : ℕ) (ts : Tables) (s : SoFar) where
     abbrev taken : Verdict Taking
@@ -103,9 +104,9 @@ module _ (file : List ℕ) (line : Line) (places : List ℕ) (p : StartsPlain fi
         judged (not_ignored n)
         ∙ sym
         (nodes_word text xs (ap (λ (t : Text). t.bytes) (sym its_first)) format ts s refl (other_first 35 (bytes "EOS") xs other) refl (hash_other xs other) (λ n. refl)
-        (word_row 0 xs (other_first 35 [] xs other) ∙ row_other 0 xs (some_bytes file line places l 0 there) other))
+        (word_row 0 xs (other_first 35 [] xs other) ∙ row_other 0 xs (some_bytes _ _ _ l 0 there) other))
 
-    pub phrase_taken : (n : ℕ) → byte ≡ 35 → phrase_in (behind_hash (written cs 0)) ≡ some n → step_of taken ≡ step_of (taken_as phrase_line (phrase_of format ts s text))
+    pub phrase_taken : (n : ℕ) → byte ≡ 35 → phrase_in (behind_hash (written cs 0)) ≡ Some n → step_of taken ≡ step_of (taken_as phrase_line (phrase_of format ts s text))
     phrase_taken n e q =
         let xs = (written cs 0).bytes in
         let hash : hash_and_digits xs ≡ true = hash_digits xs (begins ∙ e) ∙ number_digits phrase_number (drop 1 xs) n q in
@@ -119,13 +120,13 @@ unmarked marks stamp n h e = rw (le-leb 500 n h, ne_eqb (get_or marks (n - 500) 
 
 -- ---- where a sentence is being read
 
-module _ (file : List ℕ) (line : Line) (s : State) (sheet seen marks : List ℕ) (t : Tally) (r : Plain) where
+module _ (line : ListedLine) (s : State) (sheet seen marks : List ℕ) (t : Tally) (r : Option Plain) where
   pub plain_judged : s.phase ≡ InSentence t
-      → PlainBy (columns_of file line) t.words
-      (sentence_line (line_of file line) s.format (tables_in file sheet) (so_far_by t marks (s.handed + 1))) r
-      → PlainBy (columns_of file line) (tally_in s.phase).words (judged_by file (line_of file line) s sheet seen marks) r
+      → PlainBy (columns_in line) t.words
+      (sentence_line (text_in line) s.format (tables_in line.file.now sheet) (so_far_by t marks (s.handed + 1))) r
+      → PlainBy (columns_in line) (tally_in s.phase).words (judged_by line.file.now (text_in line) s sheet seen marks) r
   unfolding judged_by line_by
   plain_judged e h =
       subst
-      (λ (p : Phase). PlainBy (columns_of file line) (tally_in p).words (pick (ignored (line_of file line).bytes) (granted ignored_line) (line_by file (line_of file line) s sheet seen marks p)) r)
+      (λ (p : Phase). PlainBy (columns_in line) (tally_in p).words (pick (ignored (text_in line).bytes) (granted ignored_line) (line_by line.file.now (text_in line) s sheet seen marks p)) r)
       (sym e) h

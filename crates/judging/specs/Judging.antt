@@ -14,8 +14,6 @@ use Rattle.seen.specs.Bits.{bit_at}
 use Rattle.table_sheet.specs.SheetRows.{rows_from, tables_in}
 use Rattle.table_sheet.specs.Outlines.{Outlined}
 use Rattle.citations.specs.Tabled.{Tabled}
-use Rattle.columns.specs.Listing.{line_of, Listed}
-use Rattle.columns.specs.declared.listing.Line.{Line}
 use Rattle.tables.specs.RowRules.{RowsReady}
 use Rattle.nodes.specs.NodeLines.{marked}
 use Rattle.judging.specs.States.{table_open, rows_open}
@@ -55,11 +53,6 @@ module _ (file : List ℕ) (line : Text) (s : State) (sheet seen marks : List �
 pub record Ready (file sheet seen : List ℕ) : Type 0 where
   pub tabled : Tabled file sheet
   pub set : length seen ≡ seen_set_size
-
--- the line's columns are listed, and this is its first
-pub record First (file : List ℕ) (line : Line) (places first : List ℕ) : Type 0 where
-  pub listed : Listed file line places
-  pub is : first ≡ (first_column (line_of file line)).bytes
 
 -- a sentence can be counted on
 pub record Countable (t : Tally) (handed : ℕ) : Type 0 where

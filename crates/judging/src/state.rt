@@ -1,9 +1,10 @@
 // Where a reading stands, as the rules have it, and what it counts.
-ghost use Rattle.std.specs.Prelude.{◌≡◌, ◌+◌, ◌≤◌};
+ghost use Rattle.std.specs.Prelude.{◌≡◌, ◌+◌, ◌-◌, ◌≤◌, set};
 ghost use Rattle.rules.specs.Numbers.{file_limit};
 ghost use Rattle.rules.specs.Phases.{start};
 ghost use Rattle.judging.specs.States.{first_tally, expects_nodes, table_open, rows_open, tally_in, counted_word, counted_phrase, moved, state_of};
 
+use numbers::PhraseNumber;
 use steps::NodeSaid;
 
 // A mark for each phrase number, 500 to 999.
@@ -60,24 +61,15 @@ pub fn first_tally(start: u32, number: u32) -> Tally
 pub fn expects_nodes(phase: Phase) -> bool
     ensures { result ≡ expects_nodes phase }
 {
-    match phase {
-        Phase::Start => false,
-        Phase::Top => false,
-        Phase::InTable { table: _, rows: _ } => false,
-        Phase::InSentence(_) => true,
-        Phase::Behind => false,
-    }
+    matches!(phase, Phase::InSentence(_))
 }
 
 pub fn table_in(phase: Phase) -> u32
     ensures { result ≡ table_open phase }
 {
     match phase {
-        Phase::Start => 0,
-        Phase::Top => 0,
         Phase::InTable { table, rows: _ } => table,
-        Phase::InSentence(_) => 0,
-        Phase::Behind => 0,
+        _ => 0,
     }
 }
 
@@ -85,11 +77,8 @@ pub fn rows_in(phase: Phase) -> u32
     ensures { result ≡ rows_open phase }
 {
     match phase {
-        Phase::Start => 0,
-        Phase::Top => 0,
         Phase::InTable { table: _, rows } => rows,
-        Phase::InSentence(_) => 0,
-        Phase::Behind => 0,
+        _ => 0,
     }
 }
 
@@ -97,11 +86,8 @@ pub fn tally_in(phase: Phase) -> Tally
     ensures { result ≡ tally_in phase }
 {
     match phase {
-        Phase::Start => first_tally(0, 0),
-        Phase::Top => first_tally(0, 0),
-        Phase::InTable { table: _, rows: _ } => first_tally(0, 0),
         Phase::InSentence(tally) => tally,
-        Phase::Behind => first_tally(0, 0),
+        _ => first_tally(0, 0),
     }
 }
 
@@ -112,13 +98,10 @@ pub fn with_word(t: Tally, node: NodeSaid) -> Tally
     ensures { result ≡ counted_word t node }
 {
     Tally {
-        start: t.start,
-        number: t.number,
         words: t.words + 1,
-        phrases: t.phrases,
         edges: t.edges + node.edges,
-        highest_phrase: t.highest_phrase,
         highest_parent: numbers::larger_of(t.highest_parent, node.highest),
+        ..t
     }
 }
 
@@ -127,13 +110,11 @@ pub fn with_phrase(t: Tally, node: NodeSaid) -> Tally
     ensures { result ≡ counted_phrase t node }
 {
     Tally {
-        start: t.start,
-        number: t.number,
-        words: t.words,
         phrases: t.phrases + 1,
         edges: t.edges + node.edges,
         highest_phrase: numbers::larger_of(t.highest_phrase, node.number),
         highest_parent: numbers::larger_of(t.highest_parent, node.highest),
+        ..t
     }
 }
 
@@ -141,12 +122,15 @@ pub fn with_phrase(t: Tally, node: NodeSaid) -> Tally
 pub fn moved(s: State, phase: Phase) -> State
     ensures { result ≡ moved s phase }
 {
-    State {
-        phase,
-        format: s.format,
-        handed: s.handed,
-        sound_end: s.sound_end,
-    }
+    State { phase, ..s }
+}
+
+// A phrase's number is marked with a stamp.
+pub fn mark(number: u32, stamp: u32, marks: &mut [u32; MARKS])
+    requires { (500 ≤ number) × (number ≤ 999) }
+    ensures { marks.new ≡ set marks.old (number - 500) stamp }
+{
+    marks[(number - PhraseNumber::LOWEST) as usize] = stamp;
 }
 
 // Nothing is read yet.

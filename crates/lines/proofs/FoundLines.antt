@@ -13,40 +13,37 @@ use Rattle.columns.specs.declared.listing.Line as listing
 use Rattle.columns.proofs.ListedColumns.{now_listed}
 use Rattle.lines.specs.LineEnds.{line_end}
 use Rattle.lines.specs.NextLines.{line_end_of, ListedBy, ReadAtOnce}
-use Rattle.lines.specs.declared.LineEnd.TheVariants.{At}
-use Rattle.lines.specs.declared.NextLine.{NextLine}
-use Rattle.lines.specs.declared.NextLine.TheVariants.{Line}
-use Rattle.lines.specs.declared.at_once.AtOnce.{AtOnce}
-use Rattle.lines.specs.declared.at_once.AtOnce.TheVariants as once
+use Rattle.std.specs.Prelude.{Option, Some, Result, Ok}
+use Rattle.lines.specs.declared.Unreadable.{Unreadable}
 use Rattle.lines.proofs.Lines.{at_behind, at_below, at_place, at_short}
 
 module _ (file : List ℕ) (from : ℕ) where
-  abbrev Found : NextLine → List ℕ → Type 0
+  abbrev Found : Result listing.Line Unreadable → List ℕ → Type 0
   Found r places = (line_end_of r ≡ line_end file from) × ListedBy file from r places
 
-  pub found_at_once : (r : AtOnce) (places : List ℕ) (l : listing.Line) → ReadAtOnce file from r places → r ≡ once.Line l → Found (Line l) places
+  pub found_at_once : (r : Option listing.Line) (places : List ℕ) (l : listing.Line) → ReadAtOnce file from r places → r ≡ Some l → Found (Ok l) places
   found_at_once r places l h e =
-      let t = subst (λ (x : AtOnce). ReadAtOnce file from x places) e h in
+      let t = subst (λ (x : Option listing.Line). ReadAtOnce file from x places) e h in
       (sym t.0, (t.1, t.2))
 
-  pub found_twice : (e : ℕ) (lent : List ℕ) (l : listing.Line) (places : List ℕ) → length file ≤ file_limit → line_end file from ≡ At e
+  pub found_twice : (e : ℕ) (lent : List ℕ) (l : listing.Line) (places : List ℕ) → length file ≤ file_limit → line_end file from ≡ Ok e
       → (l ≡ record { start = from; end = e; columns = length (lines.columns (text_between file from e)) }) × (places ≡ splice 0 (places_of (lines.columns (text_between file from e))) lent)
-      → Found (Line l) places
+      → Found (Ok l) places
   found_twice e lent l places m q h =
       let o = at_behind file from e q in
       let i : e ≤ length file = omega (arith, at_below file from e q) in
       let s : e ≤ from + line_limit = omega (arith, at_place file from e q, at_short file from e q) in (
-        ap (λ (x : listing.Line). At x.end) h.0 ∙ sym q,
+        ap (λ (x : listing.Line). Ok x.end) h.0 ∙ sym q,
         (ap (λ (x : listing.Line). x.start) h.0, now_listed file from e lent l places o i s m h),
       )
 
   -- ---- what was told of a line that is read
 
-  module _ (r : NextLine) (places : List ℕ) (h : Found r places) (l : listing.Line) (is : r ≡ Line l) where
-    told : Found (Line l) places
-    told = subst (λ (x : NextLine). Found x places) is h
+  module _ (r : Result listing.Line Unreadable) (places : List ℕ) (h : Found r places) (l : listing.Line) (is : r ≡ Ok l) where
+    told : Found (Ok l) places
+    told = subst (λ (x : Result listing.Line Unreadable). Found x places) is h
 
-    pub told_end : line_end file from ≡ At l.end
+    pub told_end : line_end file from ≡ Ok l.end
     told_end = sym told.0
 
     pub told_start : l.start ≡ from

@@ -1,7 +1,7 @@
+pub mod Variants
 pub mod Scan
 pub mod Lines
 pub mod LineSteps
-pub mod Variants
 pub mod Borders
 pub mod Passing
 pub mod FoundLines

@@ -2,7 +2,7 @@
 use Prim.Native.Nat.{ℕ, ◌+◌, ◌≤◌, ◌<◌}
 use mathlib.Core.Path.{◌≡◌, ap, ◌∙◌}
 use mathlib.Core.Bool.{true, false}
-use mathlib.Core.Option.{none}
+use Rattle.std.specs.Prelude.{None}
 use mathlib.Core.List.{List, [], ◌∷◌, ◌++◌, reverse}
 use lib.ListN.{length, drop}
 use borrow.Author.Tests.{le-leb, lt-leb}
@@ -16,7 +16,8 @@ use Rattle.rules.specs.Reading.{Reading, numbers, ended, read}
 use Rattle.rules.proofs.RuleLaws.{in_order, in_order_lem}
 use Rattle.rules.proofs.ReadLines.{read_line}
 use Rattle.lines.specs.LineEnds.{first_line, line_end}
-use Rattle.lines.specs.declared.LineEnd.TheVariants.{At, Illegal, TooLong}
+use Rattle.std.specs.Prelude.{Ok, Err}
+use Rattle.lines.specs.declared.Unreadable.TheVariants.{Illegal, TooLong}
 use Rattle.lines.proofs.Lines.{line_unbroken, at_legal, at_short, at_split, illegal_marred, illegal_split, long_legal, long_over, long_split}
 
 module _ (ph : Phase) (ns : List ℕ) (line : Text) where
@@ -34,9 +35,9 @@ module _ (ph : Phase) (ns : List ℕ) (line : Text) where
 
 -- the reading, behind a line's bytes
 abbrev pub line_read : Reading → List ℕ → Reading
-line_read r l = record { at = r.at + length l; line_start = r.line_start; part = reverse l; phase = r.phase; handed = r.handed; fault = none }
+line_read r l = record { at = r.at + length l; line_start = r.line_start; part = reverse l; phase = r.phase; handed = r.handed; fault = None }
 
-module _ (file : List ℕ) (at : ℕ) (r : Reading) (sound : r.fault ≡ none) (unbegun : r.part ≡ []) where
+module _ (file : List ℕ) (at : ℕ) (r : Reading) (sound : r.fault ≡ None) (unbegun : r.part ≡ []) where
   abbrev pub bytes_at : List ℕ
   bytes_at = first_line (drop at file)
 
@@ -49,15 +50,15 @@ module _ (file : List ℕ) (at : ℕ) (r : Reading) (sound : r.fault ≡ none) (
       ap (read r) split ∙ read_line r bytes_at rest sound unbegun (line_unbroken (drop at file))
       ∙ ap (λ (x : Answer). read (ended (line_read r bytes_at) x) rest) q
 
-  pub taken_step : (e : ℕ) → line_end file at ≡ At e
+  pub taken_step : (e : ℕ) → line_end file at ≡ Ok e
       → read r (drop at file)
       ≡ read (ended (line_read r bytes_at) (next (after r.phase r.line_start) (taken r.phase (numbers r.handed) line_here))) (drop (e + 1) file)
   taken_step e q =
       one_step (drop (e + 1) file) _ (at_split file at e q)
       (step_taken r.phase (numbers r.handed) line_here (at_legal file at e q) (at_short file at e q))
 
-  pub illegal_step : line_end file at ≡ Illegal → read r (drop at file) ≡ read (ended (line_read r bytes_at) (refuse (rule 4 line_here false))) (drop (at + length bytes_at + 1) file)
+  pub illegal_step : line_end file at ≡ Err Illegal → read r (drop at file) ≡ read (ended (line_read r bytes_at) (refuse (rule 4 line_here false))) (drop (at + length bytes_at + 1) file)
   illegal_step q = one_step _ _ (illegal_split file at q) (step_illegal r.phase (numbers r.handed) line_here (illegal_marred file at q))
 
-  pub long_step : line_end file at ≡ TooLong → read r (drop at file) ≡ read (ended (line_read r bytes_at) (refuse (rule 5 line_here false))) (drop (at + length bytes_at + 1) file)
+  pub long_step : line_end file at ≡ Err TooLong → read r (drop at file) ≡ read (ended (line_read r bytes_at) (refuse (rule 5 line_here false))) (drop (at + length bytes_at + 1) file)
   long_step q = one_step _ _ (long_split file at q) (step_long r.phase (numbers r.handed) line_here (long_legal file at q) (long_over file at q))

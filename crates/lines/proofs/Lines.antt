@@ -12,8 +12,10 @@ use Rattle.rules.specs.Lists.{pick, every}
 use Rattle.rules.specs.Bytes.{newline, legal}
 use Rattle.rules.specs.Numbers.{line_limit}
 use Rattle.lines.specs.LineEnds.{ends, has_end, first_line, end_found, line_end}
-use Rattle.lines.specs.declared.LineEnd.{LineEnd}
-use Rattle.lines.specs.declared.LineEnd.TheVariants.{At, Unended, Illegal, TooLong}
+use Rattle.std.specs.Prelude.{Result}
+use Rattle.lines.specs.declared.Unreadable.{Unreadable}
+use Rattle.std.specs.Prelude.{Ok, Err}
+use Rattle.lines.specs.declared.Unreadable.TheVariants.{Unended, Illegal, TooLong}
 
 -- ---- a line and what follows it
 
@@ -59,12 +61,12 @@ module _ (file : List ℕ) (at : ℕ) (ended : has_end (drop at file) ≡ true) 
 -- ---- what was found
 
 -- what a finding tells of the line at a place, with the rest of the file behind that place
-abbrev Told : ℕ → List ℕ → LineEnd → Type 0
-Told at rest (At e) =
+abbrev Told : ℕ → List ℕ → Result ℕ Unreadable → Type 0
+Told at rest (Ok e) =
     (has_end rest ≡ true) × (every legal (first_line rest) ≡ true) × (length (first_line rest) ≤ line_limit) × (e ≡ at + length (first_line rest))
-Told at rest Unended = has_end rest ≡ false
-Told at rest Illegal = (has_end rest ≡ true) × (every legal (first_line rest) ≡ false)
-Told at rest TooLong = (has_end rest ≡ true) × (every legal (first_line rest) ≡ true) × (line_limit < length (first_line rest))
+Told at rest (Err Unended) = has_end rest ≡ false
+Told at rest (Err Illegal) = (has_end rest ≡ true) × (every legal (first_line rest) ≡ false)
+Told at rest (Err TooLong) = (has_end rest ≡ true) × (every legal (first_line rest) ≡ true) × (line_limit < length (first_line rest))
 
 told : (file : List ℕ) (at : ℕ) → Told at (drop at file) (line_end file at)
 unfolding line_end end_found
@@ -77,7 +79,7 @@ told file at = go (has_end rest) (every legal (first_line rest)) (leb (length (f
         → has_end rest ≡ t
         → every legal (first_line rest) ≡ u
         → leb (length (first_line rest)) line_limit ≡ v
-        → Told at rest (pick t (pick u (pick v (At (at + length (first_line rest))) TooLong) Illegal) Unended)
+        → Told at rest (pick t (pick u (pick v (Ok (at + length (first_line rest))) (Err TooLong)) (Err Illegal)) (Err Unended))
     go true true true ended sound short = (ended, sound, leb-true _ _ short, refl)
     go true true false ended sound long = (ended, sound, leb-false _ _ long)
     go true false v ended marred short = (ended, marred)
@@ -85,8 +87,8 @@ told file at = go (has_end rest) (every legal (first_line rest)) (leb (length (f
 
 -- ---- the line may be read, and its newline stands at e
 
-module _ (file : List ℕ) (at e : ℕ) (q : line_end file at ≡ At e) where
-  told_at : Told at (drop at file) (At e)
+module _ (file : List ℕ) (at e : ℕ) (q : line_end file at ≡ Ok e) where
+  told_at : Told at (drop at file) (Ok e)
   told_at = subst (Told at (drop at file)) q (told file at)
 
   pub at_ended : has_end (drop at file) ≡ true
@@ -130,12 +132,12 @@ module _ (file : List ℕ) (at e : ℕ) (q : line_end file at ≡ At e) where
 
 -- ---- the line may not be read
 
-module _ (file : List ℕ) (at : ℕ) (q : line_end file at ≡ Unended) where
+module _ (file : List ℕ) (at : ℕ) (q : line_end file at ≡ Err Unended) where
   pub unended_none : has_end (drop at file) ≡ false
   unended_none = subst (Told at (drop at file)) q (told file at)
 
-module _ (file : List ℕ) (at : ℕ) (q : line_end file at ≡ Illegal) where
-  told_illegal : Told at (drop at file) Illegal
+module _ (file : List ℕ) (at : ℕ) (q : line_end file at ≡ Err Illegal) where
+  told_illegal : Told at (drop at file) (Err Illegal)
   told_illegal = subst (Told at (drop at file)) q (told file at)
 
   pub illegal_ended : has_end (drop at file) ≡ true
@@ -147,8 +149,8 @@ module _ (file : List ℕ) (at : ℕ) (q : line_end file at ≡ Illegal) where
   pub illegal_split : drop at file ≡ first_line (drop at file) ++ (newline ∷ drop (at + length (first_line (drop at file)) + 1) file)
   illegal_split = ended_split file at illegal_ended
 
-module _ (file : List ℕ) (at : ℕ) (q : line_end file at ≡ TooLong) where
-  told_long : Told at (drop at file) TooLong
+module _ (file : List ℕ) (at : ℕ) (q : line_end file at ≡ Err TooLong) where
+  told_long : Told at (drop at file) (Err TooLong)
   told_long = subst (Told at (drop at file)) q (told file at)
 
   pub long_ended : has_end (drop at file) ≡ true

@@ -21,7 +21,7 @@ use Rattle.columns.specs.Listing.{places_of, Listed}
 use Rattle.columns.specs.declared.listing.Line.{Line}
 use Rattle.columns.proofs.Stands.{length_places}
 use Rattle.lines.specs.LineEnds.{line_end}
-use Rattle.lines.specs.declared.LineEnd.TheVariants.{At}
+use Rattle.std.specs.Prelude.{Ok}
 use Rattle.lines.proofs.Borders.{differ, borders, borders_end, borders_step, borders_list}
 use Rattle.lines.proofs.Scan.{scan, scan_start, scan_at, scan_legal}
 
@@ -151,7 +151,7 @@ module _ (file : List ℕ) (from : ℕ) (places : List ℕ) (at kept inside : �
   bytes = front file from at
 
   abbrev Ended : Line → List ℕ → Type 0
-  Ended l stored = (line_end file from ≡ At l.end) × (l.start ≡ from) × Listed file l stored
+  Ended l stored = (line_end file from ≡ Ok l.end) × (l.start ≡ from) × Listed file l stored
 
   borders_here : places_of (columns_from from bytes) ≡ take kept places ++ pick w.within (at ∷ []) []
   borders_here =

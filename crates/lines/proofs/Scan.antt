@@ -16,21 +16,23 @@ use Rattle.rules.specs.Bytes.{newline, legal, illegal_class, class_of}
 use Rattle.rules.specs.Numbers.{line_limit}
 use Rattle.rules.proofs.Classes.{class_illegal}
 use Rattle.lines.specs.LineEnds.{has_end, first_line, end_found, line_end}
-use Rattle.lines.specs.declared.LineEnd.{LineEnd}
-use Rattle.lines.specs.declared.LineEnd.TheVariants.{At, Unended, Illegal, TooLong}
+use Rattle.std.specs.Prelude.{Result}
+use Rattle.lines.specs.declared.Unreadable.{Unreadable}
+use Rattle.std.specs.Prelude.{Ok, Err}
+use Rattle.lines.specs.declared.Unreadable.TheVariants.{Unended, Illegal, TooLong}
 
 -- n bytes of the line have passed, all of them legal or not, and the rest of the file is left
-abbrev left : ℕ → ℕ → Bool → List ℕ → LineEnd
+abbrev left : ℕ → ℕ → Bool → List ℕ → Result ℕ Unreadable
 left from n sound rest = end_found from (has_end rest) (sound && every legal (first_line rest)) (n + length (first_line rest))
 
-unfoldable pub scan : List ℕ → ℕ → ℕ → Bool → LineEnd
+unfoldable pub scan : List ℕ → ℕ → ℕ → Bool → Result ℕ Unreadable
 scan file from at sound = left from (at - from) sound (drop at file)
 
 pub scan_start : (file : List ℕ) (from : ℕ) → scan file from from true ≡ line_end file from
 unfolding scan line_end
 scan_start file from = ap (end_found from (has_end (drop from file)) (every legal (first_line (drop from file)))) (omega arith)
 
-pub scan_unended : (file : List ℕ) (from at : ℕ) (sound : Bool) → length file ≤ at → scan file from at sound ≡ Unended
+pub scan_unended : (file : List ℕ) (from at : ℕ) (sound : Bool) → length file ≤ at → scan file from at sound ≡ Err Unended
 unfolding scan end_found
 scan_unended file from at sound h = rw (drop_of_length-le file h)
 
@@ -55,15 +57,15 @@ module _ (file : List ℕ) (from at : ℕ) (sound : Bool) (below : at < length f
   unfolding scan
   scan_newline e = rw (drop-cons file at 0) (left_newline from (at - from) here sound (drop (suc at) file) (eq-eqb here newline e))
 
-  pub scan_illegal : here ≡ newline → sound ≡ false → scan file from at sound ≡ Illegal
+  pub scan_illegal : here ≡ newline → sound ≡ false → scan file from at sound ≡ Err Illegal
   unfolding end_found
   scan_illegal e s = rw (scan_newline e, s)
 
-  pub scan_at : here ≡ newline → sound ≡ true → from ≤ at → at - from ≤ line_limit → scan file from at sound ≡ At at
+  pub scan_at : here ≡ newline → sound ≡ true → from ≤ at → at - from ≤ line_limit → scan file from at sound ≡ Ok at
   unfolding end_found
-  scan_at e s f l = rw (scan_newline e, s, le-leb (at - from) line_limit l) (ap At (omega arith))
+  scan_at e s f l = rw (scan_newline e, s, le-leb (at - from) line_limit l) (ap Ok (omega arith))
 
-  pub scan_long : here ≡ newline → sound ≡ true → line_limit < at - from → scan file from at sound ≡ TooLong
+  pub scan_long : here ≡ newline → sound ≡ true → line_limit < at - from → scan file from at sound ≡ Err TooLong
   unfolding end_found
   scan_long e s l = rw (scan_newline e, s, lt-leb (at - from) line_limit l)
 

@@ -1,6 +1,5 @@
 // One pass along a line finds its end and lists its columns. What it doubts is left to those who look twice.
 ghost use Rattle.std.specs.Prelude.{◌≡◌, ◌+◌, ◌≤◌, length};
-ghost use Rattle.rules.specs.Bytes.{class_table};
 ghost use Rattle.rules.specs.Numbers.{line_limit, file_limit};
 ghost use Rattle.lines.specs.NextLines.{line_between, ReadAtOnce};
 
@@ -8,12 +7,6 @@ use columns::listing::Line;
 
 // Room for the two numbers of each column of a line.
 const PLACES: usize = 4096;
-
-#[derive(Clone, Copy)]
-pub enum AtOnce {
-    Line(Line),
-    Doubted,
-}
 
 // Where the pass ends at the latest, so that there is a place for each of its bytes.
 fn last_place(len: usize, from: usize) -> usize
@@ -26,10 +19,10 @@ fn last_place(len: usize, from: usize) -> usize
     len
 }
 
-fn line_between(start: usize, end: usize, columns: usize) -> AtOnce
+fn line_between(start: usize, end: usize, columns: usize) -> Option<Line>
     ensures { result ≡ line_between start end columns }
 {
-    AtOnce::Line(Line {
+    Some(Line {
         start,
         end,
         columns,
@@ -37,38 +30,36 @@ fn line_between(start: usize, end: usize, columns: usize) -> AtOnce
 }
 
 // A byte's place is stored at once, and kept if a column begins or ends there: no branch depends on the columns.
-pub fn read_at_once(file: &[u8], from: usize, classes: &[u8; 256], places: &mut [u32]) -> AtOnce
-    requires { (from ≤ length file.now) × (classes.now ≡ class_table) × (length file.now ≤ file_limit) × (length places.old ≡ 4096) }
+pub fn read_at_once(file: &[u8], from: usize, places: &mut [u32]) -> Option<Line>
+    requires { (from ≤ length file.now) × (length file.now ≤ file_limit) × (length places.old ≡ 4096) }
     ensures { ReadAtOnce file.now from result places.new }
 {
     let last = last_place(file.len(), from);
-    let mut at = from;
     let mut kept = 0;
     let mut inside = 0u8;
-    while at < last {
+    for at in from..last {
         let b = file[at];
-        let class = classes::class_of(classes, b);
+        let class = classes::class_of(b);
         places[kept] = at as u32;
         if class == 0 {
-            if b != 10 {
-                return AtOnce::Doubted;
+            if b != b'\n' {
+                return None;
             }
             return line_between(from, at, (kept + inside as usize) / 2);
         }
         let solid = class / 2;
         kept += (solid ^ inside) as usize;
         inside = solid;
-        at += 1;
     }
-    if file.len() <= at {
-        return AtOnce::Doubted;
+    if file.len() <= last {
+        return None;
     }
-    if file[at] != 10 {
-        return AtOnce::Doubted;
+    if file[last] != b'\n' {
+        return None;
     }
     if inside == 0 {
-        return line_between(from, at, kept / 2);
+        return line_between(from, last, kept / 2);
     }
-    places[kept] = at as u32;
-    line_between(from, at, (kept + 1) / 2)
+    places[kept] = last as u32;
+    line_between(from, last, (kept + 1) / 2)
 }

@@ -4,19 +4,16 @@
 mod at_once;
 
 ghost use Rattle.std.specs.Prelude.{◌≡◌, ◌≤◌, length};
-ghost use Rattle.rules.specs.Bytes.{class_table};
 ghost use Rattle.rules.specs.Numbers.{file_limit};
 ghost use Rattle.lines.specs.LineEnds.{line_end};
 ghost use Rattle.lines.specs.NextLines.{line_end_of, ListedBy};
 
-use at_once::{AtOnce, read_at_once};
+use at_once::read_at_once;
 use columns::listing::{Line, ORDINARY, Places, read_line};
 
-// What is found of the line that starts at a place.
+// Why the line that starts at a place may not be read.
 #[derive(Clone, Copy)]
-pub enum LineEnd {
-    // The line may be read, and its newline stands here.
-    At(usize),
+pub enum Unreadable {
     // No newline follows.
     Unended,
     // A byte of the line is illegal.
@@ -25,53 +22,37 @@ pub enum LineEnd {
     TooLong,
 }
 
-// A newline is of class 0 too, so that a legal byte costs one test.
-pub fn line_end(file: &[u8], from: usize, classes: &[u8; 256]) -> LineEnd
-    requires { (from ≤ length file.now) × (classes.now ≡ class_table) }
+// Where the line's newline stands. A newline is of class 0 too, so that a legal byte costs one test.
+pub fn line_end(file: &[u8], from: usize) -> Result<usize, Unreadable>
+    requires { from ≤ length file.now }
     ensures { result ≡ line_end file.now from }
 {
-    let mut at = from;
     let mut sound = true;
-    while at < file.len() {
+    for at in from..file.len() {
         let b = file[at];
-        if classes::class_of(classes, b) == 0 {
-            if b == 10 {
+        if classes::class_of(b) == 0 {
+            if b == b'\n' {
                 if !sound {
-                    return LineEnd::Illegal;
+                    return Err(Unreadable::Illegal);
                 }
                 if at - from <= 4096 {
-                    return LineEnd::At(at);
+                    return Ok(at);
                 }
-                return LineEnd::TooLong;
+                return Err(Unreadable::TooLong);
             }
             sound = false;
         }
-        at += 1;
     }
-    LineEnd::Unended
-}
-
-// The line that starts at a place, or why it may not be read.
-#[derive(Clone, Copy)]
-pub enum NextLine {
-    Line(Line),
-    Unended,
-    Illegal,
-    TooLong,
+    Err(Unreadable::Unended)
 }
 
 // The line's end is looked for, then the reader lists its columns in `places`.
-fn read_twice(file: &[u8], from: usize, classes: &[u8; 256], places: &mut Places) -> NextLine
-    requires { (from ≤ length file.now) × (classes.now ≡ class_table) × (length file.now ≤ file_limit) }
+fn read_twice(file: &[u8], from: usize, places: &mut Places) -> Result<Line, Unreadable>
+    requires { (from ≤ length file.now) × (length file.now ≤ file_limit) }
     ensures { (line_end_of result ≡ line_end file.now from) × ListedBy file.now from result places.new }
 {
-    let found = line_end(file, from, classes);
-    match found {
-        LineEnd::At(end) => NextLine::Line(read_line(file, from, end, classes, places)),
-        LineEnd::Unended => NextLine::Unended,
-        LineEnd::Illegal => NextLine::Illegal,
-        LineEnd::TooLong => NextLine::TooLong,
-    }
+    let end = line_end(file, from)?;
+    Ok(read_line(file, from, end, places))
 }
 
 // The columns of a line that may be read are listed in `places`. Of the lines of a sentence the ordinary ones, or any, are listed
@@ -81,22 +62,20 @@ fn find_line(
     from: usize,
     of_node: bool,
     any: bool,
-    classes: &[u8; 256],
     places: &mut Places,
-) -> NextLine
-    requires { (from ≤ length file.now) × (classes.now ≡ class_table) × (length file.now ≤ file_limit) }
+) -> Result<Line, Unreadable>
+    requires { (from ≤ length file.now) × (length file.now ≤ file_limit) }
     ensures { (line_end_of result ≡ line_end file.now from) × ListedBy file.now from result places.new }
 {
     if !of_node {
-        return read_twice(file, from, classes, places);
+        return read_twice(file, from, places);
     }
-    let once = read_at_once(file, from, classes, places);
-    if let AtOnce::Line(line) = once {
+    if let Some(line) = read_at_once(file, from, places) {
         if any || line.columns == ORDINARY {
-            return NextLine::Line(line);
+            return Ok(line);
         }
     }
-    read_twice(file, from, classes, places)
+    read_twice(file, from, places)
 }
 
 // The line of a file that is read whole. Ordinary lines of words and phrases, nearly all of it, are listed in one pass.
@@ -104,24 +83,18 @@ pub fn next_line(
     file: &[u8],
     from: usize,
     of_node: bool,
-    classes: &[u8; 256],
     places: &mut Places,
-) -> NextLine
-    requires { (from ≤ length file.now) × (classes.now ≡ class_table) × (length file.now ≤ file_limit) }
+) -> Result<Line, Unreadable>
+    requires { (from ≤ length file.now) × (length file.now ≤ file_limit) }
     ensures { (line_end_of result ≡ line_end file.now from) × ListedBy file.now from result places.new }
 {
-    find_line(file, from, of_node, false, classes, places)
+    find_line(file, from, of_node, false, places)
 }
 
 // The line of a sentence that is read by itself. Any is listed in one pass, those with secondary edges or a comment too.
-pub fn next_of_sentence(
-    file: &[u8],
-    from: usize,
-    classes: &[u8; 256],
-    places: &mut Places,
-) -> NextLine
-    requires { (from ≤ length file.now) × (classes.now ≡ class_table) × (length file.now ≤ file_limit) }
+pub fn next_of_sentence(file: &[u8], from: usize, places: &mut Places) -> Result<Line, Unreadable>
+    requires { (from ≤ length file.now) × (length file.now ≤ file_limit) }
     ensures { (line_end_of result ≡ line_end file.now from) × ListedBy file.now from result places.new }
 {
-    find_line(file, from, true, true, classes, places)
+    find_line(file, from, true, true, places)
 }

@@ -1,6 +1,6 @@
 -- The walk along the pairs of a line, whatever a rule asks of a pair: from the fifth field on up to a place every pair has
 -- kept the rule, so the rest decides. One law for the start, a pair more, and each way out.
-use Prim.Native.Nat.{ℕ, suc, ◌+◌, ◌≤◌, ◌<◌}
+use Prim.Native.Nat.{ℕ, suc, ◌+◌, ◌-◌, ◌*◌, ◌≤◌, ◌<◌, ◌/◌}
 use native.Mathlib.Numerals.{add-one}
 use native.Mathlib.Omega.{arith}
 use mathlib.Core.Path.{◌≡◌, refl, sym, ap, ◌∙◌}
@@ -8,8 +8,9 @@ use mathlib.Core.Bool.{Bool, true, false}
 use mathlib.Core.List.{List, [], ◌∷◌, map}
 use borrow.Author.Tests.{leb-true, leb-false}
 use lib.Dec.{leb}
-use lib.ListN.{length, drop, drop_of_length-le}
+use lib.ListN.{length, drop, length-drop, drop_of_length-le}
 use lib.Seq.{drop-cons}
+use Rattle.std.specs.Prelude.{Ok, Err}
 use Rattle.rules.specs.Lists.{pick}
 use Rattle.rules.specs.Texts.{Text, no_text}
 use Rattle.rules.specs.Columns.{text}
@@ -18,9 +19,10 @@ use Rattle.rules.specs.Pairs.{Pair, pairs, paired}
 use Rattle.rules.specs.Numbers.{value}
 use Rattle.rules.specs.Highest.{larger}
 use Rattle.rules.proofs.Largest.{larger_assoc, larger_zero}
-use Rattle.columns.specs.declared.listing.Line.{Line}
-use Rattle.steps.specs.Faults.{no_fault, broken_by, fault_in}
-use Rattle.nodes.specs.NodeLines.{fields_of, pairs_from, phrase_in, highest_of, FieldAt, Whole}
+use Rattle.steps.specs.Faults.{broken_by, fault, fault_in}
+use Rattle.steps.specs.declared.Fault.{Fault}
+use Rattle.nodes.specs.NodeLines.{pairs_from, pair_of, phrase_in, highest_of, Whole, AsksPairs}
+use Rattle.nodes.proofs.ListedFields.{twice_pairs}
 
 abbrev pub pair_at : List Text → ℕ → Pair
 pair_at fs k = record { label = text fs k; parent = text fs (k + 1) }
@@ -66,15 +68,12 @@ pub record Along (q : Pair → Rule) (fs : List Text) (k : ℕ) : Type 0 where
   pub even : paired (drop k fs) ≡ true
   pub rest : fault_in (map q (pairs_from fs k)) ≡ fault_in (map q (pairs_from fs 5))
 
-module _ {file : List ℕ} {line : Line} {places : List ℕ} {count : ℕ} (w : Whole file line places count) where
-  abbrev fs : List Text
-  fs = fields_of file line
-
+module _ {fs : List Text} {count : ℕ} (w : Whole fs count) where
   pub along_start : (q : Pair → Rule) → Along q fs 5
   along_start q = record { even = w.even; rest = refl }
 
   module _ {q : Pair → Rule} {k : ℕ} (a : Along q fs k) where
-    pub along_end : count ≤ k → no_fault ≡ fault_in (map q (pairs_from fs 5))
+    pub along_end : count ≤ k → Ok tt ≡ fault_in (map q (pairs_from fs 5))
     unfolding fault_in
     along_end h = sym (ap (λ (ps : List Pair). fault_in (map q ps)) (pairs_end fs k (omega (arith, w.counted)))) ∙ a.rest
 
@@ -86,20 +85,17 @@ module _ {file : List ℕ} {line : Line} {places : List ℕ} {count : ℕ} (w : 
       with_parent : k + 1 < length fs
       with_parent = has_parent fs k a.even (omega (arith, w.counted))
 
-      pub label_field : FieldAt file line places k
-      label_field = record { listed = w.listed; inside = omega (arith, w.counted) }
+      pub parent_field : k + 1 < count
+      parent_field = omega (arith, with_parent, w.counted)
 
-      pub parent_field : FieldAt file line places (k + 1)
-      parent_field = record { listed = w.listed; inside = with_parent }
-
-      here : pick (q (pair_at fs k)).holds (fault_in (map q (pairs_from fs (k + 2)))) (broken_by (q (pair_at fs k))) ≡ fault_in (map q (pairs_from fs 5))
+      here : pick (q (pair_at fs k)).holds (fault_in (map q (pairs_from fs (k + 2)))) (Err (broken_by (q (pair_at fs k)))) ≡ fault_in (map q (pairs_from fs 5))
       unfolding fault_in
       here = sym (ap (λ (ps : List Pair). fault_in (map q ps)) (pairs_more fs k with_parent)) ∙ a.rest
 
       pub along_more : (q (pair_at fs k)).holds ≡ true → Along q fs (k + 2)
       along_more e = record { even = paired_more fs k with_parent a.even; rest = rw e at here }
 
-      pub along_stop : (q (pair_at fs k)).holds ≡ false → broken_by (q (pair_at fs k)) ≡ fault_in (map q (pairs_from fs 5))
+      pub along_stop : (q (pair_at fs k)).holds ≡ false → Err (broken_by (q (pair_at fs k))) ≡ fault_in (map q (pairs_from fs 5))
       along_stop e = rw e at here
 
       -- the highest secondary parent from here on
@@ -108,3 +104,47 @@ module _ {file : List ℕ} {line : Line} {places : List ℕ} {count : ℕ} (w : 
       highest_more highest =
           ap (λ (ps : List Pair). larger highest (highest_of ps)) (pairs_more fs k with_parent)
           ∙ larger_assoc highest (value (phrase_in (text fs (k + 1)))) (highest_of (pairs_from fs (k + 2)))
+
+-- ---- pair by pair
+
+module _ {fs : List Text} {count : ℕ} (w : Whole fs count) where
+  all_pairs : count ≡ 5 + 2 * ((count - 5) / 2)
+  all_pairs = omega (arith, w.counted, w.five, twice_pairs (drop 5 fs) w.even, length-drop 5 fs)
+
+  module _ {n : ℕ} (e : n ≡ (count - 5) / 2) {j : ℕ} where
+    pub pair_there : j < n → 6 + 2 * j < count
+    pair_there h = omega (arith, e, all_pairs)
+
+    pub pairs_over : n ≤ j → count ≤ 5 + 2 * j
+    pairs_over h = omega (arith, e, all_pairs)
+
+  module _ {q : Pair → Rule} (j : ℕ) (a : Along q fs (5 + 2 * j)) (h : 6 + 2 * j < count) where
+    on : 5 + 2 * j + 2 ≡ 5 + 2 * (j + 1)
+    on = omega arith
+
+    beside : 5 + 2 * j + 1 ≡ 6 + 2 * j
+    beside = omega arith
+
+    there : 5 + 2 * j < count
+    there = omega (arith, h)
+
+    pub pair_more : (q (pair_of fs j)).holds ≡ true → Along q fs (5 + 2 * (j + 1))
+    pair_more = rw (beside, on) at (along_more w a there)
+
+    pub pair_stop : {f : Fault} → f ≡ broken_by (q (pair_of fs j)) → (q (pair_of fs j)).holds ≡ false → Err f ≡ fault_in (map q (pairs_from fs 5))
+    pair_stop e b = ap Err e ∙ (rw beside at (along_stop w a there)) b
+
+    -- by an answer that tells the rule
+    module _ {number first : ℕ} {answers : ℕ → Bool → Type 0} (asks : AsksPairs fs number first answers q) {b : Bool} (answer : answers (first + 2 * j) b) where
+      told : b ≡ (q (pair_of fs j)).holds
+      told = asks.told j b (omega (arith, h, w.counted)) answer
+
+      pub asked_more : b ≡ true → Along q fs (5 + 2 * (j + 1))
+      asked_more e = pair_more (sym told ∙ e)
+
+      pub asked_stop : {f : Fault} → f ≡ fault number (text fs (first + 2 * j)).start → b ≡ false → Err f ≡ fault_in (map q (pairs_from fs 5))
+      asked_stop g e = pair_stop (g ∙ sym (asks.fault j)) (sym told ∙ e)
+
+    pub highest_pair : (highest : ℕ)
+        → larger highest (highest_of (pairs_from fs (5 + 2 * j))) ≡ larger (larger highest (value (phrase_in (text fs (6 + 2 * j))))) (highest_of (pairs_from fs (5 + 2 * (j + 1))))
+    highest_pair = rw (beside, on) at (highest_more w a there)

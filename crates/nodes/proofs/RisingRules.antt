@@ -6,13 +6,14 @@ use mathlib.Core.Bool.{Bool, true, ◌&&◌}
 use mathlib.Core.List.{List, [], ◌∷◌, ◌++◌, map, append_assoc}
 use borrow.Author.Tests.{le-leb, leb-true}
 use lib.Dec.{leb}
+use Rattle.std.specs.Prelude.{Result}
 use Rattle.rules.specs.Lists.{every}
 use Rattle.rules.specs.Texts.{Text}
 use Rattle.rules.specs.Rules.{Rule, rule}
 use Rattle.rules.specs.Tables.{Tables}
 use Rattle.rules.specs.Nodes.{its_pairs, parents_written, tags_short, tags_known, parents_allowed}
-use Rattle.rules.proofs.Conjunctions.{and_left, and_right, and_both, every_front, every_back}
-use Rattle.rules.proofs.RuleLaws.{rising, numbered}
+use Rattle.rules.proofs.Conjunctions.{and_left, and_right, and_both}
+use Rattle.rules.proofs.RuleLaws.{rising}
 use Rattle.steps.specs.Faults.{fault_in, or_else}
 use Rattle.steps.proofs.StepLaws.{fault_append}
 use Rattle.nodes.specs.NodeLines.{parent_written, label_short, label_known, parent_differs, first_fault}
@@ -54,11 +55,8 @@ in_a_row : (a b c d e : List Rule) → a ++ b ++ (c ++ d) ++ e ≡ a ++ (b ++ (c
 in_a_row a b c d e = simp append_assoc
 
 -- a fault in the first of two groups decides, else the second does
-two_groups : (a b : List Rule) (g : Fault) → numbered (a ++ b) ≡ true → (numbered b ≡ true → fault_in b ≡ g) → fault_in (a ++ b) ≡ or_else (fault_in a) g
-two_groups a b g n more = fault_append a b (every_front Numbered a b n) ∙ ap (or_else (fault_in a)) (more (every_back Numbered a b n))
-  where
-    Numbered : Rule → Bool
-    Numbered q = leb 1 q.number
+two_groups : (a b : List Rule) (g : Result Unit Fault) → fault_in b ≡ g → fault_in (a ++ b) ≡ or_else (fault_in a) g
+two_groups a b g more = fault_append a b ∙ ap (or_else (fault_in a)) more
 
 module _ (format : ℕ) (fs : List Text) (ts : Tables) (tags its_number : ℕ) (limits : List Rule) where
   abbrev pub field_rules : List Rule
@@ -78,8 +76,8 @@ module _ (format : ℕ) (fs : List Text) (ts : Tables) (tags its_number : ℕ) (
       ∙ through (label_known ts) 18 (λ p. refl) ps _
       ∙ through_end (parent_differs its_number) 19 (λ p. refl) ps)
 
-  pub fields_fault : numbered field_rules ≡ true → fault_in field_rules ≡ first_fault format fs ts tags its_number (fault_in limits)
-  fields_fault n =
+  pub fields_fault : fault_in field_rules ≡ first_fault format fs ts tags its_number (fault_in limits)
+  fields_fault =
       let row = in_a_row (parents_written format fs) (tags_short format fs tags) limits (tags_known format fs ts tags) (parents_allowed format fs its_number) in
       ap fault_in row
-      ∙ two_groups _ _ _ (rw row at n) (λ n. two_groups _ _ _ n (λ n. two_groups _ _ _ n (λ n. two_groups _ _ _ n (λ n. refl))))
+      ∙ two_groups _ _ _ (two_groups _ _ _ (two_groups _ _ _ (two_groups _ _ _ refl)))

@@ -1,7 +1,6 @@
 -- Fields that a quick look finds in order. Document 01, "The file from top to bottom": a tag has its length and stands in its
 -- table; a parent other than the root is 500 to 999.
-use Rattle.std.specs.Prelude.{ℕ, ◌≤◌, ◌≡◌, true, false, List}
-use Rattle.std.proofs.Math.Option.{some}
+use Rattle.std.specs.Prelude.{ℕ, ◌≤◌, ◌≡◌, true, false, List, Some}
 use Rattle.rules.specs.Bytes.{percents}
 use Rattle.rules.specs.Texts.{Text, reads, at_most}
 use Rattle.rules.specs.Columns.{Column, written}
@@ -19,5 +18,5 @@ pub record PlainFields (ts : Tables) (tags : ℕ) (cs : List Column) (its_parent
   pub tag : PlainTag ts tags (written cs 1)
   pub morphology : PlainTag ts morph_tags (written cs 2)
   pub edge : PlainTag ts edge_tags (written cs 3)
-  pub parent : parent_number (written cs 4).bytes ≡ some its_parent
+  pub parent : parent_number (written cs 4).bytes ≡ Some its_parent
   pub phrase : phrase_number.lowest ≤ its_parent

@@ -1,140 +1,100 @@
 // The rules of a node line's fields, group by group: the tags, the parent, and the pairs behind them.
-ghost use Rattle.std.specs.Prelude.{◌≡◌, ℕ, ◌<◌};
-ghost use Rattle.rules.specs.Bytes.{class_table};
-ghost use Rattle.rules.specs.Numbers.{value};
-ghost use Rattle.rules.specs.Nodes.{its_parent, parents_written, tags_short, tags_known, parents_allowed};
-ghost use Rattle.table_sheet.specs.SheetRows.{tables_in};
-ghost use Rattle.citations.specs.Tabled.{Tabled};
-ghost use Rattle.steps.specs.Faults.{fault_in};
-ghost use Rattle.nodes.specs.NodeLines.{fields_of, Whole, first_fault, highest_in, unless_faulty};
-
-use crate::pairs::Judged;
-use crate::{fields, pairs};
-use columns::listing::{Line, Places};
-use numbers::Number;
+use crate::node_lines::NodeLine;
+use crate::pairs::Parents;
 use steps::{Fault, refusals};
 
-// How many fields a line has, the table of its tag, its node's number, and what the sentence's limits refuse it for.
+// The table of a line's tag, its node's number, and whether the sentence's limits refuse it.
 #[derive(Clone, Copy)]
 pub struct Own {
-    pub count: usize,
     pub tags: usize,
     pub number: u32,
-    pub limits: Fault,
+    pub limits: Result<(), Fault>,
 }
 
-// 8
-fn parents_written(
-    file: &[u8],
-    line: Line,
-    places: &Places,
-    count: usize,
-    classes: &[u8; 256],
-) -> Judged
-    requires { (classes.now ≡ class_table) × Whole file.now line places.now count }
-    ensures { (format : ℕ) → result ≡ unless_faulty (fault_in (parents_written format (fields_of file.now line))) (value (its_parent format (fields_of file.now line))) (highest_in format (fields_of file.now line)) }
-{
-    let read = numbers::read_parent(fields::field(file, line, places, 4), classes);
-    let Number::Good(parent) = read else {
-        return Judged::Faulty(fields::fault_at(places, refusals::BAD_NUMBER, 4));
-    };
-    pairs::parents_written(file, line, places, count, parent, classes)
-}
+impl<'a> NodeLine<'a> {
+    ghost use Rattle.std.specs.Prelude.{◌≡◌, ℕ, ◌<◌};
+    ghost use Rattle.rules.specs.Numbers.{value};
+    ghost use Rattle.rules.specs.Nodes.{its_parent, parents_written, tags_short, tags_known, parents_allowed};
+    ghost use Rattle.table_sheet.specs.SheetRows.{tables_in};
+    ghost use Rattle.citations.specs.Tabled.{Tabled};
+    ghost use Rattle.steps.specs.Faults.{fault_in};
+    ghost use Rattle.nodes.specs.NodeLines.{fields_of, first_fault, highest_in, unless_faulty};
 
-// 10
-fn tags_short(file: &[u8], line: Line, places: &Places, count: usize, table: usize) -> Fault
-    requires { Whole file.now line places.now count }
-    ensures { (format : ℕ) → result ≡ fault_in (tags_short format (fields_of file.now line) table) }
-{
-    if !fields::is_short(file, line, places, 1, table) {
-        return fields::fault_at(places, refusals::BAD_TEXT, 1);
+    // 8
+    fn parents_written(&self) -> Result<Parents, Fault>
+        ensures { (format : ℕ) → result ≡ unless_faulty (fault_in (parents_written format (fields_of self.now.line))) (value (its_parent format (fields_of self.now.line))) (highest_in format (fields_of self.now.line)) }
+    {
+        let read = numbers::read_parent(self.field(4));
+        let Some(parent) = read else {
+            return Err(self.field_fault(refusals::BAD_NUMBER, 4));
+        };
+        self.secondary_written(parent)
     }
-    if !fields::is_short(file, line, places, 2, table_sheet::MORPH_TAGS) {
-        return fields::fault_at(places, refusals::BAD_TEXT, 2);
-    }
-    if !fields::is_short(file, line, places, 3, table_sheet::EDGE_TAGS) {
-        return fields::fault_at(places, refusals::BAD_TEXT, 3);
-    }
-    pairs::labels_short(file, line, places, count)
-}
 
-// 18
-fn tags_known(
-    file: &[u8],
-    line: Line,
-    places: &Places,
-    count: usize,
-    table: usize,
-    sheet: &[u32],
-    hints: &[u8; table_sheet::HINTS],
-) -> Fault
-    requires { Whole file.now line places.now count × Tabled file.now sheet.now × (table < 7) }
-    ensures { (format : ℕ) → result ≡ fault_in (tags_known format (fields_of file.now line) (tables_in file.now sheet.now) table) }
-{
-    if !fields::is_known(file, line, places, 1, table, sheet, hints) {
-        return fields::fault_at(places, refusals::UNKNOWN_TAG, 1);
+    // 10
+    fn tags_short(&self, table: usize) -> Result<(), Fault>
+        ensures { (format : ℕ) → result ≡ fault_in (tags_short format (fields_of self.now.line) table) }
+    {
+        if !self.is_short(1, table) {
+            return Err(self.field_fault(refusals::BAD_TEXT, 1));
+        }
+        if !self.is_short(2, table_sheet::MORPH_TAGS) {
+            return Err(self.field_fault(refusals::BAD_TEXT, 2));
+        }
+        if !self.is_short(3, table_sheet::EDGE_TAGS) {
+            return Err(self.field_fault(refusals::BAD_TEXT, 3));
+        }
+        self.labels_short()
     }
-    if !fields::is_known(file, line, places, 2, table_sheet::MORPH_TAGS, sheet, hints) {
-        return fields::fault_at(places, refusals::UNKNOWN_TAG, 2);
-    }
-    if !fields::is_known(file, line, places, 3, table_sheet::EDGE_TAGS, sheet, hints) {
-        return fields::fault_at(places, refusals::UNKNOWN_TAG, 3);
-    }
-    pairs::labels_known(file, line, places, count, sheet, hints)
-}
 
-// 19
-fn parents_allowed(
-    file: &[u8],
-    line: Line,
-    places: &Places,
-    count: usize,
-    number: u32,
-    parent: u32,
-    classes: &[u8; 256],
-) -> Fault
-    requires { (classes.now ≡ class_table) × Whole file.now line places.now count × (parent ≡ value (its_parent 0 (fields_of file.now line))) }
-    ensures { (format : ℕ) → result ≡ fault_in (parents_allowed format (fields_of file.now line) number) }
-{
-    if !fields::has_parent(file, line, places, number, parent) {
-        return fields::fault_at(places, refusals::WRONG_PARENT, 4);
+    // 18
+    fn tags_known(
+        &self,
+        table: usize,
+        sheet: &[u32],
+        hints: &[u8; table_sheet::HINTS],
+    ) -> Result<(), Fault>
+        requires { Tabled self.now.line.file.now sheet.now × (table < 7) }
+        ensures { (format : ℕ) → result ≡ fault_in (tags_known format (fields_of self.now.line) (tables_in self.now.line.file.now sheet.now) table) }
+    {
+        if !self.is_known(1, table, sheet, hints) {
+            return Err(self.field_fault(refusals::UNKNOWN_TAG, 1));
+        }
+        if !self.is_known(2, table_sheet::MORPH_TAGS, sheet, hints) {
+            return Err(self.field_fault(refusals::UNKNOWN_TAG, 2));
+        }
+        if !self.is_known(3, table_sheet::EDGE_TAGS, sheet, hints) {
+            return Err(self.field_fault(refusals::UNKNOWN_TAG, 3));
+        }
+        self.labels_known(sheet, hints)
     }
-    pairs::parents_differ(file, line, places, count, number, classes)
-}
 
-// The groups in the order of their numbers, with the sentence's limits among them.
-pub fn judge(
-    file: &[u8],
-    line: Line,
-    places: &Places,
-    own: Own,
-    sheet: &[u32],
-    hints: &[u8; table_sheet::HINTS],
-    classes: &[u8; 256],
-) -> Judged
-    requires { (classes.now ≡ class_table) × Whole file.now line places.now own.count × Tabled file.now sheet.now × (own.tags < 7) }
-    ensures { (format : ℕ) → result ≡ unless_faulty (first_fault format (fields_of file.now line) (tables_in file.now sheet.now) own.tags own.number own.limits) (value (its_parent format (fields_of file.now line))) (highest_in format (fields_of file.now line)) }
-{
-    let count = own.count;
-    let limits = own.limits;
-    let parents = parents_written(file, line, places, count, classes);
-    let Judged::Fine(parent, highest) = parents else {
-        return parents;
-    };
-    let short = tags_short(file, line, places, count, own.tags);
-    if short.number != 0 {
-        return Judged::Faulty(short);
+    // 19
+    fn parents_allowed(&self, number: u32, parent: u32) -> Result<(), Fault>
+        requires { parent ≡ value (its_parent 0 (fields_of self.now.line)) }
+        ensures { (format : ℕ) → result ≡ fault_in (parents_allowed format (fields_of self.now.line) number) }
+    {
+        if !self.has_parent(number, parent) {
+            return Err(self.field_fault(refusals::WRONG_PARENT, 4));
+        }
+        self.parents_differ(number)
     }
-    if limits.number != 0 {
-        return Judged::Faulty(limits);
+
+    // The groups in the order of their numbers, with the sentence's limits among them.
+    pub fn judge(
+        &self,
+        own: Own,
+        sheet: &[u32],
+        hints: &[u8; table_sheet::HINTS],
+    ) -> Result<Parents, Fault>
+        requires { Tabled self.now.line.file.now sheet.now × (own.tags < 7) }
+        ensures { (format : ℕ) → result ≡ unless_faulty (first_fault format (fields_of self.now.line) (tables_in self.now.line.file.now sheet.now) own.tags own.number own.limits) (value (its_parent format (fields_of self.now.line))) (highest_in format (fields_of self.now.line)) }
+    {
+        let parents = self.parents_written()?;
+        self.tags_short(own.tags)?;
+        own.limits?;
+        self.tags_known(own.tags, sheet, hints)?;
+        self.parents_allowed(own.number, parents.parent)?;
+        Ok(parents)
     }
-    let known = tags_known(file, line, places, count, own.tags, sheet, hints);
-    if known.number != 0 {
-        return Judged::Faulty(known);
-    }
-    let allowed = parents_allowed(file, line, places, count, own.number, parent, classes);
-    if allowed.number != 0 {
-        return Judged::Faulty(allowed);
-    }
-    Judged::Fine(parent, highest)
 }

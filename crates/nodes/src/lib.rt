@@ -3,219 +3,158 @@
 
 mod fields;
 mod groups;
+mod node_lines;
 mod pairs;
 pub mod plain;
 
-ghost use Rattle.std.specs.Prelude.{◌≡◌, not, ◌&&◌, List, ℕ, ◌+◌, ◌-◌, ◌≤◌, ◌/◌, length, leb, ltb};
-ghost use Rattle.rules.specs.Bytes.{class_table};
+ghost use Rattle.std.specs.Prelude.{◌≡◌, not, ◌&&◌, List, ℕ, ◌+◌, ◌-◌, ◌≤◌, ◌/◌, length, leb, ltb, Ok, Err};
 ghost use Rattle.rules.specs.Texts.{Text};
 ghost use Rattle.rules.specs.Columns.{comment};
-ghost use Rattle.rules.specs.Numbers.{file_limit, word_limit, edge_limit, phrase_number, value};
+ghost use Rattle.rules.specs.Numbers.{word_limit, edge_limit, phrase_number, value};
 ghost use Rattle.rules.specs.Lists.{pick};
 ghost use Rattle.rules.specs.Sentences.{SoFar};
 ghost use Rattle.rules.specs.Lines.{taken_as, word_line, phrase_line};
 ghost use Rattle.rules.specs.Nodes.{its_parent, node_of, shaped, word_of, phrase_of};
 ghost use Rattle.rules.specs.Highest.{highest_parent};
-ghost use Rattle.columns.specs.Listing.{line_of, columns_of, span_of, Listed};
+ghost use Rattle.columns.specs.Lines.{text_in, columns_in};
+ghost use Rattle.columns.specs.Listing.{span_of};
 ghost use Rattle.table_sheet.specs.SheetRows.{tables_in};
 ghost use Rattle.citations.specs.Tabled.{Tabled};
-ghost use Rattle.steps.specs.Faults.{no_fault};
+ghost use Rattle.steps.specs.Faults.{fault};
 ghost use Rattle.steps.specs.Steps.{node_said, step_of};
 ghost use Rattle.nodes.specs.NodeLines.{column_limit, fields_of, phrase_count, marked, Whole};
 
-use columns::listing;
-use columns::listing::{Line, Places, Span};
+use columns::listed::ListedLine;
+use columns::listing::Span;
 use groups::Own;
-use numbers::{Number, PhraseNumber};
-use pairs::Judged;
+use node_lines::NodeLine;
+use numbers::PhraseNumber;
+use pairs::Parents;
 use steps::{Fault, NodeSaid, Step, refusals};
-
-// Five fields and pairs of two behind them.
-fn is_shaped(count: usize) -> bool
-    ensures { (format : ℕ) (fs : List Text) → length fs ≡ count → result ≡ shaped format fs }
-{
-    if count < 5 {
-        return false;
-    }
-    (count - 5) % 2 == 0
-}
-
-fn count_pairs(count: usize) -> u32
-    requires { (5 ≤ count) × (count ≤ column_limit) }
-    ensures { result ≡ (count - 5) / 2 }
-{
-    ((count - 5) / 2) as u32
-}
 
 // How many words a sentence may have, and how many secondary edges.
 pub const WORD_LIMIT: u32 = 500;
 
 const EDGE_LIMIT: u32 = 512;
 
-fn has_room(words: u32, edges: u32, count: usize) -> bool
-    requires { (edges ≤ edge_limit) × (5 ≤ count) × (count ≤ column_limit) }
-    ensures { result ≡ (ltb words word_limit && leb (edges + (count - 5) / 2) edge_limit) }
+fn has_room(node: &NodeLine, words: u32, edges: u32) -> bool
+    requires { edges ≤ edge_limit }
+    ensures { result ≡ (ltb words word_limit && leb (edges + (node.now.count - 5) / 2) edge_limit) }
 {
     if WORD_LIMIT <= words {
         return false;
     }
-    edges + count_pairs(count) <= EDGE_LIMIT
+    edges + node.count_pairs() <= EDGE_LIMIT
 }
 
-fn fault_of(line: Line, number: u32) -> Fault
-    requires { line.start ≤ file_limit }
-    ensures { result ≡ record { number = number; place = line.start } }
+fn word_limits(node: &NodeLine, words: u32, edges: u32) -> Result<(), Fault>
+    requires { edges ≤ edge_limit }
+    ensures { result ≡ pick (ltb words word_limit && leb (edges + (node.now.count - 5) / 2) edge_limit) (Ok tt) (Err (fault 16 node.now.line.start)) }
 {
-    let place = line.start as u32;
-    Fault { number, place }
-}
-
-fn word_limits(line: Line, words: u32, edges: u32, count: usize) -> Fault
-    requires { (line.start ≤ file_limit) × (edges ≤ edge_limit) × (5 ≤ count) × (count ≤ column_limit) }
-    ensures { result ≡ pick (ltb words word_limit && leb (edges + (count - 5) / 2) edge_limit) no_fault (record { number = 16; place = line.start }) }
-{
-    if has_room(words, edges, count) {
-        return Fault {
-            number: 0,
-            place: 0,
-        };
+    if has_room(node, words, edges) {
+        return Ok(());
     }
-    fault_of(line, refusals::SENTENCE_FULL)
+    Err(steps::line_fault(refusals::SENTENCE_FULL, &node.line))
 }
 
 // `marks` holds, for each phrase's number from 500 on, the stamp of the sentence that last had a phrase of it.
 fn phrase_limits(
-    line: Line,
+    node: &NodeLine,
     number: u32,
     marks: &[u32],
     stamp: u32,
     edges: u32,
-    count: usize,
-) -> Fault
-    requires { (line.start ≤ file_limit) × (edges ≤ edge_limit) × (5 ≤ count) × (count ≤ column_limit) × (phrase_number.lowest ≤ number) × (number ≤ phrase_number.highest) × (length marks.now ≡ phrase_count) }
-    ensures { result ≡ pick (leb (edges + (count - 5) / 2) edge_limit) (pick (not (marked marks.now stamp number)) no_fault (record { number = 17; place = line.start })) (record { number = 16; place = line.start }) }
+) -> Result<(), Fault>
+    requires { (edges ≤ edge_limit) × (phrase_number.lowest ≤ number) × (number ≤ phrase_number.highest) × (length marks.now ≡ phrase_count) }
+    ensures { result ≡ pick (leb (edges + (node.now.count - 5) / 2) edge_limit) (pick (not (marked marks.now stamp number)) (Ok tt) (Err (fault 17 node.now.line.start))) (Err (fault 16 node.now.line.start)) }
 {
-    if !has_room(0, edges, count) {
-        return fault_of(line, refusals::SENTENCE_FULL);
+    if !has_room(node, 0, edges) {
+        return Err(steps::line_fault(refusals::SENTENCE_FULL, &node.line));
     }
     if marks[(number - PhraseNumber::LOWEST) as usize] == stamp {
-        return fault_of(line, refusals::PHRASE_TWICE);
+        return Err(steps::line_fault(refusals::PHRASE_TWICE, &node.line));
     }
-    Fault {
-        number: 0,
-        place: 0,
-    }
+    Ok(())
 }
 
 // What a line says of its node, with the node's parent and the highest of its parents.
-fn node_said(
-    line: Line,
-    places: &Places,
-    count: usize,
-    number: u32,
-    word: Span,
-    parent: u32,
-    highest: u32,
-) -> NodeSaid
-    requires { (file : List ℕ) × Whole file line places.now count }
-    ensures { (file : List ℕ) (format : ℕ) (t : Text) → Whole file line places.now count → word ≡ span_of t → parent ≡ value (its_parent format (fields_of file line)) → highest ≡ highest_parent (node_of format (fields_of file line) number t (comment (columns_of file line))) → result ≡ node_said (node_of format (fields_of file line) number t (comment (columns_of file line))) }
+fn node_said(node: &NodeLine, number: u32, word: Span, parents: Parents) -> NodeSaid
+    ensures { (format : ℕ) (t : Text) → word ≡ span_of t → parents.parent ≡ value (its_parent format (fields_of node.now.line)) → parents.highest ≡ highest_parent (node_of format (fields_of node.now.line) number t (comment (columns_in node.now.line))) → result ≡ node_said (node_of format (fields_of node.now.line) number t (comment (columns_in node.now.line))) }
 {
-    let tag = listing::column_span(line, places, 1);
-    let morphology = listing::column_span(line, places, 2);
-    let edge = listing::column_span(line, places, 3);
-    let comment = listing::comment_of(line, places, count);
-    let edges = count_pairs(count);
+    let tag = node.line.column_span(1);
+    let morphology = node.line.column_span(2);
+    let edge = node.line.column_span(3);
+    let comment = node.line.comment(node.count);
+    let edges = node.count_pairs();
     NodeSaid {
         number,
         word,
         tag,
         morphology,
         edge,
-        parent,
+        parent: parents.parent,
         comment,
         edges,
-        highest,
+        highest: parents.highest,
     }
 }
 
 // `words` words and `edges` secondary edges stand in front of this one in its sentence, and no phrase may.
 pub fn word_line(
-    file: &[u8],
-    line: Line,
-    places: &Places,
+    line: &ListedLine,
     words: u32,
     no_phrase: bool,
     edges: u32,
     sheet: &[u32],
     hints: &[u8; table_sheet::HINTS],
-    classes: &[u8; 256],
-) -> Step
-    requires { (classes.now ≡ class_table) × Listed file.now line places.now × Tabled file.now sheet.now × (edges ≤ edge_limit) }
-    ensures { (format : ℕ) (s : SoFar) → s.words ≡ words → s.no_phrase ≡ no_phrase → s.edges ≡ edges → result ≡ step_of (taken_as word_line (word_of format (tables_in file.now sheet.now) s (line_of file.now line))) }
+) -> Result<Step, Fault>
+    requires { Tabled line.now.file.now sheet.now × (edges ≤ edge_limit) }
+    ensures { (format : ℕ) (s : SoFar) → s.words ≡ words → s.no_phrase ≡ no_phrase → s.edges ≡ edges → result ≡ step_of (taken_as word_line (word_of format (tables_in line.now.file.now sheet.now) s (text_in line.now))) }
 {
-    let start = line.start;
     if !no_phrase {
-        return steps::refused(refusals::CANNOT_STAND, start);
+        return Err(steps::line_fault(refusals::CANNOT_STAND, line));
     }
-    let count = listing::count_fields(file, line, places);
-    if !is_shaped(count) {
-        return steps::refused(refusals::WRONG_COLUMNS, start);
-    }
-    let limits = word_limits(line, words, edges, count);
+    let Some(node) = NodeLine::new(line) else {
+        return Err(steps::line_fault(refusals::WRONG_COLUMNS, line));
+    };
+    let limits = word_limits(&node, words, edges);
     let own = Own {
-        count,
         tags: table_sheet::WORD_TAGS,
         number: words,
         limits,
     };
-    let judged = groups::judge(file, line, places, own, sheet, hints, classes);
-    match judged {
-        Judged::Faulty(fault) => Step::Refused(fault),
-        Judged::Fine(parent, highest) => {
-            let word = listing::column_span(line, places, 0);
-            Step::Word(node_said(line, places, count, words, word, parent, highest))
-        }
-    }
+    let parents = node.judge(own, sheet, hints)?;
+    let word = node.line.column_span(0);
+    Ok(Step::Word(node_said(&node, words, word, parents)))
 }
 
 // `marks` and `stamp` tell which phrases stand in front of this one in its sentence, `edges` how many secondary edges.
 pub fn phrase_line(
-    file: &[u8],
-    line: Line,
-    places: &Places,
+    line: &ListedLine,
     marks: &[u32],
     stamp: u32,
     edges: u32,
     sheet: &[u32],
     hints: &[u8; table_sheet::HINTS],
-    classes: &[u8; 256],
-) -> Step
-    requires { (classes.now ≡ class_table) × Listed file.now line places.now × Tabled file.now sheet.now × (edges ≤ edge_limit) × (length marks.now ≡ phrase_count) }
-    ensures { (format : ℕ) (s : SoFar) → s.edges ≡ edges → ((n : ℕ) → s.given_before n ≡ marked marks.now stamp n) → result ≡ step_of (taken_as phrase_line (phrase_of format (tables_in file.now sheet.now) s (line_of file.now line))) }
+) -> Result<Step, Fault>
+    requires { Tabled line.now.file.now sheet.now × (edges ≤ edge_limit) × (length marks.now ≡ phrase_count) }
+    ensures { (format : ℕ) (s : SoFar) → s.edges ≡ edges → ((n : ℕ) → s.given_before n ≡ marked marks.now stamp n) → result ≡ step_of (taken_as phrase_line (phrase_of format (tables_in line.now.file.now sheet.now) s (text_in line.now))) }
 {
-    let start = line.start;
-    let count = listing::count_fields(file, line, places);
-    if !is_shaped(count) {
-        return steps::refused(refusals::WRONG_COLUMNS, start);
-    }
-    let digits = fields::behind_hash(file, line, places);
-    let read = PhraseNumber::read(digits, classes);
-    let Number::Good(number) = read else {
-        return Step::Refused(fields::fault_at(places, refusals::BAD_NUMBER, 0));
+    let Some(node) = NodeLine::new(line) else {
+        return Err(steps::line_fault(refusals::WRONG_COLUMNS, line));
     };
-    let limits = phrase_limits(line, number, marks, stamp, edges, count);
+    let digits = node.behind_hash();
+    let read = PhraseNumber::read(digits);
+    let Some(number) = read else {
+        return Err(node.field_fault(refusals::BAD_NUMBER, 0));
+    };
+    let limits = phrase_limits(&node, number, marks, stamp, edges);
     let own = Own {
-        count,
         tags: table_sheet::NODE_TAGS,
         number,
         limits,
     };
-    let judged = groups::judge(file, line, places, own, sheet, hints, classes);
-    match judged {
-        Judged::Faulty(fault) => Step::Refused(fault),
-        Judged::Fine(parent, highest) => {
-            let word = Span { start: 0, len: 0 };
-            Step::Phrase(node_said(line, places, count, number, word, parent, highest))
-        }
-    }
+    let parents = node.judge(own, sheet, hints)?;
+    let word = Span { start: 0, len: 0 };
+    Ok(Step::Phrase(node_said(&node, number, word, parents)))
 }

@@ -6,144 +6,118 @@ pub mod quick;
 
 ghost use Rattle.std.specs.Prelude.{◌≡◌};
 ghost use Rattle.rules.specs.Lists.{same, bytes};
-ghost use Rattle.rules.specs.Bytes.{class_table};
 ghost use Rattle.rules.specs.Numbers.{plain, number, sentence_number, origin_id, date, format_number, phrase_number, signed_id, parent_number};
 ghost use Rattle.rules.specs.Keywords.{digits};
 ghost use Rattle.rules.specs.Highest.{larger};
-ghost use Rattle.numbers.specs.Answers.{as_number, kind};
-ghost use Rattle.numbers.specs.Ranges.{range_of, phrase_or_root};
+ghost use Rattle.numbers.specs.Kinds.{kind};
+ghost use Rattle.numbers.specs.Ranges.{range_of};
 
 const DIGIT_CLASS: u8 = 2;
-
-const ZERO: u8 = 48;
-
-#[derive(Clone, Copy)]
-pub enum Number {
-    Good(u32),
-    Bad,
-}
 
 // No leading zero.
 fn is_plain(s: &[u8]) -> bool
     ensures { result ≡ plain s.now }
 {
-    if s.len() == 0 {
-        return false;
+    match s {
+        [] => false,
+        [_] => true,
+        [first, ..] => *first != b'0',
     }
-    if s.len() == 1 {
-        return true;
-    }
-    s[0] != ZERO
 }
 
-// Once the value is past the highest, the number is bad whatever follows: nothing overflows.
-fn read_within(s: &[u8], classes: &[u8; 256], lowest: u32, highest: u32) -> Number
-    requires { classes.now ≡ class_table }
-    ensures { result ≡ as_number (number (kind lowest highest) s.now) }
+// A number between two limits. Once the value is past the highest, there is none whatever follows: nothing overflows.
+fn within<const LOWEST: u32, const HIGHEST: u32>(s: &[u8]) -> Option<u32>
+    ensures { result ≡ number (kind LOWEST HIGHEST) s.now }
 {
     if !is_plain(s) {
-        return Number::Bad;
+        return None;
     }
-    let most = highest as u64;
     let mut value: u64 = 0;
-    let mut i = 0;
-    while i < s.len() {
-        let b = s[i];
-        let class = classes::class_of(classes, b);
-        if class != DIGIT_CLASS {
-            return Number::Bad;
+    for &b in s {
+        if classes::class_of(b) != DIGIT_CLASS {
+            return None;
         }
-        value = value * 10 + (b - ZERO) as u64;
-        if most < value {
-            return Number::Bad;
+        value = value * 10 + u64::from(b - b'0');
+        if value > u64::from(HIGHEST) {
+            return None;
         }
-        i += 1;
     }
     let n = value as u32;
-    if n < lowest {
-        return Number::Bad;
-    }
-    Number::Good(n)
+    if n < LOWEST { None } else { Some(n) }
 }
 
-#[derive(Clone, Copy)]
-pub struct SentenceNumber(pub u32);
+pub struct SentenceNumber;
 
 impl SentenceNumber {
     pub const LOWEST: u32 = 1;
 
     pub const HIGHEST: u32 = 65535;
 
-    pub fn read(s: &[u8], classes: &[u8; 256]) -> Number
-        requires { classes.now ≡ class_table }
-        ensures { result ≡ as_number (number sentence_number s.now) }
+    pub fn read(s: &[u8]) -> Option<u32>
+        ensures { result ≡ number sentence_number s.now }
     {
-        read_within(s, classes, SentenceNumber::LOWEST, SentenceNumber::HIGHEST)
+        within::<{ SentenceNumber::LOWEST }, { SentenceNumber::HIGHEST }>(s)
     }
 }
 
-#[derive(Clone, Copy)]
-pub struct OriginId(pub u32);
+pub struct OriginId;
 
 impl OriginId {
     pub const LOWEST: u32 = 1;
 
     pub const HIGHEST: u32 = 65535;
 
-    pub fn read(s: &[u8], classes: &[u8; 256]) -> Number
-        requires { classes.now ≡ class_table }
-        ensures { result ≡ as_number (number origin_id s.now) }
+    pub fn read(s: &[u8]) -> Option<u32>
+        ensures { result ≡ number origin_id s.now }
     {
-        read_within(s, classes, OriginId::LOWEST, OriginId::HIGHEST)
+        within::<{ OriginId::LOWEST }, { OriginId::HIGHEST }>(s)
     }
 }
 
-#[derive(Clone, Copy)]
-pub struct Date(pub u32);
+pub struct Date;
 
 impl Date {
     pub const LOWEST: u32 = 0;
 
-    pub const HIGHEST: u32 = 4294967295;
+    pub const HIGHEST: u32 = u32::MAX;
 
-    pub fn read(s: &[u8], classes: &[u8; 256]) -> Number
-        requires { classes.now ≡ class_table }
-        ensures { result ≡ as_number (number date s.now) }
+    pub fn read(s: &[u8]) -> Option<u32>
+        ensures { result ≡ number date s.now }
     {
-        read_within(s, classes, Date::LOWEST, Date::HIGHEST)
+        within::<{ Date::LOWEST }, { Date::HIGHEST }>(s)
     }
 }
 
-#[derive(Clone, Copy)]
-pub struct FormatNumber(pub u32);
+pub struct FormatNumber;
 
 impl FormatNumber {
     pub const LOWEST: u32 = 0;
 
     pub const HIGHEST: u32 = 65535;
 
-    pub fn read(s: &[u8], classes: &[u8; 256]) -> Number
-        requires { classes.now ≡ class_table }
-        ensures { result ≡ as_number (number format_number s.now) }
+    pub fn read(s: &[u8]) -> Option<u32>
+        ensures { result ≡ number format_number s.now }
     {
-        read_within(s, classes, FormatNumber::LOWEST, FormatNumber::HIGHEST)
+        within::<{ FormatNumber::LOWEST }, { FormatNumber::HIGHEST }>(s)
     }
 }
 
-// The number of a phrase, and a secondary parent.
-#[derive(Clone, Copy)]
-pub struct PhraseNumber(pub u32);
+// The number of a phrase, and a secondary parent: the digits are read first, and their range decides.
+pub struct PhraseNumber;
 
 impl PhraseNumber {
     pub const LOWEST: u32 = 500;
 
     pub const HIGHEST: u32 = 999;
 
-    pub fn read(s: &[u8], classes: &[u8; 256]) -> Number
-        requires { classes.now ≡ class_table }
-        ensures { result ≡ as_number (number phrase_number s.now) }
+    pub fn read(s: &[u8]) -> Option<u32>
+        ensures { result ≡ number phrase_number s.now }
     {
-        read_node(s, classes, false)
+        let n = within::<0, { u32::MAX }>(s)?;
+        match node_range(n) {
+            NodeRange::Phrase => Some(n),
+            NodeRange::Root | NodeRange::Word | NodeRange::Above => None,
+        }
     }
 }
 
@@ -166,72 +140,39 @@ pub fn node_range(n: u32) -> NodeRange
     }
 }
 
-// What lies above it lies above every number of a node.
-const HIGHEST_READ: u32 = 4294967295;
-
-// A phrase's number, or 0 where the root may stand: the digits are read first, and their range decides.
-fn read_node(s: &[u8], classes: &[u8; 256], or_root: bool) -> Number
-    requires { classes.now ≡ class_table }
-    ensures { result ≡ as_number (phrase_or_root or_root s.now) }
-{
-    let read = read_within(s, classes, 0, HIGHEST_READ);
-    let Number::Good(n) = read else {
-        return Number::Bad;
-    };
-    let range = node_range(n);
-    match range {
-        NodeRange::Root => if or_root {
-            Number::Good(n)
-        } else {
-            Number::Bad
-        },
-        NodeRange::Phrase => Number::Good(n),
-        NodeRange::Word => Number::Bad,
-        NodeRange::Above => Number::Bad,
-    }
-}
-
 // A parent is the root's 0 or a phrase's number.
-pub fn read_parent(s: &[u8], classes: &[u8; 256]) -> Number
-    requires { classes.now ≡ class_table }
-    ensures { result ≡ as_number (parent_number s.now) }
+pub fn read_parent(s: &[u8]) -> Option<u32>
+    ensures { result ≡ parent_number s.now }
 {
-    read_node(s, classes, true)
+    let n = within::<0, { u32::MAX }>(s)?;
+    match node_range(n) {
+        NodeRange::Root | NodeRange::Phrase => Some(n),
+        NodeRange::Word | NodeRange::Above => None,
+    }
 }
 
 fn is_minus_one(s: &[u8]) -> bool
     ensures { result ≡ same s.now (bytes "-1") }
 {
-    if s.len() != 2 {
-        return false;
-    }
-    if s[0] != 45 {
-        return false;
-    }
-    s[1] == 49
+    s == b"-1".as_slice()
 }
 
-// An editor's id: the value is one more than the id, as the sheets hold it.
-#[derive(Clone, Copy)]
-pub struct EditorId(pub u32);
+// An editor's id, from -1 to 65535: the value is one more than the id, as the sheets hold it.
+pub struct EditorId;
 
 impl EditorId {
     pub const LOWEST: i32 = -1;
 
-    pub const HIGHEST: i32 = 65535;
+    pub const HIGHEST: u32 = 65535;
 
-    pub fn read(s: &[u8], classes: &[u8; 256]) -> Number
-        requires { classes.now ≡ class_table }
-        ensures { result ≡ as_number (signed_id s.now) }
+    pub fn read(s: &[u8]) -> Option<u32>
+        ensures { result ≡ signed_id s.now }
     {
         if is_minus_one(s) {
-            return Number::Good((Self::LOWEST + 1) as u32);
+            return Some(0);
         }
-        let read = read_within(s, classes, 0, Self::HIGHEST as u32);
-        match read {
-            Number::Good(n) => Number::Good(n + 1),
-            Number::Bad => Number::Bad,
-        }
+        let n = within::<0, { EditorId::HIGHEST }>(s)?;
+        Some(n + 1)
     }
 }
 
@@ -241,25 +182,12 @@ pub type RowId = EditorId;
 pub fn larger_of(m: u32, n: u32) -> u32
     ensures { result ≡ larger m n }
 {
-    if m < n { n } else { m }
+    m.max(n)
 }
 
 // What stands behind the # of a phrase's line.
-pub fn all_digits(s: &[u8], classes: &[u8; 256]) -> bool
-    requires { classes.now ≡ class_table }
+pub fn all_digits(s: &[u8]) -> bool
     ensures { result ≡ digits s.now }
 {
-    if s.len() == 0 {
-        return false;
-    }
-    let mut i = 0;
-    while i < s.len() {
-        let b = s[i];
-        let class = classes::class_of(classes, b);
-        if class != DIGIT_CLASS {
-            return false;
-        }
-        i += 1;
-    }
-    true
+    !s.is_empty() && s.iter().all(|&b| classes::class_of(b) == DIGIT_CLASS)
 }

@@ -4,7 +4,7 @@ use Prim.Native.Nat.{ℕ}
 use mathlib.Core.Path.{◌≡◌, refl, sym, ap, ◌∙◌, subst}
 use mathlib.Core.Logic.{◌↔◌}
 use mathlib.Core.Bool.{true, false, ◌&&◌}
-use mathlib.Core.Option.{some}
+use Rattle.std.specs.Prelude.{Some}
 use mathlib.Core.List.{List}
 use lib.ListN.{length, replicate}
 use lib.Dec.{eqb}
@@ -128,7 +128,7 @@ module _ (file : List ℕ) (at : ℕ) (sheet edges : List ℕ) (o : LeftThere) (
         too_long = λ s h. p ∙ sym (ap as_there (too_long_at file at sheet edges (fits_sentence sheet edges s) (long_misfits file h)));
         exactly =
             λ s h.
-            subst (λ (x : LeftThere). (x.answer ≡ 0) ↔ ((s : Sentence) × (sentence_from file at ≡ some s))) (sym (p ∙ records_at s))
+            subst (λ (x : LeftThere). (x.answer ≡ 0) ↔ ((s : Sentence) × (sentence_from file at ≡ Some s))) (sym (p ∙ records_at s))
             (there.exactly (sized_list s) h);
         given = λ s h t e. p ∙ records_at s ∙ ap numbers_there (there.given (sized_list s) h t e);
         absent =

@@ -3,7 +3,7 @@ use Prim.Native.Nat.{ℕ, zero, suc}
 use native.Mathlib.Omega.{arith}
 use mathlib.Core.Path.{◌≡◌, refl, sym, ◌∙◌}
 use mathlib.Core.Bool.{Bool, true, false}
-use mathlib.Core.Option.{Option, none, some}
+use Rattle.std.specs.Prelude.{Option, None, Some}
 use mathlib.Core.List.{List}
 use lib.ListN.{length}
 use lib.Dec.{eqb}
@@ -22,7 +22,7 @@ use Rattle.opening.specs.Promise.{OpenedFlat, flattened, after_opening_flat, Ope
 
 pub record Given (o : Option Sentence) (sheet edges : List ℕ) : Type 0 where
   pub s : Sentence
-  pub its : o ≡ some s
+  pub its : o ≡ Some s
   pub sheet_is : sheet ≡ sentence_sheet s
   pub edges_are : edges ≡ flat_list (edge_list s)
 
@@ -32,8 +32,8 @@ zero_opened : (v : Survey) (t u w : Bool) (o : Option Sentence) (two one : Opene
     → two.answer ≡ 2 → one.answer ≡ 1 → other.answer ≡ 1
     → (pick t (flattened (pick u (pick w (opened v o) two) one)) other).answer ≡ 0
     → Given o (pick t (flattened (pick u (pick w (opened v o) two) one)) other).sheet (pick t (flattened (pick u (pick w (opened v o) two) one)) other).edges
-zero_opened v true true true none two one other a b c e = absurd (omega (arith, e))
-zero_opened v true true true (some s) two one other a b c e = record { s = s; its = refl; sheet_is = refl; edges_are = refl }
+zero_opened v true true true None two one other a b c e = absurd (omega (arith, e))
+zero_opened v true true true (Some s) two one other a b c e = record { s = s; its = refl; sheet_is = refl; edges_are = refl }
 zero_opened v true true false o two one other a b c e = absurd (omega (arith, e, a))
 zero_opened v true false w o two one other a b c e = absurd (omega (arith, e, b))
 zero_opened v false u w o two one other a b c e = absurd (omega (arith, e, c))
@@ -47,10 +47,10 @@ module _ (file : List ℕ) (n : ℕ) (tables seen sheet edges : List ℕ) where
       _ _ _ refl refl refl e
 
 -- the sentence of a number begins at a place
-pub begins_somewhere : (file : List ℕ) (n : ℕ) (s : Sentence) → sentence_of n (survey_of file).handed ≡ some s → (at : ℕ) × (sentence_from file at ≡ some s)
+pub begins_somewhere : (file : List ℕ) (n : ℕ) (s : Sentence) → sentence_of n (survey_of file).handed ≡ Some s → (at : ℕ) × (sentence_from file at ≡ Some s)
 begins_somewhere file n s e = by (beginning (survey_of file).handed n) refl
   where
-    by : (k : ℕ) → beginning (survey_of file).handed n ≡ k → (at : ℕ) × (sentence_from file at ≡ some s)
+    by : (k : ℕ) → beginning (survey_of file).handed n ≡ k → (at : ℕ) × (sentence_from file at ≡ Some s)
     by zero q = absurd (let l = sym (not_at_index file n q) ∙ e in let z : ◌≡◌ {A = ℕ} 0 1 = cc in omega arith)
     by (suc at) q = (at, at_index file n at q ∙ e)
 
@@ -60,8 +60,8 @@ zero_opened_at : (t u w : Bool) (o : Option Sentence) (two one : OpenedAt) (othe
     → two.answer ≡ 2 → one.answer ≡ 1 → other.answer ≡ 1
     → (pick t (flattened_at (pick u (pick w (opened_as o) two) one)) other).answer ≡ 0
     → Given o (pick t (flattened_at (pick u (pick w (opened_as o) two) one)) other).sheet (pick t (flattened_at (pick u (pick w (opened_as o) two) one)) other).edges
-zero_opened_at true true true none two one other a b c e = absurd (omega (arith, e))
-zero_opened_at true true true (some s) two one other a b c e = record { s = s; its = refl; sheet_is = refl; edges_are = refl }
+zero_opened_at true true true None two one other a b c e = absurd (omega (arith, e))
+zero_opened_at true true true (Some s) two one other a b c e = record { s = s; its = refl; sheet_is = refl; edges_are = refl }
 zero_opened_at true true false o two one other a b c e = absurd (omega (arith, e, a))
 zero_opened_at true false w o two one other a b c e = absurd (omega (arith, e, b))
 zero_opened_at false u w o two one other a b c e = absurd (omega (arith, e, c))

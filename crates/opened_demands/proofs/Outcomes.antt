@@ -3,7 +3,7 @@
 use Prim.Native.Nat.{ℕ}
 use mathlib.Core.Path.{◌≡◌, refl, sym, ap, ap₂, ◌∙◌}
 use mathlib.Core.Bool.{true}
-use mathlib.Core.Option.{Option, none, some}
+use Rattle.std.specs.Prelude.{Option, None, Some}
 use mathlib.Core.List.{List}
 use lib.ListN.{length}
 use borrow.Author.Tests.{eq-eqb}
@@ -67,11 +67,11 @@ module _ (tables seen sheet edges : List ℕ) (sized : AllFlatSized tables seen 
     opened_flat fits = by_records ∙ ap numbers_of (opens file n tables seen sheet es as_records fits)
 
 pub part_opened : (v : Survey) (o : Option Sentence) → part (numbers_of (opened v o)) ≡ numbers_there (opened_as o)
-part_opened v none = refl
-part_opened v (some s) = refl
+part_opened v None = refl
+part_opened v (Some s) = refl
 
-pub nothing_flat : numbers_there (opened_as none) ≡ nothing
-nothing_flat = ap (left_there 24 (opened_as none).sheet) (flat_none edge_limit)
+pub nothing_flat : numbers_there (opened_as None) ≡ nothing
+nothing_flat = ap (left_there 24 (opened_as None).sheet) (flat_none edge_limit)
 
 -- ---- at a place
 

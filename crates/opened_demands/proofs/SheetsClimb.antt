@@ -4,7 +4,7 @@ use native.Mathlib.Omega.{arith}
 use mathlib.Core.Path.{◌≡◌, refl, sym, ap, ◌∙◌, subst}
 use mathlib.Core.Logic.{◌⊎◌, inl, inr}
 use mathlib.Core.Bool.{true, ◌&&◌}
-use mathlib.Core.Option.{some}
+use Rattle.std.specs.Prelude.{Some}
 use mathlib.Core.List.{List, [], ◌∷◌, map}
 use lib.ListN.{length, get_or, replicate, length-append, length-replicate}
 use lib.Dec.{leb}
@@ -46,7 +46,7 @@ each_same P e p (suc count) = (p, each_same P e p count)
 
 -- ---- a sentence that begins at a place
 
-module _ (file : List ℕ) (at : ℕ) (s : Sentence) (e : sentence_from file at ≡ some s) where
+module _ (file : List ℕ) (at : ℕ) (s : Sentence) (e : sentence_from file at ≡ Some s) where
   abbrev sheet : List ℕ
   sheet = sentence_sheet s
 

@@ -1,7 +1,6 @@
 -- Document 01, "The numbers of refusal", of openings as they are called: 1 and 2 come first and change no buffer; else what is
 -- answered and what each buffer then holds, the list as the plain numbers of its records (rules/Layout).
-use Rattle.std.specs.Prelude.{ℕ, ◌≡◌, ◌↔◌, true, false, List, ◌∷◌, ◌++◌}
-use Rattle.std.proofs.Math.Option.{none, some}
+use Rattle.std.specs.Prelude.{ℕ, ◌≡◌, ◌↔◌, true, false, List, ◌∷◌, ◌++◌, None, Some}
 use Rattle.rules.specs.Lists.{member}
 use Rattle.rules.specs.Sentences.{Sentence}
 use Rattle.rules.specs.Reading.{Handed, numbers}
@@ -39,6 +38,6 @@ pub record OpenedAtPlace (file : List ℕ) (at : ℕ) (sheet edges : List ℕ) (
   pub too_long : FlatSized sheet edges → TooLong file → o ≡ left_there 2 sheet edges
   -- 0 exactly if a sentence begins there
   pub exactly : FlatSized sheet edges → WithinLimit file
-      → (o.answer ≡ 0) ↔ ((s : Sentence) × (sentence_from file at ≡ some s))
-  pub given : FlatSized sheet edges → WithinLimit file → (s : Sentence) → sentence_from file at ≡ some s → o ≡ opened_with s
-  pub absent : FlatSized sheet edges → WithinLimit file → sentence_from file at ≡ none → o ≡ nothing
+      → (o.answer ≡ 0) ↔ ((s : Sentence) × (sentence_from file at ≡ Some s))
+  pub given : FlatSized sheet edges → WithinLimit file → (s : Sentence) → sentence_from file at ≡ Some s → o ≡ opened_with s
+  pub absent : FlatSized sheet edges → WithinLimit file → sentence_from file at ≡ None → o ≡ nothing

@@ -2,7 +2,7 @@
 use Prim.Native.Nat.{ℕ}
 use mathlib.Core.Path.{◌≡◌, refl, sym, ap, ap₂, ◌∙◌}
 use mathlib.Core.Bool.{Bool, true, false, ◌&&◌}
-use mathlib.Core.Option.{Option, none, some}
+use Rattle.std.specs.Prelude.{Option, None, Some}
 use mathlib.Core.List.{List}
 use lib.ListN.{length}
 use lib.Dec.{eqb}
@@ -35,8 +35,8 @@ abbrev filled : Survey → OpenedFlatAt → OpenedFlat
 filled v o = outcome o.answer (table_sheet v.tables) (seen_set (numbers v.handed)) o.sheet o.edges
 
 flat_opened : (v : Survey) (s : Option Sentence) → flattened (opened v s) ≡ filled v (flattened_at (opened_as s))
-flat_opened v none = refl
-flat_opened v (some s) = refl
+flat_opened v None = refl
+flat_opened v (Some s) = refl
 
 module _ (file : List ℕ) (n : ℕ) (tables seen sheet edges : List ℕ) where
   abbrev Promised : ℕ → List ℕ → List ℕ → List ℕ → List ℕ → Type 0

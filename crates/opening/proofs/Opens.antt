@@ -3,7 +3,7 @@ use Prim.Native.Nat.{ℕ, zero, suc, ◌-◌}
 use native.Mathlib.Nat.{suc-sub-suc, sub-zero}
 use mathlib.Core.Path.{◌≡◌, refl, sym, ap, ap₂, ◌∙◌}
 use mathlib.Core.Bool.{Bool, true, false, ◌&&◌, false≢true}
-use mathlib.Core.Option.{Option, none, some}
+use Rattle.std.specs.Prelude.{Option, None, Some}
 use mathlib.Core.Logic.{◌≢◌}
 use mathlib.Core.List.{List}
 use lib.ListN.{length, get_or, replicate}
@@ -31,12 +31,12 @@ use Rattle.opening.proofs.Lent.{opens}
 
 module _ (sheet edges : List ℕ) where
   pub there : (s : Option Sentence) (r : Bool) → SentenceRead s r sheet edges → r ≡ true → outcome_at 0 sheet edges ≡ flattened_at (opened_as s)
-  there none r h e = absurd (false≢true (sym h.answer ∙ e))
-  there (some s) r h e = ap₂ (outcome_at 0) h.sheet_is (h.edges_are ∙ sym (flat_list_lem s))
+  there None r h e = absurd (false≢true (sym h.answer ∙ e))
+  there (Some s) r h e = ap₂ (outcome_at 0) h.sheet_is (h.edges_are ∙ sym (flat_list_lem s))
 
   pub not_there : (s : Option Sentence) (r : Bool) → SentenceRead s r sheet edges → r ≡ false → outcome_at 24 sheet edges ≡ flattened_at (opened_as s)
-  not_there none r h e = ap₂ (outcome_at 24) h.sheet_is (h.edges_are ∙ sym (flat_none edge_limit))
-  not_there (some s) r h e = absurd (false≢true (sym e ∙ h.answer))
+  not_there None r h e = ap₂ (outcome_at 24) h.sheet_is (h.edges_are ∙ sym (flat_none edge_limit))
+  not_there (Some s) r h e = absurd (false≢true (sym e ∙ h.answer))
 
 -- ---- the sentence that begins as noted
 

@@ -1,7 +1,6 @@
 -- The promises of the openings whose list of secondary edges is lent as plain numbers: what rules/Opening says of the list of
 -- records, and 1 for a list of another length.
-use Rattle.std.specs.Prelude.{ℕ, zero, suc, Bool, ◌&&◌, List, length, eqb}
-use Rattle.std.proofs.Math.Option.{Option, none}
+use Rattle.std.specs.Prelude.{ℕ, zero, suc, Bool, ◌&&◌, List, length, eqb, Option, None}
 use Rattle.rules.specs.Lists.{pick}
 use Rattle.rules.specs.Numbers.{edge_limit}
 use Rattle.rules.specs.Sentences.{Sentence}
@@ -39,7 +38,7 @@ outcome r tables seen sheet edges = record { answer = r; tables = tables; seen =
 
 -- the sentence whose beginning is noted so: one more than the place of its first line, or 0
 abbrev pub noted_sentence : List ℕ → ℕ → Option Sentence
-noted_sentence file zero = none
+noted_sentence file zero = None
 noted_sentence file (suc at) = sentence_from file at
 
 -- ---- by the place of its first line

@@ -5,9 +5,9 @@
 pub mod digits;
 pub mod fields;
 
-ghost use Rattle.std.specs.Prelude.{◌≡◌, [], ◌∷◌, ◌+◌, ◌≤◌, length, take};
+ghost use Rattle.std.specs.Prelude.{[], ◌∷◌, ◌+◌, ◌≤◌, length};
 ghost use Rattle.rules.specs.Tidy.{digits_of, keyword_line, commented};
-ghost use Rattle.printing.specs.Over.{over, farthest, Put};
+ghost use Rattle.printing.specs.Over.{farthest, Put};
 ghost use Rattle.printing.specs.Further.{further, text_of};
 
 pub fn put_byte(b: u8, out: &mut [u8], at: usize) -> usize

@@ -4,12 +4,11 @@ use Prim.Native.Nat.{ℕ, ◌+◌, ◌≤◌, ◌<◌}
 use native.Mathlib.Omega.{arith}
 use mathlib.Core.Path.{◌≡◌, refl, sym, ap, ◌∙◌, subst}
 use mathlib.Core.Bool.{false, ◌&&◌, ◌||◌}
-use mathlib.Core.Option.{Option, none, some}
+use Rattle.std.specs.Prelude.{Option, None, Some, Err}
 use mathlib.Core.List.{List, [], ◌∷◌, ◌++◌, append-nil, reverse}
 use lib.Dec.{eqb}
 use lib.ListN.{length, drop, replicate, length-replicate, length-drop, length-reverse, drop_of_length-le}
 use borrow.Author.Tests.{ne_eqb}
-use Rattle.columns.specs.declared.listing.Line as listing
 use Rattle.rules.specs.Lists.{pick}
 use Rattle.rules.specs.Numbers.{file_limit}
 use Rattle.rules.specs.Rules.{Rule, rule}
@@ -20,9 +19,8 @@ use Rattle.rules.specs.Reading.{Reading, begin, numbers, ended, read, verdict}
 use Rattle.rules.specs.Index.{beginnings}
 use Rattle.rules.proofs.ReadLines.{read_part, read_fault}
 use Rattle.lines.specs.LineEnds.{first_line, line_end, line_refusal}
-use Rattle.lines.specs.NextLines.{line_end_of}
-use Rattle.lines.specs.declared.NextLine.{NextLine}
-use Rattle.lines.specs.declared.NextLine.TheVariants.{Line, Unended, Illegal, TooLong}
+use Rattle.lines.specs.declared.Unreadable.{Unreadable}
+use Rattle.lines.specs.declared.Unreadable.TheVariants.{Unended, Illegal, TooLong}
 use Rattle.lines.proofs.Lines.{unended_none}
 use Rattle.seen.proofs.SeenSets.{length_seen_set}
 use Rattle.table_sheet.proofs.OpenSheets.{sheet_given_up, count_of_table}
@@ -46,7 +44,7 @@ pub record Going (file : List ℕ) (from size : ℕ) (at : ℕ) (k : Kept) : Typ
   pub place : reading.at ≡ at
   pub line_start : reading.line_start ≡ at
   pub unbegun : reading.part ≡ []
-  pub sound : reading.fault ≡ none
+  pub sound : reading.fault ≡ None
   pub rest : read reading (drop at file) ≡ read begin file
   pub tied : Tied file from size reading.handed at reading.phase k
 
@@ -71,9 +69,9 @@ going_start file from size s sheet seen marks begins a b c d e =
 -- ---- what is known of the sheet, wherever the reading stands
 
 missing : (a b : Option (List Row)) (m n : ℕ) → m ≡ count a → n ≡ count b → ◌≡◌ {A = ℕ} (pick (eqb m 0 || eqb n 0) 13 0) (pick (there a && there b) 0 13)
-missing none b m n p q = rw p
-missing (some rs) none m n p q = rw (ne_eqb m 0 (λ z. omega (arith, p, z)), q)
-missing (some rs) (some qs) m n p q = rw (ne_eqb m 0 (λ z. omega (arith, p, z)), ne_eqb n 0 (λ z. omega (arith, q, z)))
+missing None b m n p q = rw p
+missing (Some rs) None m n p q = rw (ne_eqb m 0 (λ z. omega (arith, p, z)), q)
+missing (Some rs) (Some qs) m n p q = rw (ne_eqb m 0 (λ z. omega (arith, p, z)), ne_eqb n 0 (λ z. omega (arith, q, z)))
 
 module _ (file ns : List ℕ) where
   closes : (ph : Phase) → Known file ns ph → closing_number (phase_of ph) (sheet_of ph) ≡ at_end ph
@@ -159,22 +157,21 @@ module _ (file : List ℕ) (from size at : ℕ) (k : Kept) (g : Going file from 
       subst (λ (place : ℕ). Stops (reached_at k.state n place)) g.line_start (stop_by l rest (rule n (line_here file at r g.sound g.unbegun) false) e)
 
   -- bytes behind the last newline
-  part_left : (x : Reading) (l : List ℕ) → 0 < length l → x.fault ≡ none → x.part ≡ l → x.line_start ≡ at → record { number = 3; place = at } ≡ fault_said (verdict x)
+  part_left : (x : Reading) (l : List ℕ) → 0 < length l → x.fault ≡ None → x.part ≡ l → x.line_start ≡ at → record { number = 3; place = at } ≡ fault_said (verdict x)
   part_left x [] h f p n = absurd (omega arith)
   part_left x (b ∷ bs) h f p n = rw (f, p, n)
 
   -- a line that may not be read
-  pub stop_unread : at < length file → (found : NextLine) → line_end file at ≡ line_end_of found → ((l : listing.Line) → found ≡ Line l → ⊥) → Stops (reached_at k.state (line_refusal (line_end_of found)) at)
-  stop_unread h (Line l) q n = absurd (n l refl)
-  stop_unread h Unended q n =
+  pub stop_unread : at < length file → (why : Unreadable) → line_end file at ≡ Err why → Stops (reached_at k.state (line_refusal why) at)
+  stop_unread h Unended q =
       let l = drop at file in
       let some : 0 < length (reverse l ++ r.part) = rw (g.unbegun, append-nil) (omega (arith, length-reverse l, length-drop at file)) in
       stopped _ 3 at (sym g.rest ∙ read_part r l g.sound (unended_none file at q)) refl refl
-      (part_left (record { at = r.at + length l; line_start = r.line_start; part = reverse l ++ r.part; phase = r.phase; handed = r.handed; fault = none }) (reverse l ++ r.part) some refl refl g.line_start)
-  stop_unread h Illegal q n =
+      (part_left (record { at = r.at + length l; line_start = r.line_start; part = reverse l ++ r.part; phase = r.phase; handed = r.handed; fault = None }) (reverse l ++ r.part) some refl refl g.line_start)
+  stop_unread h Illegal q =
       stop_line (first_line (drop at file)) (drop (at + length (first_line (drop at file)) + 1) file) 4
       (sym g.rest ∙ illegal_step file at r g.sound g.unbegun q)
-  stop_unread h TooLong q n =
+  stop_unread h TooLong q =
       stop_line (first_line (drop at file)) (drop (at + length (first_line (drop at file)) + 1) file) 5
       (sym g.rest ∙ long_step file at r g.sound g.unbegun q)
 
@@ -183,5 +180,5 @@ module _ (file : List ℕ) (from size at : ℕ) (k : Kept) (g : Going file from 
       stopped r _ at (sym g.rest ∙ ap (read r) (drop_of_length-le file h)) refl refl
       (whole r g.sound g.unbegun (ap (λ (x : Kept). closing_number x.state.phase x.sheet) g.tied.is ∙ closes file (numbers r.handed) r.phase g.tied.known) g.place)
     where
-      whole : (x : Reading) → x.fault ≡ none → x.part ≡ [] → {n : ℕ} → n ≡ at_end x.phase → x.at ≡ at → record { number = n; place = at } ≡ fault_said (verdict x)
+      whole : (x : Reading) → x.fault ≡ None → x.part ≡ [] → {n : ℕ} → n ≡ at_end x.phase → x.at ≡ at → record { number = n; place = at } ≡ fault_said (verdict x)
       whole x f p q a = rw (f, p, q, a)

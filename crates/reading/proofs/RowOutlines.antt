@@ -11,7 +11,7 @@ use Rattle.columns.specs.Splices.{splice}
 use Rattle.table_sheet.specs.Outlines.{outline_count, with_outline, Outlined}
 use Rattle.table_sheet.proofs.NotedOutlines.{outlined_more}
 use Rattle.steps.specs.declared.Step.{Step}
-use Rattle.steps.specs.declared.Step.TheVariants.{Ignored, Format, TableBegins, Row, TableEnds, SentenceBegins, Word, Phrase, SentenceEnds, Refused}
+use Rattle.steps.specs.declared.Step.TheVariants.{Ignored, Format, TableBegins, Row, TableEnds, SentenceBegins, Word, Phrase, SentenceEnds}
 use Rattle.judging.specs.States.{table_open, rows_open}
 use Rattle.judging.specs.Judging.{RowsOutlined}
 use Rattle.judging.specs.declared.plain.Plain.{Plain}
@@ -45,11 +45,9 @@ module _ (outlines file : List ℕ) where
     stay_outlined (Word n) a k' e = rw e (no_row o.size)
     stay_outlined (Phrase n) a k' e = rw e (no_row o.size)
     stay_outlined SentenceEnds a k' e = rw e (no_row o.size)
-    stay_outlined (Refused f) a k' e = rw e o
 
     -- behind an ordinary line nothing is noted
     pub plainly_outlined : (p : Plain) → Applicable (plain_step p) 0 (kept k.state [] [] k.marks []) → (k' : Kept) → k' ≡ effect from (plain_step p) at end k
         → RowsOutlined outlines file k'.sheet k'.state.phase
     plainly_outlined (plain.Word parent) a k' e = stay_outlined (plain_step (plain.Word parent)) a k' e
     plainly_outlined (plain.Phrase number parent) a k' e = stay_outlined (plain_step (plain.Phrase number parent)) a k' e
-    plainly_outlined plain.Other a k' e = stay_outlined Ignored a k' e

@@ -2,7 +2,7 @@
 -- goes on or stops.
 use Prim.Native.Nat.{ℕ, suc, ◌+◌, ◌≤◌, ◌<◌}
 use native.Mathlib.Omega.{arith}
-use mathlib.Core.Path.{◌≡◌, refl, sym, ap, ◌∙◌, subst}
+use mathlib.Core.Path.{◌≡◌, refl, sym, ap, ap₂, ◌∙◌, subst}
 use mathlib.Core.List.{List, [], ◌∷◌, ◌++◌}
 use lib.ListN.{length, drop}
 use Rattle.rules.specs.Bytes.{ignored}
@@ -10,15 +10,20 @@ use Rattle.rules.specs.Texts.{Text}
 use Rattle.rules.specs.Numbers.{file_limit}
 use Rattle.rules.specs.Rules.{Verdict, refused, granted}
 use Rattle.rules.specs.Keywords.{first_column}
-use Rattle.rules.specs.Lines.{Taking, ignored_line, format_line, table_begins, row_line, table_ends, sentence_begins, word_line, phrase_line, sentence_ends}
+use Rattle.rules.specs.Lines.{Taking}
 use Rattle.rules.specs.Phases.{Phase, behind_sentence, Answer, refuse, go, hand, after, next, taken}
 use Rattle.rules.specs.Reading.{Reading, begin, numbers, ended, read}
 use Rattle.rules.specs.Survey.{last_end}
 use Rattle.lines.specs.LineEnds.{first_line, line_end}
-use Rattle.lines.specs.declared.LineEnd.TheVariants.{At}
+use Rattle.lines.specs.NextLines.{line_end_of, ListedBy}
+use Rattle.lines.specs.declared.Unreadable.{Unreadable}
+use Rattle.lines.proofs.FoundLines.{told_end, told_start, told_listed}
+use Rattle.std.specs.Prelude.{Option, Some, Result, Ok, Err}
 use Rattle.lines.proofs.Lines.{at_behind, at_below, at_place, at_take}
 use Rattle.columns.specs.Listing.{text_between, line_of, columns_of, Listed}
+use Rattle.columns.specs.Lines.{line_in, text_in, columns_in}
 use Rattle.columns.specs.declared.listing.Line.{Line}
+use Rattle.columns.specs.declared.listed.ListedLine.{ListedLine}
 use Rattle.steps.specs.Faults.{broken_by}
 use Rattle.steps.specs.Steps.{step_for, step_of}
 use Rattle.steps.specs.declared.Fault.{Fault}
@@ -41,17 +46,6 @@ use Rattle.reading.proofs.Going.{Going, stop_by}
 
 -- ---- which step it is
 
-never_refused : (t : Taking) (f : Fault) → steps.Refused f ≡ step_for t → ⊥
-never_refused ignored_line f e = let z : ◌≡◌ {A = ℕ} 0 1 = cc in omega arith
-never_refused (format_line n) f e = let z : ◌≡◌ {A = ℕ} 0 1 = cc in omega arith
-never_refused (table_begins n) f e = let z : ◌≡◌ {A = ℕ} 0 1 = cc in omega arith
-never_refused (row_line r) f e = let z : ◌≡◌ {A = ℕ} 0 1 = cc in omega arith
-never_refused table_ends f e = let z : ◌≡◌ {A = ℕ} 0 1 = cc in omega arith
-never_refused (sentence_begins h) f e = let z : ◌≡◌ {A = ℕ} 0 1 = cc in omega arith
-never_refused (word_line n) f e = let z : ◌≡◌ {A = ℕ} 0 1 = cc in omega arith
-never_refused (phrase_line n) f e = let z : ◌≡◌ {A = ℕ} 0 1 = cc in omega arith
-never_refused sentence_ends f e = let z : ◌≡◌ {A = ℕ} 0 1 = cc in omega arith
-
 -- whether it can be taken does not depend on the beginnings
 applies_alike : (y : Step) (size : ℕ) (k : Kept) (begins : List ℕ) → Applicable y size k → Applicable y size (kept k.state k.sheet k.seen k.marks begins)
 applies_alike steps.Ignored size k begins h = h
@@ -63,7 +57,6 @@ applies_alike (steps.SentenceBegins s) size k begins h = h
 applies_alike (steps.Word n) size k begins h = h
 applies_alike (steps.Phrase n) size k begins h = h
 applies_alike steps.SentenceEnds size k begins h = h
-applies_alike (steps.Refused f) size k begins h = h
 
 -- ---- one turn
 
@@ -72,8 +65,31 @@ pub record LineHere (file : List ℕ) (from size at : ℕ) (k : Kept) (l : Line)
   pub going : Going file from size at k
   pub short : length file ≤ file_limit
   pub starts : l.start ≡ at
-  pub ends : line_end file at ≡ At l.end
+  pub ends : line_end file at ≡ Ok l.end
   pub listed : Listed file l places
+
+-- what is said of the listed line is said of the line that was found
+module _ {file : List ℕ} (l : ListedLine) {x : Line} (so : (l.file.now ≡ file) × (line_in l ≡ x)) (s : State) (sheet seen marks : List ℕ) where
+  pub judged_so : {j : Result Step Fault} → j ≡ step_of (judged_by l.file.now (text_in l) s sheet seen marks) → j ≡ step_of (judged_by file (line_of file x) s sheet seen marks)
+  judged_so j = j ∙ ap₂ (λ (bs : List ℕ) (y : Line). step_of (judged_by bs (line_of bs y) s sheet seen marks)) so.0 so.1
+
+  pub plain_so : (words : ℕ) (p : Option Plain) → PlainBy (columns_in l) words (judged_by l.file.now (text_in l) s sheet seen marks) p
+      → PlainBy (columns_of file x) words (judged_by file (line_of file x) s sheet seen marks) p
+  plain_so words p b =
+      subst (λ (y : Line). PlainBy (columns_of file y) words (judged_by file (line_of file y) s sheet seen marks) p) so.1
+      (subst (λ (bs : List ℕ). PlainBy (columns_of bs (line_in l)) words (judged_by bs (line_of bs (line_in l)) s sheet seen marks) p) so.0 b)
+
+pub here_found : {file : List ℕ} {from size at : ℕ} {k : Kept} → Going file from size at k → length file ≤ file_limit
+    → {found : Result Line Unreadable} {places : List ℕ} → (line_end_of found ≡ line_end file at) × ListedBy file at found places
+    → {l : Line} → found ≡ Ok l → LineHere file from size at k l places
+here_found {file} {from} {size} {at} g m {found} {places} told {l} is =
+    record {
+      going = g;
+      short = m;
+      starts = told_start file at found places told l is;
+      ends = told_end file at found places told l is;
+      listed = told_listed file at found places told l is;
+    }
 
 module _ {file : List ℕ} {from size at : ℕ} {k : Kept} {l : Line} {places : List ℕ} (here : LineHere file from size at k l places) where
   abbrev g : Going file from size at k
@@ -82,7 +98,7 @@ module _ {file : List ℕ} {from size at : ℕ} {k : Kept} {l : Line} {places : 
   abbrev e : ℕ
   e = l.end
 
-  abbrev q : line_end file at ≡ At e
+  abbrev q : line_end file at ≡ Ok e
   q = here.ends
 
   pub onward : at ≤ e
@@ -196,43 +212,44 @@ module _ {file : List ℕ} {from size at : ℕ} {k : Kept} {l : Line} {places : 
   turned : Turned judged
   turned = subst Turned (sym judged_is) (by_verdict (taken ph ns line) refl moves)
 
-  -- ---- as the code has it: y is the step that the judge answered
+  -- ---- as the code has it: j is what the judge answered
 
-  module _ (y : Step) (is : y ≡ step_of judged) where
-    goes_on : ((f : Fault) → y ≡ steps.Refused f → ⊥)
-        → Applicable y (length file) k × ((k' : Kept) → k' ≡ effect from y at (e + 1) k → Going file from size (e + 1) k')
-    goes_on o = by judged turned is
-      where
-        by : (v : Verdict Taking) → Turned v → y ≡ step_of v → Applicable y (length file) k × ((k' : Kept) → k' ≡ effect from y at (e + 1) k → Going file from size (e + 1) k')
-        by (refused b) t s = absurd (o _ s)
-        by (granted t) u s = rw s (u.0, λ k' h. subst (Going file from size (e + 1)) (sym h) u.1)
+  module _ (j : Result Step Fault) (is : j ≡ step_of judged) where
+    module _ (y : Step) (o : j ≡ Ok y) where
+      goes_on : Applicable y (length file) k × ((k' : Kept) → k' ≡ effect from y at (e + 1) k → Going file from size (e + 1) k')
+      goes_on = by judged turned (sym o ∙ is)
+        where
+          by : (v : Verdict Taking) → Turned v → Ok y ≡ step_of v → Applicable y (length file) k × ((k' : Kept) → k' ≡ effect from y at (e + 1) k → Going file from size (e + 1) k')
+          by (refused b) t s = absurd (let z : ◌≡◌ {A = ℕ} 0 1 = cc in omega arith)
+          by (granted t) u s =
+              let its : y ≡ step_for t = cc in
+              rw its (u.0, λ k' h. subst (Going file from size (e + 1)) (sym h) u.1)
 
-    pub applies : ((f : Fault) → y ≡ steps.Refused f → ⊥)
-        → (l.start ≤ file_limit) × (e ≤ file_limit) × Applicable y (length file) (kept k.state k.sheet k.seen k.marks [])
-    applies o = (
-      omega (arith, here.starts, onward, inside, here.short),
-      omega (arith, inside, here.short),
-      applies_alike y (length file) k [] (goes_on o).0,
-    )
+      pub applies : (l.start ≤ file_limit) × (e ≤ file_limit) × Applicable y (length file) (kept k.state k.sheet k.seen k.marks [])
+      applies = (
+        omega (arith, here.starts, onward, inside, here.short),
+        omega (arith, inside, here.short),
+        applies_alike y (length file) k [] goes_on.0,
+      )
 
-    -- the beginnings are noted apart
-    pub goes_on_noted : ((f : Fault) → y ≡ steps.Refused f → ⊥) → (s' : State) (sheet' seen' marks' begins' : List ℕ) → begins' ≡ noted_by from y k.state k.begins
-        → kept s' sheet' seen' marks' (noted_by from y k.state k.begins) ≡ effect from y l.start (e + 1) k → Going file from size (e + 1) (kept s' sheet' seen' marks' begins')
-    goes_on_noted o s' sheet' seen' marks' begins' b p =
-        subst (λ (bs : List ℕ). Going file from size (e + 1) (kept s' sheet' seen' marks' bs)) (sym b) ((goes_on o).1 _ (p ∙ ap (λ (n : ℕ). effect from y n (e + 1) k) here.starts))
+      -- the beginnings are noted apart
+      pub goes_on_noted : (s' : State) (sheet' seen' marks' begins' : List ℕ) → begins' ≡ noted_by from y k.state k.begins
+          → kept s' sheet' seen' marks' (noted_by from y k.state k.begins) ≡ effect from y l.start (e + 1) k → Going file from size (e + 1) (kept s' sheet' seen' marks' begins')
+      goes_on_noted s' sheet' seen' marks' begins' b p =
+          subst (λ (bs : List ℕ). Going file from size (e + 1) (kept s' sheet' seen' marks' bs)) (sym b) (goes_on.1 _ (p ∙ ap (λ (n : ℕ). effect from y n (e + 1) k) here.starts))
 
-    pub stops : (f : Fault) → y ≡ steps.Refused f → Walked file from size (reached_at k.state f.number f.place) k.sheet k.seen k.begins
+    pub stops : (f : Fault) → j ≡ Err f → Walked file from size (reached_at k.state f.number f.place) k.sheet k.seen k.begins
     stops f h = by judged turned (sym h ∙ is)
       where
-        by : (v : Verdict Taking) → Turned v → steps.Refused f ≡ step_of v → Walked file from size (reached_at k.state f.number f.place) k.sheet k.seen k.begins
+        by : (v : Verdict Taking) → Turned v → Err f ≡ step_of v → Walked file from size (reached_at k.state f.number f.place) k.sheet k.seen k.begins
         by (refused b) t s =
             let its : f ≡ broken_by b = cc in
             subst (λ (x : Fault). Walked file from size (reached_at k.state x.number x.place) k.sheet k.seen k.begins) (sym its) t
-        by (granted t) u s = absurd (never_refused t f s)
+        by (granted t) u s = absurd (let z : ◌≡◌ {A = ℕ} 0 1 = cc in omega arith)
 
   -- ---- as the quick way has it: p is what it took the line for
 
-  module _ (p : Plain) (says : PlainBy (columns_of file l) (tally_in k.state.phase).words judged p) (o : p ≡ plain.Other → ⊥) where
+  module _ (p : Plain) (says : PlainBy (columns_of file l) (tally_in k.state.phase).words judged (Some p)) where
     abbrev Goes : Plain → Type 0
     Goes x =
         Applicable (plain_step x) 0 (kept k.state [] [] k.marks [])
@@ -240,9 +257,8 @@ module _ {file : List ℕ} {from size at : ℕ} {k : Kept} {l : Line} {places : 
 
     pub plainly : Goes p
     unfolding effect
-    plainly = by p says o
+    plainly = by p says
       where
-        by : (x : Plain) → PlainBy (columns_of file l) (tally_in k.state.phase).words judged x → (x ≡ plain.Other → ⊥) → Goes x
-        by (plain.Word parent) b m = goes_on _ (sym b) (λ f e. cc)
-        by (plain.Phrase number parent) b m = goes_on _ (sym b) (λ f e. cc)
-        by plain.Other b m = absurd (m refl)
+        by : (x : Plain) → PlainBy (columns_of file l) (tally_in k.state.phase).words judged (Some x) → Goes x
+        by (plain.Word parent) b = goes_on _ (sym b) _ refl
+        by (plain.Phrase number parent) b = goes_on _ (sym b) _ refl

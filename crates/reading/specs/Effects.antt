@@ -10,7 +10,7 @@ use Rattle.columns.specs.Listing.{no_span}
 use Rattle.steps.specs.declared.NodeSaid.{NodeSaid}
 use Rattle.steps.specs.declared.RowSaid.{RowSaid}
 use Rattle.steps.specs.declared.Step.{Step}
-use Rattle.steps.specs.declared.Step.TheVariants.{Ignored, Format, TableBegins, Row, TableEnds, SentenceBegins, Word, Phrase, SentenceEnds, Refused}
+use Rattle.steps.specs.declared.Step.TheVariants.{Ignored, Format, TableBegins, Row, TableEnds, SentenceBegins, Word, Phrase, SentenceEnds}
 use Rattle.judging.specs.declared.plain.Plain.{Plain}
 use Rattle.judging.specs.declared.plain.Plain.TheVariants as plain
 use Rattle.judging.specs.States.{first_tally, table_open, rows_open, tally_in, counted_word, counted_phrase, moved}
@@ -80,7 +80,6 @@ effect from (Phrase n) at end k =
     kept (moved k.state (InSentence (counted_phrase (tally_in k.state.phase) n))) k.sheet k.seen
     (set k.marks (n.number - 500) (k.state.handed + 1)) k.begins
 effect from SentenceEnds at end k = sentence_kept from (tally_in k.state.phase) end k
-effect from (Refused f) at end k = k
 
 -- the list of beginnings behind a step, whatever else is kept
 abbrev pub noted_by : ℕ → Step → State → List ℕ → List ℕ
@@ -103,11 +102,10 @@ bare_said its_number its_parent =
       highest = its_parent;
     }
 
--- a line that is left to the judge does nothing yet
+-- its step
 abbrev pub plain_step : Plain → Step
 plain_step (plain.Word its_parent) = Word (bare_said 0 its_parent)
 plain_step (plain.Phrase its_number its_parent) = Phrase (bare_said its_number its_parent)
-plain_step plain.Other = Ignored
 
 -- ---- what a step needs; size is the file's length
 
@@ -134,4 +132,3 @@ Applicable (Phrase n) size k =
     ((tally_in k.state.phase).phrases ≤ file_limit) × ((tally_in k.state.phase).edges + n.edges ≤ file_limit)
     × (500 ≤ n.number) × (n.number ≤ 999) × (k.state.handed ≤ file_limit)
 Applicable SentenceEnds size k = EndApplies (tally_in k.state.phase) k
-Applicable (Refused f) size k = Unit {0}

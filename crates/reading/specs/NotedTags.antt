@@ -7,7 +7,7 @@ use Rattle.table_sheet.specs.Outlines.{with_outline}
 use Rattle.table_sheet.specs.TagOrders.{with_row}
 use Rattle.steps.specs.declared.RowSaid.{RowSaid}
 use Rattle.steps.specs.declared.Step.{Step}
-use Rattle.steps.specs.declared.Step.TheVariants.{Ignored, Format, TableBegins, Row, TableEnds, SentenceBegins, Word, Phrase, SentenceEnds, Refused}
+use Rattle.steps.specs.declared.Step.TheVariants.{Ignored, Format, TableBegins, Row, TableEnds, SentenceBegins, Word, Phrase, SentenceEnds}
 use Rattle.judging.specs.States.{table_open, rows_open}
 use Rattle.judging.specs.declared.state.State.{State}
 
@@ -26,7 +26,6 @@ outlines_by (SentenceBegins h) s file outlines = outlines
 outlines_by (Word n) s file outlines = outlines
 outlines_by (Phrase n) s file outlines = outlines
 outlines_by SentenceEnds s file outlines = outlines
-outlines_by (Refused f) s file outlines = outlines
 
 -- a row of a tag table is hinted at, once its numbers are on the sheet
 abbrev pub hints_with : RowSaid → ℕ → ℕ → List ℕ → List ℕ → List ℕ → List ℕ
@@ -42,7 +41,6 @@ hints_by (SentenceBegins h) s file sheet hints = hints
 hints_by (Word n) s file sheet hints = hints
 hints_by (Phrase n) s file sheet hints = hints
 hints_by SentenceEnds s file sheet hints = hints
-hints_by (Refused f) s file sheet hints = hints
 
 -- of a file of this size
 abbrev pub TagApplies : Step → State → ℕ → Type 0

@@ -1,5 +1,5 @@
 // What the step of a line does to all that a reading keeps. Steps are matched here alone.
-ghost use Rattle.std.specs.Prelude.{◌≡◌, List, [], ℕ, ◌+◌, ◌-◌, ◌≤◌, length, set};
+ghost use Rattle.std.specs.Prelude.{◌≡◌, List, [], ℕ, ◌+◌, ◌-◌, ◌≤◌, length};
 ghost use Rattle.rules.specs.Numbers.{file_limit};
 ghost use Rattle.judging.specs.States.{tally_in};
 ghost use Rattle.reading.specs.Effects.{kept, format_read, handed_out, noted, effect, noted_by, bare_said, plain_step, Applicable};
@@ -9,7 +9,8 @@ use crate::rows::{end_table, take_row};
 use columns::listing::{Line, Span};
 use judging::plain::Plain;
 use judging::state::{
-    MARKS, Phase, State, Tally, first_tally, moved, table_in, tally_in, with_phrase, with_word,
+    MARKS, Phase, State, Tally, first_tally, mark, moved, table_in, tally_in, with_phrase,
+    with_word,
 };
 use steps::{NodeSaid, Step};
 
@@ -19,8 +20,7 @@ fn format_read(s: State, format: u32) -> State
     State {
         phase: Phase::Top,
         format,
-        handed: s.handed,
-        sound_end: s.sound_end,
+        ..s
     }
 }
 
@@ -71,18 +71,10 @@ fn hand_out(s: State, end: u32) -> State
 {
     State {
         phase: Phase::Behind,
-        format: s.format,
         handed: s.handed + 1,
         sound_end: end,
+        ..s
     }
-}
-
-fn mark(number: u32, stamp: u32, marks: &mut [u32; MARKS])
-    requires { (500 ≤ number) × (number ≤ 999) }
-    ensures { marks.new ≡ set marks.old (number - 500) stamp }
-{
-    let place = (number - 500) as usize;
-    marks[place] = stamp;
 }
 
 // A node without its texts.
@@ -119,7 +111,6 @@ pub fn take_plain(plain: Plain, s: State, marks: &mut [u32; MARKS]) -> State
             let tally = with_phrase(tally_in(phase), bare_node(number, parent));
             moved(s, Phase::InSentence(tally))
         }
-        Plain::Other => s,
     }
 }
 
@@ -160,6 +151,5 @@ pub fn apply(
             seen::add(seen, tally.number);
             hand_out(s, (line.end + 1) as u32)
         }
-        Step::Refused(_) => s,
     }
 }

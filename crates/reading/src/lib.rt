@@ -6,7 +6,6 @@ mod rows;
 mod stopping;
 
 ghost use Rattle.std.specs.Prelude.{◌≡◌, [], ◌≤◌, length};
-ghost use Rattle.rules.specs.Bytes.{class_table};
 ghost use Rattle.rules.specs.Numbers.{file_limit};
 ghost use Rattle.rules.specs.Tables.{no_tables};
 ghost use Rattle.rules.specs.Sheets.{table_sheet_size, table_sheet, seen_set_size, seen_set};
@@ -14,12 +13,12 @@ ghost use Rattle.rules.specs.Reading.{begin, read};
 ghost use Rattle.rules.specs.Index.{beginnings};
 ghost use Rattle.reading.specs.Closing.{reached_at, Walked, FileRead};
 
+use columns::listed::ListedLine;
 use effect::{apply, note_end, note_tag, take_plain};
-use judging::plain::{Plain, plain_line};
+use judging::plain::plain_line;
 use judging::state;
 use judging::state::State;
-use lines::NextLine;
-use steps::{Fault, Step};
+use steps::Fault;
 use stopping::{closing, give_up, line_refusal};
 
 // How far the lines could be taken, and the fault that stopped them: that of a line, or of the file's end (0 if it is
@@ -56,9 +55,8 @@ fn take_lines(
     seen: &mut [u8],
     from: u32,
     begins: &mut [u32],
-    classes: &[u8; 256],
 ) -> Reached
-    requires { (classes.now ≡ class_table) × (length file.now ≤ file_limit) × (sheet.old ≡ table_sheet no_tables) × (seen.old ≡ seen_set []) × (begins.old ≡ beginnings from (length begins.old) []) }
+    requires { (length file.now ≤ file_limit) × (sheet.old ≡ table_sheet no_tables) × (seen.old ≡ seen_set []) × (begins.old ≡ beginnings from (length begins.old) []) }
     ensures { Walked file.now from (length begins.old) result sheet.new seen.new begins.new }
 {
     let mut marks = [0u32; state::MARKS];
@@ -68,30 +66,26 @@ fn take_lines(
     let mut s = state::first_state();
     let mut at = 0;
     while at < file.len() {
-        let phase = s.phase;
-        let found = lines::next_line(file, at, state::expects_nodes(phase), classes, &mut places);
-        let NextLine::Line(line) = found else {
-            return stop_at(s, line_refusal(found), at as u32);
+        let found = match lines::next_line(file, at, state::expects_nodes(s.phase), &mut places) {
+            Ok(found) => found,
+            Err(why) => return stop_at(s, line_refusal(why), at as u32),
         };
-        let plain = plain_line(file, line, &places, s, sheet, &hints, &marks);
-        let Plain::Other = plain else {
+        let line = ListedLine::new(file, found, &places);
+        if let Some(plain) = plain_line(&line, s, sheet, &hints, &marks) {
             s = take_plain(plain, s, &mut marks);
-            at = line.end + 1;
+            at = found.end + 1;
             continue;
-        };
-        let step = judging::judge(
-            file, line, &places, s, sheet, &hints, &outlines, seen, &marks, classes,
-        );
-        if let Step::Refused(fault) = step {
-            return stop_at(s, fault.number, fault.place);
         }
+        let step = match judging::judge(&line, s, sheet, &hints, &outlines, seen, &marks) {
+            Ok(step) => step,
+            Err(fault) => return stop_at(s, fault.number, fault.place),
+        };
         note_end(step, s, from, begins);
         note_tag(step, s, file, &mut outlines);
-        s = apply(step, line, s, file, sheet, seen, &mut marks, &mut hints);
-        at = line.end + 1;
+        s = apply(step, found, s, file, sheet, seen, &mut marks, &mut hints);
+        at = found.end + 1;
     }
-    let phase = s.phase;
-    stop_at(s, closing(phase, sheet), at as u32)
+    stop_at(s, closing(s.phase, sheet), at as u32)
 }
 
 // The file is read whole, or up to its first fault. `begins`, of any length, then tells where the sentences of the numbers
@@ -109,8 +103,7 @@ pub fn read_file(
     table_sheet::clear(sheet);
     seen::clear(seen);
     table_sheet::clear(begins);
-    let classes = classes::byte_classes();
-    let reached = take_lines(file, sheet, seen, from, begins, &classes);
+    let reached = take_lines(file, sheet, seen, from, begins);
     let state = reached.state;
     let fault = reached.fault;
     let phase = state.phase;

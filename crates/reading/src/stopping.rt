@@ -2,23 +2,21 @@
 ghost use Rattle.std.specs.Prelude.{◌≡◌, ◌<◌, length};
 ghost use Rattle.rules.specs.Sheets.{table_count, table_sheet_size};
 ghost use Rattle.lines.specs.LineEnds.{line_refusal};
-ghost use Rattle.lines.specs.NextLines.{line_end_of};
 ghost use Rattle.judging.specs.States.{table_open};
 ghost use Rattle.reading.specs.Closing.{closing_number, given_up};
 
 use judging::state::Phase;
-use lines::NextLine;
+use lines::Unreadable;
 use steps::refusals;
 
 // The refusals of a line that may not be read: 3, 4 and 5.
-pub fn line_refusal(found: NextLine) -> u32
-    ensures { result ≡ line_refusal (line_end_of found) }
+pub fn line_refusal(why: Unreadable) -> u32
+    ensures { result ≡ line_refusal why }
 {
-    match found {
-        NextLine::Line(_) => 0,
-        NextLine::Unended => refusals::UNENDED,
-        NextLine::Illegal => refusals::ILLEGAL_BYTE,
-        NextLine::TooLong => refusals::LINE_TOO_LONG,
+    match why {
+        Unreadable::Unended => refusals::UNENDED,
+        Unreadable::Illegal => refusals::ILLEGAL_BYTE,
+        Unreadable::TooLong => refusals::LINE_TOO_LONG,
     }
 }
 
@@ -38,8 +36,7 @@ pub fn closing(phase: Phase, sheet: &[u32]) -> u32
             }
             0
         }
-        Phase::InTable { table: _, rows: _ } => refusals::ENDS_INSIDE,
-        Phase::InSentence(_) => refusals::ENDS_INSIDE,
+        Phase::InTable { table: _, rows: _ } | Phase::InSentence(_) => refusals::ENDS_INSIDE,
         Phase::Behind => 0,
     }
 }
@@ -49,14 +46,8 @@ pub fn give_up(phase: Phase, sheet: &mut [u32])
     requires { (table_open phase < table_count) × (length sheet.old ≡ table_sheet_size) }
     ensures { sheet.new ≡ given_up phase sheet.old }
 {
-    match phase {
-        Phase::Start => {}
-        Phase::Top => {}
-        Phase::InTable { table, rows: _ } => {
-            let place = table_sheet::row_place(table as usize, 0);
-            table_sheet::clear_rows(sheet, place, table_sheet::TABLE_ROOM);
-        }
-        Phase::InSentence(_) => {}
-        Phase::Behind => {}
+    if let Phase::InTable { table, rows: _ } = phase {
+        let place = table_sheet::row_place(table as usize, 0);
+        table_sheet::clear_rows(sheet, place, table_sheet::TABLE_ROOM);
     }
 }

@@ -5,7 +5,7 @@ use native.Mathlib.Omega.{arith}
 use mathlib.Core.Path.{◌≡◌, sym, ap, ◌∙◌, subst}
 use mathlib.Core.Logic.{◌↔◌}
 use mathlib.Core.Bool.{true}
-use mathlib.Core.Option.{some}
+use Rattle.std.specs.Prelude.{Some}
 use mathlib.Core.List.{List}
 use lib.ListN.{replicate}
 use Rattle.rules.specs.Lists.{member}
@@ -111,7 +111,7 @@ module _ (file : List ℕ) (at : ℕ) (sheet : List ℕ) (es : List EdgeRecord) 
         too_long = λ s h. ap numbers_there (p ∙ there.too_long (few s) h);
         exactly =
             λ s h.
-            subst (λ (x : OpenedAt). (x.answer ≡ 0) ↔ ((s : Sentence) × (sentence_from file at ≡ some s))) (sym p) (there.exactly (few s) h);
+            subst (λ (x : OpenedAt). (x.answer ≡ 0) ↔ ((s : Sentence) × (sentence_from file at ≡ Some s))) (sym p) (there.exactly (few s) h);
         given = λ s h t e. ap numbers_there (p ∙ there.given (few s) h t e);
         absent = λ s h e. ap numbers_there (p ∙ there.absent (few s) h e) ∙ ap (left_there 24 (replicate 11009 0)) (flat_none edge_limit);
       }

@@ -7,7 +7,7 @@ use mathlib.Core.Logic.{◌↔◌}
 use mathlib.Core.List.{List, [], ◌∷◌, map}
 use lib.ListN.{length, length-map}
 use Rattle.rules.specs.Lists.{sorted, Each}
-use Rattle.rules.specs.Same.{Some, InOrder, InAnyOrder}
+use Rattle.rules.specs.Same.{Any, InOrder, InAnyOrder}
 use Rattle.rules.proofs.EachElement.{each_then, each_both, each_map, each_mapped}
 use Rattle.rules.proofs.Sorting.{has, Distinct, length_sorted, map_sorted}
 use Rattle.rules.proofs.SameLists.{some_then, each_some, some_map, some_mapped, Among, sorted_alike, alike_sorted}
@@ -31,19 +31,19 @@ module _ {A B : Type 0} (key : A → ℕ) (to : B → ℕ) (f : A → B) (keeps 
 
 module _ {A B : Type 0} (bare : A → B) (So : A → Type 0) where
   among_bare : (Alike : A → A → Type 0) → ((x y : A) → So x → So y → Alike x y → bare x ≡ bare y) → (xs ys : List A) → Each So xs → Each So ys
-      → Each (λ (x : A). Some (Alike x) ys) xs → Among (map bare xs) (map bare ys)
+      → Each (λ (x : A). Any (Alike x) ys) xs → Among (map bare xs) (map bare ys)
   among_bare Alike f xs ys p q a =
-      each_map bare (λ (u : B). Some (λ (v : B). u ≡ v) (map bare ys)) xs
+      each_map bare (λ (u : B). Any (λ (v : B). u ≡ v) (map bare ys)) xs
       (each_then _ _ (λ x s. some_map bare (λ (v : B). bare x ≡ v) ys
       (some_then _ _ (λ y t. f x y s.0 t.0 t.1) ys (each_some _ _ ys q s.1)))
       xs (each_both _ _ xs p a))
 
   bare_among : (Alike : A → A → Type 0) → ((x y : A) → So x → So y → bare x ≡ bare y → Alike x y) → (xs ys : List A) → Each So xs → Each So ys
-      → Among (map bare xs) (map bare ys) → Each (λ (x : A). Some (Alike x) ys) xs
+      → Among (map bare xs) (map bare ys) → Each (λ (x : A). Any (Alike x) ys) xs
   bare_among Alike f xs ys p q a =
       each_then _ _ (λ x s. some_then _ _ (λ y t. f x y s.0 t.0 t.1) ys
       (each_some _ _ ys q (some_mapped bare (λ (v : B). bare x ≡ v) ys s.1)))
-      xs (each_both _ _ xs p (each_mapped bare (λ (u : B). Some (λ (v : B). u ≡ v) (map bare ys)) xs a))
+      xs (each_both _ _ xs p (each_mapped bare (λ (u : B). Any (λ (v : B). u ≡ v) (map bare ys)) xs a))
 
   module _ (Alike : A → A → Type 0) (exactly : (x y : A) → So x → So y → (bare x ≡ bare y) ↔ Alike x y) where
     bare_in_order : (xs ys : List A) → Each So xs → Each So ys → InOrder Alike xs ys → map bare xs ≡ map bare ys
@@ -65,8 +65,8 @@ module _ {A B : Type 0} (bare : A → B) (So : A → Type 0) where
     alike_in_order xs ys p q = (in_order_bare xs ys p q, bare_in_order xs ys p q)
 
     module _ (key : A → ℕ) (to : B → ℕ) (keeps : (x : A) → to (bare x) ≡ key x) where
-      pub bare_by_number : (xs ys : List A) → Each So xs → Each So ys → Distinct key xs → Distinct key ys → Each (λ (x : A). Some (λ (y : A). Alike x y) ys) xs
-          → Each (λ (y : A). Some (λ (x : A). Alike x y) xs) ys → map bare (sorted key xs) ≡ map bare (sorted key ys)
+      pub bare_by_number : (xs ys : List A) → Each So xs → Each So ys → Distinct key xs → Distinct key ys → Each (λ (x : A). Any (λ (y : A). Alike x y) ys) xs
+          → Each (λ (y : A). Any (λ (x : A). Alike x y) xs) ys → map bare (sorted key xs) ≡ map bare (sorted key ys)
       bare_by_number xs ys p q d c forth back =
           map_sorted key to bare keeps xs
           ∙ sorted_alike to (map bare xs) (map bare ys) (distinct_map key to bare keeps xs d) (distinct_map key to bare keeps ys c)

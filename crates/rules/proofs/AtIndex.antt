@@ -5,7 +5,7 @@ use native.Mathlib.Nat.{zero-add}
 use native.Mathlib.Omega.{arith}
 use mathlib.Core.Path.{◌≡◌, refl, sym, ap, ap₂, ◌∙◌, subst}
 use mathlib.Core.Bool.{Bool, true, false, ◌&&◌}
-use mathlib.Core.Option.{none, some}
+use Rattle.std.specs.Prelude.{None, Some}
 use mathlib.Core.List.{List, [], ◌∷◌, map}
 use lib.ListN.{length, get_or, length-map, get_or-eq_default}
 use lib.Dec.{eqb, ltb}
@@ -29,33 +29,33 @@ use Rattle.rules.proofs.FromThere.{from_there}
 
 -- ---- in a list of sentences handed out
 
-found_there : (file : List ℕ) (n at : ℕ) (hs : List Handed) → Each (λ (h : Handed). sentence_from file h.sentence.start ≡ some h.sentence) hs
+found_there : (file : List ℕ) (n at : ℕ) (hs : List Handed) → Each (λ (h : Handed). sentence_from file h.sentence.start ≡ Some h.sentence) hs
     → beginning hs n ≡ suc at → sentence_from file at ≡ sentence_of n hs
 found_there file n at [] a e = absurd (omega (arith, e))
 found_there file n at (h ∷ hs) a e = by (eqb n h.sentence.heading.number) (found_there file n at hs a.1) e
   where
     by : (t : Bool) → (beginning hs n ≡ suc at → sentence_from file at ≡ sentence_of n hs) → pick t (suc h.sentence.start) (beginning hs n) ≡ suc at
-        → sentence_from file at ≡ pick t (some h.sentence) (sentence_of n hs)
+        → sentence_from file at ≡ pick t (Some h.sentence) (sentence_of n hs)
     by true more e =
         let place : at ≡ h.sentence.start = omega (arith, e) in
         ap (sentence_from file) place ∙ a.0
     by false more e = more e
 
 -- and it is one
-one_there : (n at : ℕ) (hs : List Handed) → beginning hs n ≡ suc at → (s : Sentence) × (sentence_of n hs ≡ some s)
+one_there : (n at : ℕ) (hs : List Handed) → beginning hs n ≡ suc at → (s : Sentence) × (sentence_of n hs ≡ Some s)
 one_there n at [] e = absurd (omega (arith, e))
 one_there n at (h ∷ hs) e = by (eqb n h.sentence.heading.number) (one_there n at hs) e
   where
-    by : (t : Bool) → (beginning hs n ≡ suc at → (s : Sentence) × (sentence_of n hs ≡ some s)) → pick t (suc h.sentence.start) (beginning hs n) ≡ suc at
-        → (s : Sentence) × (pick t (some h.sentence) (sentence_of n hs) ≡ some s)
+    by : (t : Bool) → (beginning hs n ≡ suc at → (s : Sentence) × (sentence_of n hs ≡ Some s)) → pick t (suc h.sentence.start) (beginning hs n) ≡ suc at
+        → (s : Sentence) × (pick t (Some h.sentence) (sentence_of n hs) ≡ Some s)
     by true more e = (h.sentence, refl)
     by false more e = more e
 
-not_there : (n : ℕ) (hs : List Handed) → beginning hs n ≡ 0 → sentence_of n hs ≡ none
+not_there : (n : ℕ) (hs : List Handed) → beginning hs n ≡ 0 → sentence_of n hs ≡ None
 not_there n [] e = refl
 not_there n (h ∷ hs) e = by (eqb n h.sentence.heading.number) (not_there n hs) e
   where
-    by : (t : Bool) → (beginning hs n ≡ 0 → sentence_of n hs ≡ none) → pick t (suc h.sentence.start) (beginning hs n) ≡ 0 → pick t (some h.sentence) (sentence_of n hs) ≡ none
+    by : (t : Bool) → (beginning hs n ≡ 0 → sentence_of n hs ≡ None) → pick t (suc h.sentence.start) (beginning hs n) ≡ 0 → pick t (Some h.sentence) (sentence_of n hs) ≡ None
     by true more e = absurd (omega (arith, e))
     by false more e = more e
 
@@ -65,10 +65,10 @@ module _ (file : List ℕ) (n : ℕ) where
   pub at_index : (at : ℕ) → beginning (survey_of file).handed n ≡ suc at → sentence_from file at ≡ sentence_of n (survey_of file).handed
   at_index at e = found_there file n at (survey_of file).handed (from_there file) e
 
-  pub begun_found : (at : ℕ) → beginning (survey_of file).handed n ≡ suc at → (s : Sentence) × (sentence_of n (survey_of file).handed ≡ some s)
+  pub begun_found : (at : ℕ) → beginning (survey_of file).handed n ≡ suc at → (s : Sentence) × (sentence_of n (survey_of file).handed ≡ Some s)
   begun_found at e = one_there n at (survey_of file).handed e
 
-  pub not_at_index : beginning (survey_of file).handed n ≡ 0 → sentence_of n (survey_of file).handed ≡ none
+  pub not_at_index : beginning (survey_of file).handed n ≡ 0 → sentence_of n (survey_of file).handed ≡ None
   not_at_index e = not_there n (survey_of file).handed e
 
 -- a sentence handed out has a number that the index has room for

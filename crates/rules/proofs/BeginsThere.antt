@@ -5,7 +5,7 @@ use native.Mathlib.Omega.{arith}
 use mathlib.Core.Path.{◌≡◌, refl, sym, ap, ◌∙◌, subst}
 use mathlib.Core.Logic.{◌⊎◌, inl, inr}
 use mathlib.Core.Bool.{true, false≢true, not}
-use mathlib.Core.Option.{some}
+use Rattle.std.specs.Prelude.{Some}
 use mathlib.Core.List.{List, [], ◌∷◌, ◌++◌}
 use lib.ListN.{length}
 use lib.Dec.{eqb}
@@ -117,7 +117,7 @@ each_there s k =
 
 -- ---- all of it
 
-module _ (file : List ℕ) (at : ℕ) (s : Sentence) (e : sentence_from file at ≡ some s) where
+module _ (file : List ℕ) (at : ℕ) (s : Sentence) (e : sentence_from file at ≡ Some s) where
   abbrev b : Begun file at s
   b = begun_at file at s e
 

@@ -5,7 +5,7 @@ use Prim.Native.Nat.{ℕ, suc, ◌+◌}
 use native.Mathlib.Omega.{arith}
 use mathlib.Core.Path.{◌≡◌, refl, sym, ap, ◌∙◌, subst}
 use mathlib.Core.Bool.{Bool, true, false, ◌&&◌}
-use mathlib.Core.Option.{Option, none, some}
+use Rattle.std.specs.Prelude.{Option, None, Some}
 use mathlib.Core.List.{List, [], ◌∷◌, ◌++◌, reverse, reverse_aux-eq, append_assoc, append-nil}
 use lib.ListN.{length, length-append, length-reverse}
 use lib.Dec.{leb, eqb}
@@ -60,7 +60,7 @@ module _ (file : List ℕ) (P : List ℕ → Phase → Type 0) (H : Handed → T
     pub done : List ℕ
     pub phase : P done r.phase
     pub handed : Each H r.handed
-    pub going : r.fault ≡ none → Going done r bs
+    pub going : r.fault ≡ None → Going done r bs
 
   module _ (r : Reading) (bs : List ℕ) (k : State r (newline ∷ bs)) (g : Going k.done r (newline ∷ bs)) where
     abbrev front : List ℕ
@@ -73,7 +73,7 @@ module _ (file : List ℕ) (P : List ℕ → Phase → Type 0) (H : Handed → T
     its_length = length-reverse r.part
 
     after_line : (phase : Phase) (hs : List Handed) → P (k.done ++ (reverse r.part ++ (newline ∷ []))) phase → Each H hs
-        → State (record { at = suc r.at; line_start = suc r.at; part = []; phase = phase; handed = hs; fault = none }) bs
+        → State (record { at = suc r.at; line_start = suc r.at; part = []; phase = phase; handed = hs; fault = None }) bs
     after_line phase hs p h =
         let behind = front ++ (its ++ (newline ∷ [])) in
         let at : length behind ≡ suc r.at = omega (arith, length-append front (its ++ (newline ∷ [])), length-append its (newline ∷ []), its_length, g.at) in
@@ -122,8 +122,8 @@ module _ (file : List ℕ) (P : List ℕ → Phase → Type 0) (H : Handed → T
       at_line false e g = byte_more r b bs k g (eqb-false b newline e)
 
       by : (o : Option Fault) → r.fault ≡ o → State (byte_unless o r b) bs
-      by none e = at_line (eqb b newline) refl (k.going e)
-      by (some f) e = record { done = k.done; phase = k.phase; handed = k.handed; going = λ z. absurd (never_some f z) }
+      by None e = at_line (eqb b newline) refl (k.going e)
+      by (Some f) e = record { done = k.done; phase = k.phase; handed = k.handed; going = λ z. absurd (never_some f z) }
 
   read_state : (r : Reading) (bs : List ℕ) → State r bs → State (read r bs) []
   read_state r [] k = k
@@ -131,18 +131,18 @@ module _ (file : List ℕ) (P : List ℕ → Phase → Type 0) (H : Handed → T
 
   -- the bytes behind some that are read already
   pub lines_from : (done rest : List ℕ) (phase : Phase) → file ≡ done ++ rest → P done phase
-      → Each H (read (record { at = length done; line_start = length done; part = []; phase = phase; handed = []; fault = none }) rest).handed
+      → Each H (read (record { at = length done; line_start = length done; part = []; phase = phase; handed = []; fault = None }) rest).handed
   lines_from done rest phase parts p =
-      (read_state (record { at = length done; line_start = length done; part = []; phase = phase; handed = []; fault = none }) rest (record { done = done; phase = p; handed = tt; going = λ e. record { parts = parts; from = refl; at = omega arith; one_line = tt } })).handed
+      (read_state (record { at = length done; line_start = length done; part = []; phase = phase; handed = []; fault = None }) rest (record { done = done; phase = p; handed = tt; going = λ e. record { parts = parts; from = refl; at = omega arith; one_line = tt } })).handed
 
   -- at the file's end
   pub record ReadByLines : Type 0 where
     pub done : List ℕ
     pub phase : P done (read begin file).phase
     pub handed : Each H (read begin file).handed
-    pub parts : (read begin file).fault ≡ none → file ≡ done ++ reverse (read begin file).part
-    pub from : (read begin file).fault ≡ none → (read begin file).line_start ≡ length done
-    pub one_line : (read begin file).fault ≡ none → OneLine (reverse (read begin file).part)
+    pub parts : (read begin file).fault ≡ None → file ≡ done ++ reverse (read begin file).part
+    pub from : (read begin file).fault ≡ None → (read begin file).line_start ≡ length done
+    pub one_line : (read begin file).fault ≡ None → OneLine (reverse (read begin file).part)
 
   pub by_lines : P [] start → ReadByLines
   by_lines p =

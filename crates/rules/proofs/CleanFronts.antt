@@ -6,7 +6,7 @@ use native.Mathlib.Omega.{arith}
 use mathlib.Core.Path.{◌≡◌, refl, sym, ap, ap₂, ◌∙◌, subst}
 use mathlib.Core.Logic.{◌↔◌}
 use mathlib.Core.Bool.{Bool, true, false, false≢true}
-use mathlib.Core.Option.{Option, none, some}
+use Rattle.std.specs.Prelude.{Option, None, Some}
 use mathlib.Core.List.{List, [], ◌∷◌, ◌++◌, reverse}
 use lib.ListN.{length, length-append, length-reverse}
 use lib.Dec.{eqb}
@@ -36,11 +36,11 @@ use Rattle.rules.proofs.Sizes.{within_fits}
 -- the line being read ends at the reading's place, a fault lies in front of it; from k on
 record Placing (k : ℕ) (r : Reading) : Type 0 where
   pub from : k ≤ r.line_start
-  pub line : r.fault ≡ none → r.line_start + length r.part ≡ r.at
-  pub fault : (f : Fault) → r.fault ≡ some f → (k ≤ f.place) × (f.place < r.at) × (4 ≤ f.number)
+  pub line : r.fault ≡ None → r.line_start + length r.part ≡ r.at
+  pub fault : (f : Fault) → r.fault ≡ Some f → (k ≤ f.place) × (f.place < r.at) × (4 ≤ f.number)
 
 module _ (k : ℕ) where
-  ended_placing : (r : Reading) (a : Answer) → FromFour a → InsideLine (line r) a → Placing k r → r.fault ≡ none → Placing k (ended r a)
+  ended_placing : (r : Reading) (a : Answer) → FromFour a → InsideLine (line r) a → Placing k r → r.fault ≡ None → Placing k (ended r a)
   ended_placing r (refuse q) four i p e =
       record {
         from = p.from;
@@ -58,13 +58,13 @@ module _ (k : ℕ) where
   byte_placing : (r : Reading) (b : ℕ) → Placing k r → Placing k (byte r b)
   byte_placing r b p = by r.fault refl
     where
-      at_line : (t : Bool) → r.fault ≡ none → Placing k (pick t (ended r (step r.phase (numbers r.handed) (line r))) (with_byte r b))
+      at_line : (t : Bool) → r.fault ≡ None → Placing k (pick t (ended r (step r.phase (numbers r.handed) (line r))) (with_byte r b))
       at_line true e = ended_placing r (step r.phase (numbers r.handed) (line r)) (step_from_four r.phase (numbers r.handed) (line r)) (step_inside r.phase (numbers r.handed) (line r)) p e
       at_line false e = record { from = p.from; line = λ z. omega (arith, p.line e); fault = λ f z. absurd (never_none f z) }
 
       by : (o : Option Fault) → r.fault ≡ o → Placing k (byte_unless o r b)
-      by none e = at_line (eqb b newline) e
-      by (some f) e =
+      by None e = at_line (eqb b newline) e
+      by (Some f) e =
           record {
             from = p.from;
             line = λ z. absurd (never_some f z);
@@ -79,18 +79,18 @@ module _ (k : ℕ) where
   verdict_from : (r : Reading) → Placing k r → k ≤ (verdict r).place
   verdict_from r p = by r.fault refl
     where
-      unended : r.fault ≡ none → (part : List ℕ) → k ≤ (closing r part).place
+      unended : r.fault ≡ None → (part : List ℕ) → k ≤ (closing r part).place
       unended e [] = omega (arith, p.from, p.line e)
       unended e (b ∷ bs) = p.from
 
       by : (o : Option Fault) → r.fault ≡ o → k ≤ (closing_unless o r).place
-      by none e = unended e r.part
-      by (some f) e = (p.fault f e).0
+      by None e = unended e r.part
+      by (Some f) e = (p.fault f e).0
 
 -- ---- a clean front
 
 pub record Fresh (front : List ℕ) : Type 0 where
-  pub sound : (read begin front).fault ≡ none
+  pub sound : (read begin front).fault ≡ None
   pub unbegun : (read begin front).part ≡ []
   pub at : (read begin front).at ≡ length front
   pub from : (read begin front).line_start ≡ length front
@@ -99,7 +99,7 @@ begin_placing : (f : List ℕ) → Placing 0 (read begin f)
 begin_placing f = read_placing 0 begin f (record { from = omega arith; line = λ e. refl; fault = λ g z. absurd (never_none g z) })
 
 -- no line is refused by a number below 4
-pub fault_four : (f : List ℕ) (g : Fault) → (read begin f).fault ≡ some g → 4 ≤ g.number
+pub fault_four : (f : List ℕ) (g : Fault) → (read begin f).fault ≡ Some g → 4 ≤ g.number
 fault_four f g e = ((begin_placing f).fault g e).2
 
 pub survey_is : (f : List ℕ) → WithinLimit f → survey_of f ≡ answered (read begin f)
@@ -117,7 +117,7 @@ clean_fresh front c = by (read begin front).fault refl
     place : (verdict (read begin front)).place ≡ length front
     place = sym (ap (λ (v : Survey). v.place) (survey_is front c.fits)) ∙ c.place
 
-    unended : (read begin front).fault ≡ none → (part : List ℕ) → (read begin front).part ≡ part → (closing (read begin front) part).place ≡ length front → Fresh front
+    unended : (read begin front).fault ≡ None → (part : List ℕ) → (read begin front).part ≡ part → (closing (read begin front) part).place ≡ length front → Fresh front
     unended e [] p q =
         record { sound = e; unbegun = p; at = at_end_lem; from = let l : length (read begin front).part ≡ 0 = ap length p in omega (arith, placing.line e, at_end_lem) }
     unended e (b ∷ bs) p q =
@@ -125,8 +125,8 @@ clean_fresh front c = by (read begin front).fault refl
         absurd (omega (arith, placing.line e, at_end_lem, q))
 
     by : (o : Option Fault) → (read begin front).fault ≡ o → Fresh front
-    by none e = unended e (read begin front).part refl (sym (ap (λ (o : Option Fault). (closing_unless o (read begin front)).place) e) ∙ place)
-    by (some f) e =
+    by None e = unended e (read begin front).part refl (sym (ap (λ (o : Option Fault). (closing_unless o (read begin front)).place) e) ∙ place)
+    by (Some f) e =
         let y : f.place ≡ length front = sym (ap (λ (o : Option Fault). (closing_unless o (read begin front)).place) e) ∙ place in
         absurd (omega (arith, (placing.fault f e).1, at_end_lem))
 
@@ -151,7 +151,7 @@ end_of_line front l =
       part = reverse l;
       phase = (read begin front).phase;
       handed = (read begin front).handed;
-      fault = none;
+      fault = None;
     }
 
 pub line_read : (front l : List ℕ) → Fresh front → OneLine l → (x : List ℕ)
@@ -159,7 +159,7 @@ pub line_read : (front l : List ℕ) → Fresh front → OneLine l → (x : List
 line_read front l f o x =
     read_append begin front (l ++ (10 ∷ x))
     ∙ read_line (read begin front) l x f.sound f.unbegun (no_newline l o)
-    ∙ ap₂ (λ (at from : ℕ). read (ended (record { at = at + length l; line_start = from; part = reverse l; phase = (read begin front).phase; handed = (read begin front).handed; fault = none })
+    ∙ ap₂ (λ (at from : ℕ). read (ended (record { at = at + length l; line_start = from; part = reverse l; phase = (read begin front).phase; handed = (read begin front).handed; fault = None })
     (step (read begin front).phase (numbers (read begin front).handed) (record { start = from; bytes = l }))) x) f.at f.from
 
 -- 0 points at no column
@@ -185,7 +185,7 @@ module _ (front : List ℕ) (c : Clean front) (l : List ℕ) (o : OneLine l) whe
     pub refused_here : (q : Rule) → stepped ≡ refuse q → RefusedBy q.number q.about.start (line_in front l x)
     refused_here q e =
         let r = ended line_end (refuse q) in
-        let behind : read (ended line_end stepped) x ≡ record { at = r.at + length x; line_start = r.line_start; part = r.part; phase = r.phase; handed = r.handed; fault = some (fault_of q) } =
+        let behind : read (ended line_end stepped) x ≡ record { at = r.at + length x; line_start = r.line_start; part = r.part; phase = r.phase; handed = r.handed; fault = Some (fault_of q) } =
         ap (λ (a : Answer). read (ended line_end a) x) e ∙ read_fault r (fault_of q) x refl in
         record { refusal = ap (λ (v : Survey). v.refusal) survey_line ∙ ap (λ (s : Reading). (verdict s).number) behind; at = ap (λ (v : Survey). v.place) survey_line ∙ ap (λ (s : Reading). (verdict s).place) behind }
 
@@ -254,7 +254,7 @@ unended front l c o some_bytes fits =
     given = omega (arith, length-append (reverse l) (read begin front).part, length-reverse l)
 
     three : (part : List ℕ) → 1 ≤ length part
-        → ((verdict (record { at = (read begin front).at + length l; line_start = (read begin front).line_start; part = part; phase = (read begin front).phase; handed = (read begin front).handed; fault = none })).number ≡ 3)
-        × ((verdict (record { at = (read begin front).at + length l; line_start = (read begin front).line_start; part = part; phase = (read begin front).phase; handed = (read begin front).handed; fault = none })).place ≡ (read begin front).line_start)
+        → ((verdict (record { at = (read begin front).at + length l; line_start = (read begin front).line_start; part = part; phase = (read begin front).phase; handed = (read begin front).handed; fault = None })).number ≡ 3)
+        × ((verdict (record { at = (read begin front).at + length l; line_start = (read begin front).line_start; part = part; phase = (read begin front).phase; handed = (read begin front).handed; fault = None })).place ≡ (read begin front).line_start)
     three [] h = absurd (omega arith)
     three (b ∷ bs) h = (refl, refl)

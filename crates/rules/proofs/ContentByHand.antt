@@ -4,7 +4,7 @@
 use Prim.Native.Nat.{ℕ}
 use Prim.Native.String.{String}
 use mathlib.Core.Path.{◌≡◌, refl, subst}
-use mathlib.Core.Option.{none, some}
+use Rattle.std.specs.Prelude.{None, Some}
 use mathlib.Core.List.{List, [], ◌∷◌}
 use Rattle.rules.specs.Lists.{bytes}
 use Rattle.rules.specs.Bytes.{ignored}
@@ -61,13 +61,13 @@ content_by_hand =
     record {
       format = 3;
       tables =
-          some (row 2 "lab notes" "of 1998" 0 ∷ row 4 "diary" "" 0 ∷ [])
-          ∷ some (row 0 "nn" "nobody" 0 ∷ row 3 "kim" "Kim Berg" 0 ∷ [])
-          ∷ some (row 0 "UNKNOWN" "not known" 0 ∷ row 1 "--" "none" 0 ∷ row 2 "ITJ" "interjection" 1 ∷ [])
-          ∷ none
-          ∷ none
-          ∷ none
-          ∷ none
+          Some (row 2 "lab notes" "of 1998" 0 ∷ row 4 "diary" "" 0 ∷ [])
+          ∷ Some (row 0 "nn" "nobody" 0 ∷ row 3 "kim" "Kim Berg" 0 ∷ [])
+          ∷ Some (row 0 "UNKNOWN" "not known" 0 ∷ row 1 "--" "none" 0 ∷ row 2 "ITJ" "interjection" 1 ∷ [])
+          ∷ None
+          ∷ None
+          ∷ None
+          ∷ None
           ∷ [];
       sentences =
           record {

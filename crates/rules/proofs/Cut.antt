@@ -6,7 +6,7 @@ use native.Mathlib.Omega.{arith}
 use mathlib.Core.Path.{◌≡◌, refl, sym, ap, ◌∙◌}
 use mathlib.Core.Logic.{◌⊎◌, inl, inr}
 use mathlib.Core.Bool.{Bool, true, false}
-use mathlib.Core.Option.{Option, none, some}
+use Rattle.std.specs.Prelude.{Option, None, Some}
 use mathlib.Core.List.{List, [], ◌∷◌, ◌++◌, append-nil, append_assoc}
 use lib.ListN.{length}
 use lib.Dec.{eqb}
@@ -49,7 +49,7 @@ within_append n (g ∷ gs) hs = by (ends_within n g) (within_append n gs hs)
 
 -- a sentence has just been handed out
 pub record Rested (r : Reading) : Type 0 where
-  pub sound : r.fault ≡ none
+  pub sound : r.fault ≡ None
   pub unbegun : r.part ≡ []
   pub preamble : Preamble
   pub behind : r.phase ≡ behind_sentence preamble
@@ -80,8 +80,8 @@ by_answer r b true (hand p s) =
 by_answer r b false a = inl (record { one = refl; unchanged = refl })
 
 by_fault : (r : Reading) (b : ℕ) (f : Option Fault) → Quiet r (byte_unless f r b) ⊎ Gave r (byte_unless f r b)
-by_fault r b none = by_answer r b (eqb b newline) (step r.phase (numbers r.handed) (line r))
-by_fault r b (some f) = inl (record { one = refl; unchanged = refl })
+by_fault r b None = by_answer r b (eqb b newline) (step r.phase (numbers r.handed) (line r))
+by_fault r b (Some f) = inl (record { one = refl; unchanged = refl })
 
 pub one_byte : (r : Reading) (b : ℕ) → Quiet r (byte r b) ⊎ Gave r (byte r b)
 one_byte r b = by_fault r b r.fault

@@ -5,7 +5,7 @@ use native.Mathlib.Omega.{arith}
 use mathlib.Core.Path.{◌≡◌, refl, sym, ap, ◌∙◌, subst}
 use mathlib.Core.Logic.{◌⊎◌, inl, inr}
 use mathlib.Core.Bool.{Bool, true, false}
-use mathlib.Core.Option.{none, some}
+use Rattle.std.specs.Prelude.{None, Some}
 use mathlib.Core.List.{List, [], ◌∷◌, ◌++◌, append_assoc, append-nil}
 use lib.ListN.{length, take, drop, length-append, take-append-drop}
 use lib.Seq.{take-append-le, take-append-add}
@@ -26,14 +26,14 @@ use Rattle.rules.proofs.ReadFromPlace.{around, past, Begun, from_bytes}
 -- of sentences that end up to a place, and others that end behind it
 first_part : (sooner later : List Handed) (h : Handed) (others : List Handed) (n : ℕ) → sooner ++ later ≡ h ∷ others
     → Each (λ (g : Handed). g.end ≤ n) sooner → Each (λ (g : Handed). n < g.end) later
-    → (h.end ≤ n → first_handed sooner ≡ some h.sentence) × (n < h.end → first_handed sooner ≡ none)
+    → (h.end ≤ n → first_handed sooner ≡ Some h.sentence) × (n < h.end → first_handed sooner ≡ None)
 first_part [] later h others n e a b =
     (λ l. absurd (let c : n < h.end = (subst (Each (λ (g : Handed). n < g.end)) e b).0 in omega (arith, l, c)), λ l. refl)
 first_part (g ∷ gs) later h others n e a b =
     let same : g ≡ h = cc in
-    (λ l. ap (λ (x : Handed). some x.sentence) same, λ l. absurd (let c = a.0 in let d : g.end ≡ h.end = ap (λ (x : Handed). x.end) same in omega (arith, l, c, d)))
+    (λ l. ap (λ (x : Handed). Some x.sentence) same, λ l. absurd (let c = a.0 in let d : g.end ≡ h.end = ap (λ (x : Handed). x.end) same in omega (arith, l, c, d)))
 
-first_more : (hs gs : List Handed) (s : Sentence) → first_handed hs ≡ some s → first_handed (hs ++ gs) ≡ some s
+first_more : (hs gs : List Handed) (s : Sentence) → first_handed hs ≡ Some s → first_handed (hs ++ gs) ≡ Some s
 first_more [] gs s e = absurd (let z : ◌≡◌ {A = ℕ} 0 1 = cc in omega arith)
 first_more (h ∷ hs) gs s e = e
 
@@ -48,24 +48,24 @@ taken (suc m) (x ∷ xs) = by (taken m xs)
     by (inl e) = inl (ap suc e)
     by (inr k) = inr (ap suc k.0, omega (arith, k.1))
 
-unended : (n : ℕ) (l : List ℕ) → OneLine l → ended_line (take n l) ≡ none
+unended : (n : ℕ) (l : List ℕ) → OneLine l → ended_line (take n l) ≡ None
 unfolding ended_line
 unended zero l o = refl
 unended (suc n) [] o = refl
 unended (suc n) (b ∷ bs) o = rw (ne_eqb b newline o.0, unended n bs o.1)
 
 -- the line behind a front, cut in front of its newline
-cut_line : (front l : List ℕ) (n : ℕ) → OneLine l → ended_line (drop (length front) (take n (front ++ l))) ≡ none
+cut_line : (front l : List ℕ) (n : ℕ) → OneLine l → ended_line (drop (length front) (take n (front ++ l))) ≡ None
 unfolding ended_line
 cut_line [] l n o = unended n l o
 cut_line (c ∷ cs) l zero o = refl
 cut_line (c ∷ cs) l (suc n) o = cut_line cs l n o
 
-no_line : (file : List ℕ) (at : ℕ) → ended_line (drop at file) ≡ none → sentence_from file at ≡ none
+no_line : (file : List ℕ) (at : ℕ) → ended_line (drop at file) ≡ None → sentence_from file at ≡ None
 unfolding sentence_from
 no_line file at e = by (starts_line file at)
   where
-    by : (t : Bool) → pick t (begun_by file at (ended_line (drop at file))) none ≡ none
+    by : (t : Bool) → pick t (begun_by file at (ended_line (drop at file))) None ≡ None
     by true = ap (begun_by file at) e
     by false = refl
 
@@ -83,7 +83,7 @@ module _ (f : List ℕ) (at : ℕ) (s : Sentence) (b : Begun f at s) where
 
   -- the first bytes behind the heading
   first_bytes : (p q : List ℕ) → b.rest ≡ p ++ q
-      → (end ≤ next + length p → first_handed (read behind p).handed ≡ some s) × (next + length p < end → first_handed (read behind p).handed ≡ none)
+      → (end ≤ next + length p → first_handed (read behind p).handed ≡ Some s) × (next + length p < end → first_handed (read behind p).handed ≡ None)
   first_bytes p q e =
       let g = grow behind p in
       let k = grow (read behind p) q in
@@ -92,7 +92,7 @@ module _ (f : List ℕ) (at : ℕ) (s : Sentence) (b : Begun f at s) where
       let n = (read behind p).at in
       let o = first_part g.more k.more b.handed b.others n all g.sooner k.later in
       let place : n ≡ next + length p = g.place in
-      (λ l. ap first_handed g.handed ∙ o.0 (omega (arith, l, place)) ∙ ap some b.its, λ l. ap first_handed g.handed ∙ o.1 (omega (arith, l, place)))
+      (λ l. ap first_handed g.handed ∙ o.0 (omega (arith, l, place)) ∙ ap Some b.its, λ l. ap first_handed g.handed ∙ o.1 (omega (arith, l, place)))
 
   -- it ends behind its heading, and in the file
   end_behind : next < end
@@ -121,7 +121,7 @@ module _ (f : List ℕ) (at : ℕ) (s : Sentence) (b : Begun f at s) where
       ap (λ (k : ℕ). take k f) place ∙ ap (take (length done + m)) (b.parts ∙ around b.front b.head b.rest) ∙ take-append-add done b.rest m
       ∙ sym (around b.front b.head (take m b.rest))
 
-  pub kept_there : (n : ℕ) (x : List ℕ) → end ≤ n → sentence_from (take n f ++ x) at ≡ some s
+  pub kept_there : (n : ℕ) (x : List ℕ) → end ≤ n → sentence_from (take n f ++ x) at ≡ Some s
   kept_there n x l =
       let m = n - next in
       let place : n ≡ next + m = omega (arith, l, end_behind) in
@@ -137,14 +137,14 @@ module _ (f : List ℕ) (at : ℕ) (s : Sentence) (b : Begun f at s) where
       by (inl e) = omega (arith, e, l, end_behind)
       by (inr e) = omega (arith, e.0, end_inside)
 
-  pub lost_there : (n : ℕ) → n < end → sentence_from (take n f) at ≡ none
+  pub lost_there : (n : ℕ) → n < end → sentence_from (take n f) at ≡ None
   lost_there n l = by (leb next n) refl
     where
       few : (length (take (n - next) b.rest) ≡ n - next) ⊎ ((length (take (n - next) b.rest) ≡ length b.rest) × (length b.rest ≤ n - next)) → next ≤ n → next + length (take (n - next) b.rest) < end
       few (inl e) k = omega (arith, e, l, k)
       few (inr e) k = omega (arith, e.0, e.1, l, k)
 
-      by : (t : Bool) → leb next n ≡ t → sentence_from (take n f) at ≡ none
+      by : (t : Bool) → leb next n ≡ t → sentence_from (take n f) at ≡ None
       by true e =
           let k : next ≤ n = leb-true next n e in
           let place : n ≡ next + (n - next) = omega (arith, k) in

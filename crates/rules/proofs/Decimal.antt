@@ -3,7 +3,7 @@
 use mathlib.Core.Path.{◌≡◌, refl, sym, ap, ap₂, ◌∙◌}
 use mathlib.Core.Logic.{◌⊎◌, inl, inr}
 use mathlib.Core.Bool.{Bool, true, false, not, ◌&&◌, false≢true, and-false}
-use mathlib.Core.Option.{Option, none, some}
+use Rattle.std.specs.Prelude.{Option, None, Some}
 use mathlib.Core.List.{List, [], ◌∷◌, ◌++◌, cons≢nil}
 use Prim.Native.Nat.{ℕ, zero, suc, ◌+◌, ◌-◌, ◌*◌, ◌/◌, ◌%◌, ◌≤◌, ◌<◌}
 use native.Mathlib.Nat.{le_refl}
@@ -88,18 +88,18 @@ digits_written n = written_within n n (le_refl n)
 
 -- ---- read back
 
-written_reads : (n d : ℕ) (ds : List ℕ) → every digit (d ∷ ds) ≡ true → value_from 0 (d ∷ ds) ≡ n → (0 < n → 48 < d) → (n ≡ 0 → ds ≡ []) → decimal (d ∷ ds) ≡ some n
+written_reads : (n d : ℕ) (ds : List ℕ) → every digit (d ∷ ds) ≡ true → value_from 0 (d ∷ ds) ≡ n → (0 < n → 48 < d) → (n ≡ 0 → ds ≡ []) → decimal (d ∷ ds) ≡ Some n
 unfolding decimal
-written_reads n d [] a v l z = rw (both (digit d) true a).0 (ap some (omega (arith, v)))
+written_reads n d [] a v l z = rw (both (digit d) true a).0 (ap Some (omega (arith, v)))
 written_reads zero d (e ∷ es) a v l z = absurd (cons≢nil (z refl))
-written_reads (suc n) d (e ∷ es) a v l z = rw (ne_eqb d 48 (λ q. omega (arith, l (omega arith))), a) (ap some v)
+written_reads (suc n) d (e ∷ es) a v l z = rw (ne_eqb d 48 (λ q. omega (arith, l (omega arith))), a) (ap Some v)
 
-pub digits_read_back : (n : ℕ) → decimal (digits_of n) ≡ some n
+pub digits_read_back : (n : ℕ) → decimal (digits_of n) ≡ Some n
 digits_read_back n =
     let w = digits_written n in
     rw w.form (written_reads n w.first w.others (rw w.form at w.all) (rw w.form at w.value) w.leads w.lone)
 
-pub number_read_back : (k : Kind) (n : ℕ) → k.lowest ≤ n → n ≤ k.highest → number k (digits_of n) ≡ some n
+pub number_read_back : (k : Kind) (n : ℕ) → k.lowest ≤ n → n ≤ k.highest → number k (digits_of n) ≡ Some n
 number_read_back k n l h = rw (digits_read_back n, le-leb k.lowest n l, le-leb n k.highest h)
 
 -- digits are never -1
@@ -107,7 +107,7 @@ no_minus : (xs : List ℕ) → every digit xs ≡ true → same xs (bytes "-1") 
 no_minus [] e = refl
 no_minus (x ∷ xs) e = let r = digit_range x (both (digit x) (every digit xs) e).0 in rw (ne_eqb x 45 (λ z. omega arith))
 
-pub id_read_back : (i : ℕ) → i ≤ 65536 → signed_id (id_digits i) ≡ some i
+pub id_read_back : (i : ℕ) → i ≤ 65536 → signed_id (id_digits i) ≡ Some i
 id_read_back zero h = refl
 id_read_back (suc i) h =
     rw (no_minus (digits_of i) (digits_written i).all, digits_read_back i, le-leb 0 (suc i) (omega arith), le-leb (suc i) 65536 h)
@@ -224,7 +224,7 @@ one_writing (suc k) d ds = longer ds (λ xs. one_writing k d xs)
     longer [] shorter = one_alone (suc k) d
     longer (e ∷ es) shorter = one_more k d shorter e es
 
-picked : (t : Bool) (m n : ℕ) → pick t (some m) none ≡ some n → (t ≡ true) × (m ≡ n)
+picked : (t : Bool) (m n : ℕ) → pick t (Some m) None ≡ Some n → (t ≡ true) × (m ≡ n)
 picked true m n e = (refl, cc)
 picked false m n e = (cc, cc)
 
@@ -234,7 +234,7 @@ leading d (f ∷ fs) p e =
     let r = digit_range d e in
     inr (omega (arith, eqb-false d 48 (not-true (eqb d 48) p)))
 
-pub digits_one_writing : (xs : List ℕ) (n : ℕ) → decimal xs ≡ some n → digits_of n ≡ xs
+pub digits_one_writing : (xs : List ℕ) (n : ℕ) → decimal xs ≡ Some n → digits_of n ≡ xs
 unfolding decimal digits_of
 digits_one_writing [] n e = cc
 digits_one_writing (d ∷ ds) n e =
@@ -251,18 +251,18 @@ minus_one_writing (a ∷ b ∷ []) e =
     ap₂ (λ (x y : ℕ). x ∷ y ∷ []) (sym (eqb-true a 45 p.0)) (sym (eqb-true b 49 (both (eqb b 49) true p.1).0))
 minus_one_writing (a ∷ b ∷ c ∷ xs) e = absurd (false≢true (both (eqb b 49) false (both (eqb a 45) (eqb b 49 && false) e).1).1)
 
-within_is : (k : Kind) (o : Option ℕ) (n : ℕ) → within k o ≡ some n → o ≡ some n
-within_is k none n e = e
-within_is k (some m) n e = ap some (picked (between k.lowest k.highest m) m n e).1
+within_is : (k : Kind) (o : Option ℕ) (n : ℕ) → within k o ≡ Some n → o ≡ Some n
+within_is k None n e = e
+within_is k (Some m) n e = ap Some (picked (between k.lowest k.highest m) m n e).1
 
-pub id_one_writing : (xs : List ℕ) (i : ℕ) → signed_id xs ≡ some i → id_digits i ≡ xs
+pub id_one_writing : (xs : List ℕ) (i : ℕ) → signed_id xs ≡ Some i → id_digits i ≡ xs
 id_one_writing xs i e =
-    by (same xs (bytes "-1")) refl (within_is id_plus_one (pick (same xs (bytes "-1")) (some 0) (plus_one (decimal xs))) i e)
+    by (same xs (bytes "-1")) refl (within_is id_plus_one (pick (same xs (bytes "-1")) (Some 0) (plus_one (decimal xs))) i e)
   where
-    above : (o : Option ℕ) → decimal xs ≡ o → plus_one o ≡ some i → id_digits i ≡ xs
-    above none d q = cc
-    above (some n) d q = let s : suc n ≡ i = cc in rw (← s) (digits_one_writing xs n d)
+    above : (o : Option ℕ) → decimal xs ≡ o → plus_one o ≡ Some i → id_digits i ≡ xs
+    above None d q = cc
+    above (Some n) d q = let s : suc n ≡ i = cc in rw (← s) (digits_one_writing xs n d)
 
-    by : (t : Bool) → same xs (bytes "-1") ≡ t → pick t (some 0) (plus_one (decimal xs)) ≡ some i → id_digits i ≡ xs
+    by : (t : Bool) → same xs (bytes "-1") ≡ t → pick t (Some 0) (plus_one (decimal xs)) ≡ Some i → id_digits i ≡ xs
     by true s q = let z : ◌≡◌ {A = ℕ} 0 i = cc in rw (← z) (minus_one_writing xs s)
     by false s q = above (decimal xs) refl q

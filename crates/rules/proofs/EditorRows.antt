@@ -4,7 +4,7 @@ use Prim.Native.Nat.{ℕ, ◌+◌, ◌≤◌, ◌<◌}
 use native.Mathlib.Omega.{arith}
 use mathlib.Core.Path.{◌≡◌, refl, ap, ◌∙◌}
 use mathlib.Core.Bool.{true, false, not}
-use mathlib.Core.Option.{Option, some}
+use Rattle.std.specs.Prelude.{Option, Some}
 use mathlib.Core.List.{List, [], ◌∷◌}
 use lib.ListN.{length}
 use lib.Dec.{leb}
@@ -118,7 +118,7 @@ module _ (rs : List Row) (r : Row) (k : EditorKept r) (at : ℕ) where
   unfolding editor_row
   editor_back new few =
       let a = (column (columns line_back) 1).after.start in
-      let e1 : signed_id (column (columns line_back) 0).text.bytes ≡ some r.id1 = ap signed_id columns_back.0 ∙ id_read_back r.id1 k.id in
+      let e1 : signed_id (column (columns line_back) 0).text.bytes ≡ Some r.id1 = ap signed_id columns_back.0 ∙ id_read_back r.id1 k.id in
       let e2 : (login rs line_back).text.bytes ≡ r.first.bytes = columns_back.1 in
       let e3 : (name rs line_back).bytes ≡ r.second.bytes = ap (λ (l : List ℕ). (trim_from a l).bytes) columns_back.2 ∙ last_text a r.second.bytes k.name.trimmed in
       record {

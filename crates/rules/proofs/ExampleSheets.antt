@@ -2,7 +2,7 @@
 -- table sheet of a file refused inside a table; and where sentences begin. By computing.
 use Prim.Native.Nat.{ℕ}
 use mathlib.Core.Path.{◌≡◌, refl}
-use mathlib.Core.Option.{Option, none, some}
+use Rattle.std.specs.Prelude.{Option, None, Some}
 use mathlib.Core.List.{List, [], ◌∷◌, ◌++◌}
 use lib.ListN.{replicate}
 use lib.Dec.{T}
@@ -70,8 +70,8 @@ tables_inside_editor = (refl, refl, tt)
 -- ---- sentence 12: number, editor + 1, date, origin, comment, words, phrases, edges; nodes 0, 1, 500, 501, 502
 
 abbrev pub sheet_of : Option Sentence → List ℕ
-sheet_of none = []
-sheet_of (some s) = sentence_sheet s
+sheet_of None = []
+sheet_of (Some s) = sentence_sheet s
 
 abbrev pub sheet12 : List ℕ
 sheet12 =
@@ -95,8 +95,8 @@ flat [] = []
 flat (e ∷ es) = e.child ∷ e.label_start ∷ e.label_length ∷ e.parent ∷ flat es
 
 abbrev pub edges_of : Option Sentence → List ℕ
-edges_of none = []
-edges_of (some s) = flat (edge_list s)
+edges_of None = []
+edges_of (Some s) = flat (edge_list s)
 
 pub edges_of_12 : T (same (edges_of (sentence_of 12 (survey_of file_b).handed)) ((500 ∷ 553 ∷ 2 ∷ 502 ∷ 500 ∷ 560 ∷ 2 ∷ 501 ∷ []) ++ zeros 2040))
 unfolding ignored right_trim trim_from front_bytes behind_from columns_from fields comment value_from decimal broken checked has_id has_tag known origin_row editor_row tag_row heading_of end_rules end_of pairs paired parents_written tags_short tags_known parents_allowed word_of phrase_of format_of table_opened table_ended first_column at_start behind_one at_top among_rows among_nodes line_at taken judged after step survey_of edge_list

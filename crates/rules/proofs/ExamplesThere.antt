@@ -1,7 +1,7 @@
 -- The sentences of the file of `ExampleFile` from their places: where one begins, one byte further, inside a comment that spells
 -- #BOS, and where what stands there is none. By computing.
 use Prim.Native.Nat.{ℕ}
-use mathlib.Core.Option.{Option, none, some}
+use Rattle.std.specs.Prelude.{Option, None, Some}
 use mathlib.Core.List.{List, [], ◌∷◌, ◌++◌, map}
 use lib.ListN.{drop}
 use lib.Dec.{T}
@@ -25,8 +25,8 @@ use Rattle.rules.proofs.ExampleSheets.{sheet12}
 
 -- the number of a sentence, 0 where there is none
 abbrev number_of : Option Sentence → ℕ
-number_of none = 0
-number_of (some s) = s.heading.number
+number_of None = 0
+number_of (Some s) = s.heading.number
 
 abbrev numbers_from : List ℕ → List ℕ → List ℕ
 numbers_from file places = map (λ (at : ℕ). number_of (sentence_from file at)) places
@@ -40,8 +40,8 @@ from_places_of_b = tt
 
 -- the very sheet that an opening gives
 abbrev sheet_of : Option Sentence → List ℕ
-sheet_of none = []
-sheet_of (some s) = sentence_sheet s
+sheet_of None = []
+sheet_of (Some s) = sentence_sheet s
 
 pub sheet_from_437 : T (same (sheet_of (sentence_from file_b 437)) sheet12)
 unfolding ignored right_trim trim_from columns_from fields comment value_from decimal broken checked has_id has_tag known heading_of end_rules end_of pairs paired parents_written tags_short tags_known parents_allowed word_of phrase_of first_column behind_one among_nodes line_at taken judged after step ended_line heading_alone sentence_from sentence_sheet

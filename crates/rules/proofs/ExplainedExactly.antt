@@ -4,7 +4,7 @@ use Prim.Native.Nat.{ℕ, ◌-◌, ◌≤◌}
 use native.Mathlib.Omega.{arith}
 use mathlib.Core.Path.{◌≡◌, refl, sym, ap, ◌∙◌, subst}
 use mathlib.Core.Bool.{Bool, true, false, ◌||◌, false≢true}
-use mathlib.Core.Option.{Option, none, some}
+use Rattle.std.specs.Prelude.{Option, None, Some}
 use mathlib.Core.List.{List, [], ◌∷◌, ◌++◌}
 use lib.Dec.{leb}
 use borrow.Author.Tests.{le-leb, leb-true, eq-eqb, ne_eqb}
@@ -21,14 +21,14 @@ use Rattle.rules.proofs.TagsDiffer.{turned, tags_differ}
 
 -- ---- rows
 
-picked_none : (b : Bool) (t : Text) (o : Option Text) → pick b (some t) o ≡ none → (b ≡ false) × (o ≡ none)
+picked_none : (b : Bool) (t : Text) (o : Option Text) → pick b (Some t) o ≡ None → (b ≡ false) × (o ≡ None)
 picked_none true t o e = absurd (let z : ◌≡◌ {A = ℕ} 0 1 = cc in omega arith)
 picked_none false t o e = (refl, e)
 
-lacks : (tag : List ℕ) (rs : List Row) → described tag rs ≡ none → Lacks tag rs
+lacks : (tag : List ℕ) (rs : List Row) → described tag rs ≡ None → Lacks tag rs
 unfolding described
 lacks tag [] e =
-    let p = (picked_none (same tag dashes || same tag unknown) no_text none e).0 in
+    let p = (picked_none (same tag dashes || same tag unknown) no_text None e).0 in
     record {
       not_dashes = same_false tag dashes (or_left (same tag dashes) (same tag unknown) p);
       not_unknown = same_false tag unknown (or_right (same tag dashes) (same tag unknown) p);
@@ -39,7 +39,7 @@ lacks tag (r ∷ rs) e =
     let l = lacks tag rs p.1 in
     record { not_dashes = l.not_dashes; not_unknown = l.not_unknown; no_row = (same_false tag r.first.bytes p.0, l.no_row) }
 
-lacked : (tag : List ℕ) (rs : List Row) → Lacks tag rs → described tag rs ≡ none
+lacked : (tag : List ℕ) (rs : List Row) → Lacks tag rs → described tag rs ≡ None
 unfolding described
 lacked tag [] l = rw (ne_same tag dashes l.not_dashes, ne_same tag unknown l.not_unknown)
 lacked tag (r ∷ rs) l =
@@ -53,7 +53,7 @@ other_tag t [] r back e = or_left (same_bytes t r.first) (has_tag t back) e
 other_tag t (q ∷ front) r back e = other_tag t front r back (or_right (same_bytes t q.first) (has_tag t (front ++ (r ∷ back))) e)
 
 described_at : (tag : List ℕ) (front : List Row) (r : Row) (back : List Row) → TagsApart (front ++ (r ∷ back)) → r.first.bytes ≡ tag
-    → described tag (front ++ (r ∷ back)) ≡ some r.second
+    → described tag (front ++ (r ∷ back)) ≡ Some r.second
 unfolding described
 described_at tag [] r back a e = rw (eq_same tag r.first.bytes (sym e))
 described_at tag (q ∷ front) r back a e =
@@ -61,17 +61,17 @@ described_at tag (q ∷ front) r back a e =
     rw (ap (λ (t : List ℕ). same t q.first.bytes) (sym e) ∙ other) (described_at tag front r back a.1 e)
 
 -- without a row
-reserved : (tag : List ℕ) (rs : List Row) → (same tag dashes || same tag unknown) ≡ true → NoRow tag rs → described tag rs ≡ some no_text
+reserved : (tag : List ℕ) (rs : List Row) → (same tag dashes || same tag unknown) ≡ true → NoRow tag rs → described tag rs ≡ Some no_text
 unfolding described
 reserved tag [] e k = rw e
 reserved tag (r ∷ rs) e k = rw (ne_same tag r.first.bytes k.0) (reserved tag rs e k.1)
 
-described_as : (tag : List ℕ) (rs : List Row) (t : Text) → TagsApart rs → RowsTell tag rs t → described tag rs ≡ some t
+described_as : (tag : List ℕ) (rs : List Row) (t : Text) → TagsApart rs → RowsTell tag rs t → described tag rs ≡ Some t
 described_as tag rs t a (by_row front r back e own s) =
-    ap (described tag) e ∙ described_at tag front r back (subst TagsApart e a) own ∙ ap some s
-described_as tag rs t a (dashes_without d k s) = reserved tag rs (rw (eq_same tag dashes d)) k ∙ ap some s
+    ap (described tag) e ∙ described_at tag front r back (subst TagsApart e a) own ∙ ap Some s
+described_as tag rs t a (dashes_without d k s) = reserved tag rs (rw (eq_same tag dashes d)) k ∙ ap Some s
 described_as tag rs t a (unknown_without d k s) =
-    reserved tag rs (or_found (same tag dashes) (same tag unknown) (eq_same tag unknown d)) k ∙ ap some s
+    reserved tag rs (or_found (same tag dashes) (same tag unknown) (eq_same tag unknown d)) k ∙ ap Some s
 
 -- ---- the table named
 
@@ -80,7 +80,7 @@ named_between n place t = rw (le-leb 3 place (omega (arith, t.counted, t.first))
 
 named_rows : (n place : ℕ) (ts : Tables) → TagTablePlace n place → tag_rows place ts ≡ table n ts
 named_rows n place ts t =
-    ap (λ (b : Bool). pick b (table (place - 1) ts) none) (named_between n place t)
+    ap (λ (b : Bool). pick b (table (place - 1) ts) None) (named_between n place t)
     ∙ ap (λ (k : ℕ). table k ts) (let m : place - 1 ≡ n = omega (arith, t.counted) in m)
 
 pub between_named : (place : ℕ) → between 3 7 place ≡ true → TagTablePlace (place - 1) place
@@ -91,33 +91,33 @@ between_named place e =
 
 -- ---- the file's tables and the list's
 
-refused_none : (k : ℕ) (o : Option Text) → (part_of k o).refusal ≡ 26 → o ≡ none
-refused_none k none e = refl
-refused_none k (some t) e = absurd (omega (arith, e))
+refused_none : (k : ℕ) (o : Option Text) → (part_of k o).refusal ≡ 26 → o ≡ None
+refused_none k None e = refl
+refused_none k (Some t) e = absurd (omega (arith, e))
 
 module _ (fs ls : Tables) (place : ℕ) (tag : List ℕ) where
   abbrev told : Explanation
   told = explanation fs ls place tag
 
-  of_file : (o : Option (List Row)) (rs : List Row) → tag_rows place fs ≡ o → o ≡ some rs → told ≡ part_of 1 (described tag rs)
+  of_file : (o : Option (List Row)) (rs : List Row) → tag_rows place fs ≡ o → o ≡ Some rs → told ≡ part_of 1 (described tag rs)
   of_file o rs p e =
       ap (λ (x : Option (List Row)). pick (there x) (part_of 1 (described_in tag x)) (part_of 2 (description ls place tag))) (p ∙ e)
 
-  of_list : tag_rows place fs ≡ none → told ≡ part_of 2 (description ls place tag)
+  of_list : tag_rows place fs ≡ None → told ≡ part_of 2 (description ls place tag)
   of_list p = ap (λ (x : Option (List Row)). pick (there x) (part_of 1 (described_in tag x)) (part_of 2 (description ls place tag))) p
 
   why : told.refusal ≡ 26 → Unexplained fs ls place tag
   why e = by (between 3 7 place) refl
     where
-      in_list : TagTablePlace (place - 1) place → table (place - 1) fs ≡ none → (o : Option (List Row)) → table (place - 1) ls ≡ o → Unexplained fs ls place tag
-      in_list t f none q = in_neither (place - 1) t f q
-      in_list t f (some rs) q =
+      in_list : TagTablePlace (place - 1) place → table (place - 1) fs ≡ None → (o : Option (List Row)) → table (place - 1) ls ≡ o → Unexplained fs ls place tag
+      in_list t f None q = in_neither (place - 1) t f q
+      in_list t f (Some rs) q =
           let p = of_list (named_rows (place - 1) place fs t ∙ f) ∙ ap (λ (x : Option (List Row)). part_of 2 (described_in tag x)) (named_rows (place - 1) place ls t ∙ q) in
           list_lacks (place - 1) rs t f q (lacks tag rs (refused_none 2 (described tag rs) (sym (ap (λ (x : Explanation). x.refusal) p) ∙ e)))
 
       in_file : TagTablePlace (place - 1) place → (o : Option (List Row)) → table (place - 1) fs ≡ o → Unexplained fs ls place tag
-      in_file t none q = in_list t q (table (place - 1) ls) refl
-      in_file t (some rs) q =
+      in_file t None q = in_list t q (table (place - 1) ls) refl
+      in_file t (Some rs) q =
           let p = of_file (table (place - 1) fs) rs (named_rows (place - 1) place fs t) q in
           file_lacks (place - 1) rs t q (lacks tag rs (refused_none 1 (described tag rs) (sym (ap (λ (x : Explanation). x.refusal) p) ∙ e)))
 
@@ -144,8 +144,8 @@ module _ (fs ls : Tables) (place : ℕ) (tag : List ℕ) where
 -- ---- two files
 
 -- of any file no two rows of a tag table have the same tag, so its rows tell one thing
-pub the_row : (file tag : List ℕ) (n : ℕ) (rs : List Row) (t : Text) → 2 ≤ n → table n (survey_of file).tables ≡ some rs → RowsTell tag rs t
-    → described tag rs ≡ some t
+pub the_row : (file tag : List ℕ) (n : ℕ) (rs : List Row) (t : Text) → 2 ≤ n → table n (survey_of file).tables ≡ Some rs → RowsTell tag rs t
+    → described tag rs ≡ Some t
 the_row file tag n rs t h e tells =
     described_as tag rs t (subst (λ (o : Option (List Row)). TagsApart (rows_of o)) e (tags_differ file n h)) tells
 

@@ -4,7 +4,7 @@ use Prim.Native.Nat.{ℕ, zero, suc, ◌-◌}
 use native.Mathlib.Omega.{arith}
 use mathlib.Core.Path.{refl}
 use mathlib.Core.Bool.{Bool, true, false, ◌&&◌, ◌||◌}
-use mathlib.Core.Option.{Option, none, some}
+use Rattle.std.specs.Prelude.{Option, None, Some}
 use mathlib.Core.List.{List, [], ◌∷◌}
 use lib.ListN.{replicate}
 use lib.Dec.{eqb}
@@ -25,16 +25,16 @@ module _ (file : List ℕ) where
   nothing_lies = record { found = refl; absent = λ e. refl }
 
   abbrev TextLies : Option Text → Type 0
-  TextLies none = Unit {0}
-  TextLies (some t) = LiesIn file t
+  TextLies None = Unit {0}
+  TextLies (Some t) = LiesIn file t
 
-  picked : (b : Bool) (t : Text) (o : Option Text) → LiesIn file t → TextLies o → TextLies (pick b (some t) o)
+  picked : (b : Bool) (t : Text) (o : Option Text) → LiesIn file t → TextLies o → TextLies (pick b (Some t) o)
   picked true t o k l = k
   picked false t o k l = l
 
   described_lies : (tag : List ℕ) (rs : List Row) → Each (RowLies file) rs → TextLies (described tag rs)
   unfolding described
-  described_lies tag [] k = picked (same tag dashes || same tag unknown) no_text none nothing_lies tt
+  described_lies tag [] k = picked (same tag dashes || same tag unknown) no_text None nothing_lies tt
   described_lies tag (r ∷ rs) k = picked (same tag r.first.bytes) r.second (described tag rs) k.0.second (described_lies tag rs k.1)
 
   rows_lie : (ts : Tables) (n : ℕ) → Each (λ (t : Option (List Row)). Each (RowLies file) (rows_of t)) ts → Each (RowLies file) (rows_of (table n ts))
@@ -43,13 +43,13 @@ module _ (file : List ℕ) where
   rows_lie (t ∷ ts) (suc n) k = rows_lie ts n k.1
 
   in_table : (tag : List ℕ) (o : Option (List Row)) → Each (RowLies file) (rows_of o) → TextLies (described_in tag o)
-  in_table tag none k = tt
-  in_table tag (some rs) k = described_lies tag rs k
+  in_table tag None k = tt
+  in_table tag (Some rs) k = described_lies tag rs k
 
   description_lies : (place : ℕ) (tag : List ℕ) → TextLies (description (survey_of file).tables place tag)
   description_lies place tag = by (between (suc word_tags) (suc sec_edge_tags) place)
     where
-      by : (b : Bool) → TextLies (described_in tag (pick b (table (place - 1) (survey_of file).tables) none))
+      by : (b : Bool) → TextLies (described_in tag (pick b (table (place - 1) (survey_of file).tables) None))
       by true = in_table tag (table (place - 1) (survey_of file).tables) (rows_lie (survey_of file).tables (place - 1) (lies_there file).tables)
       by false = tt
 
@@ -60,12 +60,12 @@ module _ (file list : List ℕ) where
   refused_stands n = record { in_file = λ e. nothing_lies file; in_list = λ e. nothing_lies list; refused = λ d. (refl, refl) }
 
   from_file : (o : Option Text) → TextLies file o → PartStands file list (part_of 1 o)
-  from_file none k = refused_stands 26
-  from_file (some t) k = record { in_file = λ e. k; in_list = λ e. absurd (omega (arith, e)); refused = λ d. absurd (d refl) }
+  from_file None k = refused_stands 26
+  from_file (Some t) k = record { in_file = λ e. k; in_list = λ e. absurd (omega (arith, e)); refused = λ d. absurd (d refl) }
 
   from_list : (o : Option Text) → TextLies list o → PartStands file list (part_of 2 o)
-  from_list none k = refused_stands 26
-  from_list (some t) k = record { in_file = λ e. absurd (e refl); in_list = λ e. k; refused = λ d. absurd (d refl) }
+  from_list None k = refused_stands 26
+  from_list (Some t) k = record { in_file = λ e. absurd (e refl); in_list = λ e. k; refused = λ d. absurd (d refl) }
 
   module _ (place : ℕ) (tag : List ℕ) where
     explanation_stands : PartStands file list (explanation (survey_of file).tables (survey_of list).tables place tag)

@@ -3,7 +3,7 @@ use Prim.Native.Nat.{ℕ}
 use mathlib.Core.Path.{◌≡◌}
 use mathlib.Core.Logic.{◌↔◌}
 use mathlib.Core.Bool.{false}
-use mathlib.Core.Option.{Option, some}
+use Rattle.std.specs.Prelude.{Option, Some}
 use mathlib.Core.List.{List}
 use lib.ListN.{length}
 use borrow.Author.Tests.{leb-false, lt-leb}
@@ -16,7 +16,7 @@ use Rattle.rules.proofs.SaidOfLists.{never_both}
 use Rattle.rules.proofs.TestsAsFacts.{good_some, some_good}
 use Rattle.rules.proofs.NumeralsAsSaid.{range_of_kind, number_said, id_said, parent_said}
 
-none_said : (o : Option ℕ) (Said : ℕ → Type 0) → ((n : ℕ) → (o ≡ some n) ↔ Said n) → (good o ≡ false) ↔ (((v : ℕ) × Said v) → ⊥)
+none_said : (o : Option ℕ) (Said : ℕ → Type 0) → ((n : ℕ) → (o ≡ Some n) ↔ Said n) → (good o ≡ false) ↔ (((v : ℕ) × Said v) → ⊥)
 none_said o Said k = (
   λ e w. never_both (good o) (some_good o w.0 ((k w.0).1 w.1)) e,
   λ n. false_if_never (good o) (λ e. n (value o, (k (value o)).0 (good_some o e))),

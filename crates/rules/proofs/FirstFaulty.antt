@@ -4,7 +4,7 @@ use Prim.Native.Nat.{ℕ, suc, ◌+◌}
 use native.Mathlib.Omega.{arith}
 use mathlib.Core.Path.{◌≡◌, refl, sym, ap, ◌∙◌}
 use mathlib.Core.Bool.{Bool, true, false}
-use mathlib.Core.Option.{none, some}
+use Rattle.std.specs.Prelude.{None, Some}
 use mathlib.Core.List.{List, [], ◌∷◌, ◌++◌, append_assoc, append-nil}
 use lib.ListN.{length, length-append}
 use lib.Dec.{eqb}
@@ -33,11 +33,11 @@ pub record FirstFaulty (file : List ℕ) (f : Fault) : Type 0 where
   pub refuses : answer_on front bytes ≡ refuse by
   pub fault : f ≡ fault_of by
 
-some_fault : (f g : Fault) → some f ≡ some g → g ≡ f
+some_fault : (f g : Fault) → Some f ≡ Some g → g ≡ f
 some_fault f g e = cc
 
 -- the reading behind a line that went well stands at a line's first byte
-pub line_fresh : (done l : List ℕ) → Fresh done → OneLine l → (r : Reading) → read begin (line_in done l []) ≡ r → r.fault ≡ none → r.part ≡ [] → r.at ≡ suc (length done + length l) → r.line_start ≡ suc (length done + length l)
+pub line_fresh : (done l : List ℕ) → Fresh done → OneLine l → (r : Reading) → read begin (line_in done l []) ≡ r → r.fault ≡ None → r.part ≡ [] → r.at ≡ suc (length done + length l) → r.line_start ≡ suc (length done + length l)
     → Fresh (line_in done l [])
 line_fresh done l f o r e sound unbegun at from =
     let size : length (line_in done l []) ≡ suc (length done + length l) = omega (arith, length-append done (l ++ (10 ∷ [])), length-append l (10 ∷ [])) in
@@ -48,7 +48,7 @@ line_fresh done l f o r e sound unbegun at from =
       from = ap (λ (x : Reading). x.line_start) e ∙ from ∙ sym size;
     }
 
-module _ (file : List ℕ) (f : Fault) (faulty : (read begin file).fault ≡ some f) where
+module _ (file : List ℕ) (f : Fault) (faulty : (read begin file).fault ≡ Some f) where
   abbrev More : List ℕ → Type 0
   More bs = (done part : List ℕ) → file ≡ done ++ (part ++ bs) → Fresh done → OneLine part → FirstFaulty file f
 

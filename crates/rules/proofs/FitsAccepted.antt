@@ -4,7 +4,7 @@ use Prim.Native.Nat.{ℕ}
 use native.Mathlib.Omega.{arith}
 use mathlib.Core.Path.{◌≡◌, refl, sym, ap, ◌∙◌, subst}
 use mathlib.Core.Bool.{Bool}
-use mathlib.Core.Option.{Option}
+use Rattle.std.specs.Prelude.{Option}
 use mathlib.Core.List.{List, [], ◌∷◌, ◌++◌, map, append_assoc, append-nil}
 use lib.ListN.{length}
 use borrow.Author.Tests.{le-leb}
@@ -133,8 +133,8 @@ module _ (E : Phase → List Sentence → Type 0) (p : Preamble) (ts : List Tabl
 
   behind_tables : (ss : List SentenceLines) → Each (SentenceFits sentence_range p.format ts) ss → Differ (sentence_numbers ss) → (ss ≡ [] → E (top p) [])
       → ((out : List Sentence) → map sentence_read out ≡ map sentence_says ss → E (behind_sentence p) out) → Follows E (joined (map sentence_lines ss)) (top p) []
-  behind_tables [] f d none k = ends_here E (top p) [] (none refl)
-  behind_tables (t ∷ rest) f d none k =
+  behind_tables [] f d None k = ends_here E (top p) [] (None refl)
+  behind_tables (t ∷ rest) f d None k =
       sentence_follows t (joined (map sentence_lines rest)) (top p) [] (begins_top []) f.0 (λ i. i)
       (λ s same. sentences_follow rest (t ∷ []) (s ∷ []) (maps_more sentence_read sentence_says [] [] s t refl same) f.1 d k)
 

@@ -4,7 +4,7 @@ use Prim.Native.Nat.{ℕ, ◌≤◌}
 use native.Mathlib.Omega.{arith}
 use mathlib.Core.Path.{◌≡◌, refl, sym, subst}
 use mathlib.Core.Bool.{Bool, true, false, not, ◌&&◌}
-use mathlib.Core.Option.{Option, none, some}
+use Rattle.std.specs.Prelude.{Option, None, Some}
 use mathlib.Core.List.{List, [], ◌∷◌, ◌++◌, map}
 use lib.Dec.{leb, ltb, eqb}
 use Rattle.rules.specs.Lists.{pick, bytes, every}
@@ -38,8 +38,8 @@ unfolding checked
 next_six f rs a h k = by (broken rs) refl
   where
     by : (o : Option Rule) → broken rs ≡ o → FromSix (next f (unless o a))
-    by none e = k
-    by (some q) e = reaches 6 rs h q e
+    by None e = k
+    by (Some q) e = reaches 6 rs h q e
 
 pick_six : (t : Bool) (x y : Answer) → FromSix x → FromSix y → FromSix (pick t x y)
 pick_six t x y a b = either FromSix t x y (λ e. a) (λ e. b)
@@ -126,5 +126,5 @@ step_from_four phase used line = subst FromFour (sym (step_answers phase used li
     to false = six_four (answer_at phase used line (first_column line)) (line_six line (first_column line) phase used)
 
     by : (o : Option Rule) → broken (line_rules line) ≡ o → FromFour (next (answer_to phase used) (unless o line))
-    by none e = to (ignored line.bytes)
-    by (some q) e = reaches 4 (line_rules line) refl q e
+    by None e = to (ignored line.bytes)
+    by (Some q) e = reaches 4 (line_rules line) refl q e

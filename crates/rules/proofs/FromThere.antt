@@ -3,7 +3,7 @@
 use Prim.Native.Nat.{ℕ, suc, ◌+◌}
 use mathlib.Core.Path.{◌≡◌, refl, sym, ap, ◌∙◌, subst}
 use mathlib.Core.Bool.{Bool, true, false}
-use mathlib.Core.Option.{none, some}
+use Rattle.std.specs.Prelude.{None, Some}
 use mathlib.Core.List.{List, [], ◌∷◌, ◌++◌, reverse, append_assoc}
 use lib.ListN.{length}
 use Rattle.rules.specs.Lists.{pick, bytes, member, Each}
@@ -38,7 +38,7 @@ use Rattle.rules.proofs.ReadFromPlace.{past, Begun, from_begun, HandedAt}
 module _ (file : List ℕ) where
   -- where a reading without tables stands in a sentence
   abbrev standing : ℕ → Sentence → Reading
-  standing at s = record { at = at; line_start = at; part = []; phase = in_sentence alone s; handed = []; fault = none }
+  standing at s = record { at = at; line_start = at; part = []; phase = in_sentence alone s; handed = []; fault = None }
 
   -- the sentence being read begins at the end of the front, and is read from there on
   record Behind (done : List ℕ) (s : Sentence) : Type 0 where
@@ -100,7 +100,7 @@ module _ (file : List ℕ) where
       led_by bs = read (behind_heading (length b.front) b.heading (suc (length b.front + length b.head))) bs
 
       abbrev ending : Reading
-      ending = record { at = length done + length l; line_start = length done; part = reverse l; phase = in_sentence alone s; handed = []; fault = none }
+      ending = record { at = length done + length l; line_start = length done; part = reverse l; phase = in_sentence alone s; handed = []; fault = None }
 
       led_line : (x : List ℕ) → led_by (b.lines ++ (l ++ (newline ∷ x))) ≡ read (ended ending (step (in_sentence alone s) [] its)) x
       led_line x =
@@ -203,7 +203,7 @@ handed_at file = by (file_fits file)
     by true = (read_there file).handed
     by false = tt
 
-pub from_there : (file : List ℕ) → Each (λ (h : Handed). sentence_from file h.sentence.start ≡ some h.sentence) (survey_of file).handed
+pub from_there : (file : List ℕ) → Each (λ (h : Handed). sentence_from file h.sentence.start ≡ Some h.sentence) (survey_of file).handed
 from_there file =
-    each_then (HandedAt file) (λ (h : Handed). sentence_from file h.sentence.start ≡ some h.sentence) (λ h k. from_begun file h.sentence.start h.sentence k.begun)
+    each_then (HandedAt file) (λ (h : Handed). sentence_from file h.sentence.start ≡ Some h.sentence) (λ h k. from_begun file h.sentence.start h.sentence k.begun)
     (survey_of file).handed (handed_at file)

@@ -4,7 +4,7 @@ use Prim.Native.Nat.{ℕ, ◌≤◌}
 use native.Mathlib.Omega.{arith}
 use mathlib.Core.Path.{◌≡◌, refl, sym, ap, ap₂, ◌∙◌, subst}
 use mathlib.Core.Bool.{Bool, true, false, not, ◌&&◌, false≢true}
-use mathlib.Core.Option.{Option, some}
+use Rattle.std.specs.Prelude.{Option, Some}
 use mathlib.Core.List.{List, [], ◌∷◌, ◌++◌}
 use lib.ListN.{length, drop, get_or, length-map}
 use lib.Dec.{ltb}
@@ -213,10 +213,10 @@ module _ (us : Tables) (h : Heading) (k : HeadingKept (meant_tables us) h) (used
   heading_back new =
       let cs = columns line_back in
       let b = columns_back in
-      let e1 : number sentence_number (written cs 1).bytes ≡ some h.number = ap (number sentence_number) (column_back 1) ∙ number_read_back sentence_number h.number k.number.0 k.number.1 in
-      let e2 : signed_id (written cs 2).bytes ≡ some h.editor1 = ap signed_id (column_back 2) ∙ id_read_back h.editor1 k.editor in
-      let e3 : number date (written cs 3).bytes ≡ some h.date = ap (number date) (column_back 3) ∙ number_read_back date h.date (omega arith) k.date in
-      let e4 : number origin_id (written cs 4).bytes ≡ some h.origin = ap (number origin_id) (column_back 4) ∙ number_read_back origin_id h.origin k.origin.0 k.origin.1 in
+      let e1 : number sentence_number (written cs 1).bytes ≡ Some h.number = ap (number sentence_number) (column_back 1) ∙ number_read_back sentence_number h.number k.number.0 k.number.1 in
+      let e2 : signed_id (written cs 2).bytes ≡ Some h.editor1 = ap signed_id (column_back 2) ∙ id_read_back h.editor1 k.editor in
+      let e3 : number date (written cs 3).bytes ≡ Some h.date = ap (number date) (column_back 3) ∙ number_read_back date h.date (omega arith) k.date in
+      let e4 : number origin_id (written cs 4).bytes ≡ Some h.origin = ap (number origin_id) (column_back 4) ∙ number_read_back origin_id h.origin k.origin.0 k.origin.1 in
       let more = column_bytes (columns_from b.at (remark space h.comment.bytes)) in
       let count : length cs ≡ length ((bytes "#BOS" ∷ heading_columns h) ++ more) = sym (length-map cs (λ (c : Column). c.text.bytes)) ∙ ap length b.texts in
       let long : ltb 4 (length cs) ≡ true = lt-ltb 4 (length cs) (omega (arith, count)) in

@@ -5,7 +5,7 @@ use native.Mathlib.Omega.{arith}
 use mathlib.Core.Path.{◌≡◌, refl, sym, ap, ◌∙◌, subst}
 use mathlib.Core.Logic.{◌⊎◌, inl, inr, ◌↔◌}
 use mathlib.Core.Bool.{Bool, true, false, false≢true}
-use mathlib.Core.Option.{Option, none, some}
+use Rattle.std.specs.Prelude.{Option, None, Some}
 use mathlib.Core.List.{List, [], ◌∷◌}
 use lib.ListN.{length, get_or, drop}
 use lib.Dec.{ltb}
@@ -74,7 +74,7 @@ fields_none [] e = refl
 fields_none (t ∷ ts) e = absurd (let z : ◌≡◌ {A = ℕ} 0 1 = cc in omega arith)
 
 -- a number is no comment sign
-not_sign : (o : List ℕ → Option ℕ) (xs : List ℕ) → o percents ≡ none → good (o xs) ≡ true → xs ≡ percents → ⊥
+not_sign : (o : List ℕ → Option ℕ) (xs : List ℕ) → o percents ≡ None → good (o xs) ≡ true → xs ≡ percents → ⊥
 not_sign o xs n g e = false≢true (sym (ap good n) ∙ sym (ap (λ (xs : List ℕ). good (o xs)) e) ∙ g)
 
 -- five columns in front, none of them a comment sign, and no other behind them
@@ -144,13 +144,13 @@ module _ (line : Text) (ts : List TableLines) where
       let e = signed_id (written cs 2).bytes in
       let d = number date (written cs 3).bytes in
       let o = number origin_id (written cs 4).bytes in
-      let is_n : n ≡ some head.number =
+      let is_n : n ≡ Some head.number =
       ap (number sentence_number) (are.at 1 (omega arith)) ∙ (number_said sentence_number t.number_text head.number).1 t.number_written in
-      let is_e : e ≡ some head.editor1 =
+      let is_e : e ≡ Some head.editor1 =
       ap signed_id (are.at 2 (omega arith)) ∙ (id_said t.editor_text head.editor1).1 t.editor_written in
-      let is_d : d ≡ some head.date =
+      let is_d : d ≡ Some head.date =
       ap (number date) (are.at 3 (omega arith)) ∙ (number_said date t.date_text head.date).1 t.date_written in
-      let is_o : o ≡ some head.origin =
+      let is_o : o ≡ Some head.origin =
       ap (number origin_id) (are.at 4 (omega arith)) ∙ (number_said origin_id t.origin_text head.origin).1 t.origin_written in
       let v_n : value n ≡ head.number = some_value n head.number is_n in
       let v_e : value e ≡ head.editor1 = some_value e head.editor1 is_e in

@@ -3,7 +3,7 @@
 use Prim.Native.Nat.{ℕ, zero, suc, ◌+◌, ◌≤◌, ◌<◌}
 use mathlib.Core.Path.{◌≡◌, sym, ◌∙◌, subst}
 use mathlib.Core.Bool.{Bool, true, false, ◌&&◌}
-use mathlib.Core.Option.{Option, none, some}
+use Rattle.std.specs.Prelude.{Option, None, Some}
 use mathlib.Core.List.{List, [], ◌∷◌, ◌++◌, map}
 use native.Mathlib.Nat.{add-zero, add-suc, suc-add}
 use lib.ListN.{length, set}
@@ -19,15 +19,15 @@ use Rattle.rules.proofs.SentencesKept.{bare_sentence, PartKept, SentenceKept}
 -- ---- tables
 
 abbrev pub TableKept : ℕ → Option (List Row) → Type 0
-TableKept n none = Unit {0}
-TableKept n (some rs) = RowsKept n [] (map bare_row rs)
+TableKept n None = Unit {0}
+TableKept n (Some rs) = RowsKept n [] (map bare_row rs)
 
 -- the tables from the n-th on
 abbrev pub TablesKept : ℕ → Tables → Type 0
 TablesKept n [] = Unit {0}
 TablesKept n (t ∷ ts) = TableKept n t × TablesKept (suc n) ts
 
-pub tables_closed : (k n : ℕ) (ts : Tables) (rs : List Row) → TablesKept k ts → RowsKept (k + n) [] (map bare_row rs) → TablesKept k (set ts n (some rs))
+pub tables_closed : (k n : ℕ) (ts : Tables) (rs : List Row) → TablesKept k ts → RowsKept (k + n) [] (map bare_row rs) → TablesKept k (set ts n (Some rs))
 tables_closed k n [] rs t r = tt
 tables_closed k zero (o ∷ ts) rs t r = (subst (λ (i : ℕ). RowsKept i [] (map bare_row rs)) (add-zero k) r, t.1)
 tables_closed k (suc n) (o ∷ ts) rs t r =

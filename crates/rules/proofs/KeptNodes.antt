@@ -4,7 +4,7 @@ use Prim.Native.Nat.{ℕ, ◌+◌, ◌≤◌}
 use native.Mathlib.Omega.{arith}
 use mathlib.Core.Path.{◌≡◌, refl, sym, ap, ◌∙◌, subst}
 use mathlib.Core.Bool.{true, false}
-use mathlib.Core.Option.{some}
+use Rattle.std.specs.Prelude.{Some}
 use mathlib.Core.List.{List, [], ◌∷◌, ◌++◌, map}
 use lib.ListN.{length, drop, length-map}
 use Rattle.rules.specs.Lists.{every, same, bytes}
@@ -121,7 +121,7 @@ module _ (ss : List Sentence) (line : Text) (f : LineFit line.bytes) (p : Preamb
       let n = phrase_read format ts (so_far s) line i in
       let c = o.first.text.bytes in
       let field : (text fs 0).bytes ≡ c = ap (λ (l : List Text). (text l 0).bytes) o.fields in
-      let numbered : number phrase_number (drop 1 c) ≡ some i = ap (λ (x : List ℕ). number phrase_number (drop 1 x)) (sym field) ∙ h.number in
+      let numbered : number phrase_number (drop 1 c) ≡ Some i = ap (λ (x : List ℕ). number phrase_number (drop 1 x)) (sym field) ∙ h.number in
       let starts : starts_phrase o.first.text ≡ true = ap starts_phrase (sym o.column) ∙ begins in
       let is : node_name n ≡ c = ap (λ (x : List ℕ). 35 ∷ x) (number_again phrase_number (drop 1 c) i numbered) ∙ sym (hash_form c starts) in
       let kept : PhraseKept p.format (means p) (bare_node n) = record {

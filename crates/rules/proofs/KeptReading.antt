@@ -4,7 +4,7 @@ use Prim.Native.Nat.{ℕ, suc, ◌≤◌}
 use native.Mathlib.Omega.{arith}
 use mathlib.Core.Path.{◌≡◌, refl, sym, ap, ap₂, ◌∙◌, subst}
 use mathlib.Core.Bool.{Bool, true, false, ◌&&◌}
-use mathlib.Core.Option.{Option, none, some}
+use Rattle.std.specs.Prelude.{Option, None, Some}
 use mathlib.Core.List.{List, [], ◌∷◌, map}
 use lib.Dec.{eqb}
 use Rattle.rules.specs.Lists.{pick, member, sorted}
@@ -35,9 +35,9 @@ used_same hs n =
 
 pub record ReadingKept (r : Reading) : Type 0 where
   pub phase : PhaseKept r.phase (bares r.handed)
-  pub fault : (f : Fault) → r.fault ≡ some f → 1 ≤ f.number
+  pub fault : (f : Fault) → r.fault ≡ Some f → 1 ≤ f.number
 
-no_fault_lem : (f : Fault) → ◌≡◌ {A = Option Fault} none (some f) → 1 ≤ f.number
+no_fault_lem : (f : Fault) → ◌≡◌ {A = Option Fault} None (Some f) → 1 ≤ f.number
 no_fault_lem f e = absurd (let z : ◌≡◌ {A = ℕ} 0 1 = cc in omega arith)
 
 ended_kept : (r : Reading) (a : Answer) → ReadingKept r → KeptAnswer (bares r.handed) a → ReadingKept (ended r a)
@@ -61,8 +61,8 @@ byte_kept r b k = by r.fault refl
     at_line false = record { phase = k.phase; fault = no_fault_lem }
 
     by : (o : Option Fault) → r.fault ≡ o → ReadingKept (byte_unless o r b)
-    by none e = at_line (eqb b newline)
-    by (some f) e = record { phase = k.phase; fault = λ g q. let z : f ≡ g = cc in subst (λ (x : Fault). 1 ≤ x.number) z (k.fault f e) }
+    by None e = at_line (eqb b newline)
+    by (Some f) e = record { phase = k.phase; fault = λ g q. let z : f ≡ g = cc in subst (λ (x : Fault). 1 ≤ x.number) z (k.fault f e) }
 
 pub read_kept : (r : Reading) (bs : List ℕ) → ReadingKept r → ReadingKept (read r bs)
 read_kept r [] k = k
@@ -127,8 +127,8 @@ closing_ends r k e = by r.fault refl e
     unended (b ∷ bs) e = absurd (some_number 2 e)
 
     by : (o : Option Fault) → r.fault ≡ o → (closing_unless o r).number ≡ 0 → Ends r
-    by none q e = unended r.part e
-    by (some f) q e = absurd (omega (arith, k.fault f q))
+    by None q e = unended r.part e
+    by (Some f) q e = absurd (omega (arith, k.fault f q))
 
 -- what a list of bare sentences means
 abbrev pub meant_by : Preamble → List Sentence → Meaning

@@ -4,7 +4,7 @@ use native.Mathlib.Nat.{zero-add}
 use native.Mathlib.Omega.{arith}
 use mathlib.Core.Path.{◌≡◌, refl, sym, ap, ◌∙◌, subst}
 use mathlib.Core.Bool.{Bool, true, false, ◌||◌}
-use mathlib.Core.Option.{Option, none, some}
+use Rattle.std.specs.Prelude.{Option, None, Some}
 use mathlib.Core.List.{List, [], ◌∷◌, map}
 use lib.ListN.{length, length-set}
 use lib.Dec.{ltb, eqb}
@@ -37,18 +37,18 @@ use Rattle.rules.proofs.KeptNodes.{nodes_kept}
 -- ---- the place of a table's name
 
 abbrev Below : ℕ → Option ℕ → Type 0
-Below k none = Unit {0}
-Below k (some m) = m < k
+Below k None = Unit {0}
+Below k (Some m) = m < k
 
 place_below : (n : ℕ) (t : Text) (xs : List (List ℕ)) → Below (n + length xs) (place_from n t xs)
 place_below n t [] = tt
 place_below n t (x ∷ xs) = by (reads x t) (place_below (suc n) t xs)
   where
     more : (o : Option ℕ) → Below (suc n + length xs) o → Below (n + suc (length xs)) o
-    more none h = tt
-    more (some m) h = omega (arith, h)
+    more None h = tt
+    more (Some m) h = omega (arith, h)
 
-    by : (b : Bool) → Below (suc n + length xs) (place_from (suc n) t xs) → Below (n + suc (length xs)) (pick b (some n) (place_from (suc n) t xs))
+    by : (b : Bool) → Below (suc n + length xs) (place_from (suc n) t xs) → Below (n + suc (length xs)) (pick b (Some n) (place_from (suc n) t xs))
     by true h = omega arith
     by false h = more (place_from (suc n) t xs) h
 
@@ -56,8 +56,8 @@ named_below : (t : Text) → value (table_named t) < 7
 named_below t = by (table_named t) (place_below 0 t table_names)
   where
     by : (o : Option ℕ) → Below 7 o → value o < 7
-    by none h = omega arith
-    by (some m) h = h
+    by None h = omega arith
+    by (Some m) h = h
 
 -- ---- one line
 
@@ -125,7 +125,7 @@ module _ (ss : List Sentence) (line : Text) where
         (λ h. (
           record {
             format = k.format;
-            seven = length-set p.tables n (some rs) ∙ k.seven;
+            seven = length-set p.tables n (Some rs) ∙ k.seven;
             tables = tables_closed 0 n p.tables rs k.tables (subst (λ (i : ℕ). RowsKept i [] (map bare_row rs)) (sym (zero-add n)) t.rows);
           },
           t.nothing,

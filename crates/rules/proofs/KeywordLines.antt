@@ -4,7 +4,7 @@ use Prim.Native.Nat.{ℕ, zero, suc, ◌≤◌, ◌<◌}
 use native.Mathlib.Omega.{arith}
 use mathlib.Core.Path.{◌≡◌, refl, sym, ap, ◌∙◌}
 use mathlib.Core.Bool.{true, false, not, ◌&&◌}
-use mathlib.Core.Option.{Option, some}
+use Rattle.std.specs.Prelude.{Option, Some}
 use mathlib.Core.List.{List, [], ◌∷◌, ◌++◌}
 use lib.ListN.{length, get_or, length-map, get_or-map}
 use lib.Dec.{ltb, eqb}
@@ -69,7 +69,7 @@ module _ (n at : ℕ) where
   pub format_passes : n ≡ 3 → format_of format_printed ≡ granted n
   unfolding format_of
   format_passes e =
-      let back : number format_number (written (columns format_printed) 1).bytes ≡ some n =
+      let back : number format_number (written (columns format_printed) 1).bytes ≡ Some n =
       ap (number format_number) (second (bytes "#FORMAT") (digits_of n) format_solid at) ∙ number_read_back format_number n (omega arith) (omega (arith, e)) in
       holds_granted _ _
       (and_both _ _ (eq-eqb (length (columns format_printed)) 2 (two (bytes "#FORMAT") (digits_of n) format_solid at))
@@ -89,7 +89,7 @@ module _ (s : Sentence) (at : ℕ) where
   unfolding end_of end_rules
   end_passes low high whole parents =
       let n = s.heading.number in
-      let back : number sentence_number (written (columns end_line) 1).bytes ≡ some n =
+      let back : number sentence_number (written (columns end_line) 1).bytes ≡ Some n =
       ap (number sentence_number) (second (bytes "#EOS") (digits_of n) end_solid at) ∙ number_read_back sentence_number n low high in
       holds_granted _ _
       (and_both _ _ (eq-eqb (length (columns end_line)) 2 (two (bytes "#EOS") (digits_of n) end_solid at))
@@ -104,7 +104,7 @@ pub record Named (n : ℕ) : Type 0 where
   pub solid : solid (table_name n) ≡ true
   pub lawful : every legal (table_name n) ≡ true
   pub short : length (table_name n) ≤ 10
-  pub place : (at : ℕ) → table_named (record { start = at; bytes = table_name n }) ≡ some n
+  pub place : (at : ℕ) → table_named (record { start = at; bytes = table_name n }) ≡ Some n
 
 pub named : (n : ℕ) → n < 7 → Named n
 named zero h = record { solid = refl; lawful = refl; short = omega arith; place = λ at. refl }
@@ -124,7 +124,7 @@ module _ (n : ℕ) (h : n < 7) (at : ℕ) where
     table_solid : every solid (keyword ∷ table_name n ∷ []) ≡ true
     table_solid = and_both (solid keyword) (solid (table_name n) && true) s (and_both (solid (table_name n)) true (named n h).solid refl)
 
-    place_read : table_named (written (columns (table_line keyword)) 1) ≡ some n
+    place_read : table_named (written (columns (table_line keyword)) 1) ≡ Some n
     place_read =
         let t = written (columns (table_line keyword)) 1 in
         ap (λ (xs : List ℕ). table_named (record { start = t.start; bytes = xs })) (second keyword (table_name n) table_solid at) ∙ (named n h).place t.start

@@ -5,7 +5,7 @@ use native.Mathlib.Omega.{arith}
 use mathlib.Core.Path.{◌≡◌, refl, sym, ap, ◌∙◌, subst}
 use mathlib.Core.Logic.{inr}
 use mathlib.Core.Bool.{Bool, true, false, false≢true, not, ◌||◌}
-use mathlib.Core.Option.{Option, none, some}
+use Rattle.std.specs.Prelude.{Option, None, Some}
 use mathlib.Core.List.{List, [], ◌∷◌, map}
 use lib.ListN.{length, get_or}
 use lib.Dec.{ltb, eqb}
@@ -114,7 +114,7 @@ module _ (K : Phase → List Sentence → Type 0) (out : List Sentence) (line : 
   unfolding format_of
   format_grants f format t goes_on =
       let n = number format_number (written (columns line) 1).bytes in
-      let e : n ≡ some format = ap (number format_number) (name_second line (bytes "#FORMAT") t.number_text t.columns) ∙ (number_said format_number t.number_text format).1 t.number_written in
+      let e : n ≡ Some format = ap (number format_number) (name_second line (bytes "#FORMAT") t.number_text t.columns) ∙ (number_said format_number t.number_text format).1 t.number_written in
       let v : value n ≡ format = some_value n format e in
       held_through K out f _ _ (
         eq-eqb (length (columns line)) 2 (columns_two line (bytes "#FORMAT") t.number_text t.columns),
@@ -144,8 +144,8 @@ module _ (K : Phase → List Sentence → Type 0) (out : List Sentence) (line : 
     where
       by : (o : Option ℕ) → table_named (written (columns line) 1) ≡ o → fresh T o ≡ true
           → all_columns line.bytes ≡ column_at 0 line.bytes ∷ (written (columns line) 1).bytes ∷ [] → Through K out (f (value o)) → TableBegun f T
-      by none e h c g = absurd (false≢true h)
-      by (some n) e h c g =
+      by None e h c g = absurd (false≢true h)
+      by (Some n) e h c g =
           let m = named_is (written (columns line) 1) n e in
           record {
             which = n;
@@ -173,8 +173,8 @@ module _ (K : Phase → List Sentence → Type 0) (out : List Sentence) (line : 
     where
       by : (o : Option ℕ) → table_named (written (columns line) 1) ≡ o → itself n o ≡ true
           → all_columns line.bytes ≡ column_at 0 line.bytes ∷ (written (columns line) 1).bytes ∷ [] → Names (bytes "#EOT") n line.bytes
-      by none e h c = absurd (false≢true h)
-      by (some m) e h c =
+      by None e h c = absurd (false≢true h)
+      by (Some m) e h c =
           let s = named_is (written (columns line) 1) m e in
           columns_said line.bytes (bytes "#EOT" ∷ get_or table_names n [] ∷ [])
           (c ∙ ap (λ (x : List ℕ). x ∷ (written (columns line) 1).bytes ∷ []) q

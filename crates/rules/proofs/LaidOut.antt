@@ -4,7 +4,7 @@ use Prim.Native.Nat.{ℕ, suc, ◌+◌, ◌≤◌}
 use native.Mathlib.Omega.{arith}
 use mathlib.Core.Path.{◌≡◌, refl}
 use mathlib.Core.Bool.{Bool, true, false}
-use mathlib.Core.Option.{none, some}
+use Rattle.std.specs.Prelude.{None, Some}
 use mathlib.Core.List.{List, [], ◌∷◌, ◌++◌, map}
 use lib.ListN.{length, length-append, length-map}
 use Rattle.rules.specs.Lists.{pick, Each}
@@ -35,8 +35,8 @@ rows_fit n done (r ∷ rs) h k =
 
 tables_fit : (n : ℕ) (ts : Tables) → TablesKept n ts → Each FewRows ts
 tables_fit n [] k = tt
-tables_fit n (none ∷ ts) k = (omega arith, tables_fit (suc n) ts k.1)
-tables_fit n (some rs ∷ ts) k =
+tables_fit n (None ∷ ts) k = (omega arith, tables_fit (suc n) ts k.1)
+tables_fit n (Some rs ∷ ts) k =
     (omega (arith, length-map rs bare_row, rows_fit n [] (map bare_row rs) (omega arith) k.0), tables_fit (suc n) ts k.1)
 
 -- the seven tables of any reading, none with more rows than there is room for

@@ -5,7 +5,7 @@ use native.Mathlib.Omega.{arith}
 use mathlib.Core.Path.{◌≡◌, refl, sym, ap, ◌∙◌, subst}
 use mathlib.Core.Logic.{inl}
 use mathlib.Core.Bool.{Bool, true, false}
-use mathlib.Core.Option.{Option, none, some}
+use Rattle.std.specs.Prelude.{Option, None, Some}
 use mathlib.Core.List.{List, [], ◌∷◌, ◌++◌, append-nil, reverse}
 use lib.ListN.{length, length-reverse}
 use Rattle.rules.specs.Lists.{pick}
@@ -62,7 +62,7 @@ end_not_three (behind_sentence p) e = omega arith
 pub unended_only : (f : List ℕ) → WithinLimit f → (survey_of f).refusal ≡ 3 → Unended f
 unended_only f fits z = by (read begin f).fault refl (sym (ap (λ (v : Survey). v.refusal) (survey_is f fits)) ∙ z)
   where
-    rest_of : (read begin f).fault ≡ none → (part : List ℕ) → (read begin f).part ≡ part → (closing (read begin f) part).number ≡ 3 → Unended f
+    rest_of : (read begin f).fault ≡ None → (part : List ℕ) → (read begin f).part ≡ part → (closing (read begin f) part).number ≡ 3 → Unended f
     rest_of e [] q y = absurd (end_not_three (read begin f).phase y)
     rest_of e (b ∷ bs) q y =
         let r = ends_at_line f in
@@ -82,5 +82,5 @@ unended_only f fits z = by (read begin f).fault refl (sym (ap (λ (v : Survey). 
         }
 
     by : (o : Option Fault) → (read begin f).fault ≡ o → (closing_unless o (read begin f)).number ≡ 3 → Unended f
-    by none e y = rest_of e (read begin f).part refl y
-    by (some g) e y = absurd (omega (arith, fault_four f g e, y))
+    by None e y = rest_of e (read begin f).part refl y
+    by (Some g) e y = absurd (omega (arith, fault_four f g e, y))

@@ -5,7 +5,7 @@ use native.Mathlib.Omega.{arith}
 use mathlib.Core.Path.{◌≡◌, refl, subst}
 use mathlib.Core.Logic.{inl, inr}
 use mathlib.Core.Bool.{Bool, true, false, ◌&&◌}
-use mathlib.Core.Option.{Option, none, some}
+use Rattle.std.specs.Prelude.{Option, None, Some}
 use mathlib.Core.List.{List, [], ◌∷◌, ◌++◌}
 use lib.Dec.{leb}
 use lib.ListN.{take, drop, take-append-drop}
@@ -31,24 +31,24 @@ pub record Refusing (rs : List Rule) (q : Rule) : Type 0 where
   pub fails : q.holds ≡ false
   pub smallest : Each (λ (r : Rule). r.holds ≡ false → q.number ≤ r.number) rs
 
-some_is : (p q : Rule) → some p ≡ some q → p ≡ q
+some_is : (p q : Rule) → Some p ≡ Some q → p ≡ q
 some_is p q e = cc
 
 refusing_more : (r : Rule) (rs : List Rule) (q : Rule) → (r.holds ≡ false → q.number ≤ r.number) → Refusing rs q → Refusing (r ∷ rs) q
 refusing_more r rs q h k = record { one = inr k.one; fails = k.fails; smallest = (h, k.smallest) }
 
 -- all of them hold
-none_smaller : (rs : List Rule) (n : ℕ) → broken rs ≡ none → Each (λ (r : Rule). r.holds ≡ false → n ≤ r.number) rs
+none_smaller : (rs : List Rule) (n : ℕ) → broken rs ≡ None → Each (λ (r : Rule). r.holds ≡ false → n ≤ r.number) rs
 unfolding broken
 none_smaller [] n e = tt
 none_smaller (r ∷ rs) n e = by r.holds refl e (none_smaller rs n)
   where
-    by : (t : Bool) → r.holds ≡ t → pick t (broken rs) (some (sooner r (broken rs))) ≡ none → (broken rs ≡ none → Each (λ (x : Rule). x.holds ≡ false → n ≤ x.number) rs)
+    by : (t : Bool) → r.holds ≡ t → pick t (broken rs) (Some (sooner r (broken rs))) ≡ None → (broken rs ≡ None → Each (λ (x : Rule). x.holds ≡ false → n ≤ x.number) rs)
         → Each (λ (x : Rule). x.holds ≡ false → n ≤ x.number) (r ∷ rs)
     by true h e more = (λ f. absurd (never_both r.holds h f), more e)
     by false h e more = absurd (let z : ◌≡◌ {A = ℕ} 0 1 = cc in omega arith)
 
-pub refusing : (rs : List Rule) (q : Rule) → broken rs ≡ some q → Refusing rs q
+pub refusing : (rs : List Rule) (q : Rule) → broken rs ≡ Some q → Refusing rs q
 unfolding broken
 refusing [] q e = absurd (let z : ◌≡◌ {A = ℕ} 0 1 = cc in omega arith)
 refusing (r ∷ rs) q e = by r.holds refl e (refusing rs)
@@ -56,9 +56,9 @@ refusing (r ∷ rs) q e = by r.holds refl e (refusing rs)
     itself : r.holds ≡ false → Each (λ (x : Rule). x.holds ≡ false → r.number ≤ x.number) rs → r ≡ q → Refusing (r ∷ rs) q
     itself h k z = subst (Refusing (r ∷ rs)) z (record { one = inl refl; fails = h; smallest = (λ f. omega arith, k) })
 
-    either : (o : Option Rule) → broken rs ≡ o → r.holds ≡ false → sooner r o ≡ q → ((p : Rule) → broken rs ≡ some p → Refusing rs p) → Refusing (r ∷ rs) q
-    either none b h z more = itself h (none_smaller rs r.number b) z
-    either (some p) b h z more = which (leb r.number p.number) refl z
+    either : (o : Option Rule) → broken rs ≡ o → r.holds ≡ false → sooner r o ≡ q → ((p : Rule) → broken rs ≡ Some p → Refusing rs p) → Refusing (r ∷ rs) q
+    either None b h z more = itself h (none_smaller rs r.number b) z
+    either (Some p) b h z more = which (leb r.number p.number) refl z
       where
         which : (t : Bool) → leb r.number p.number ≡ t → pick t r p ≡ q → Refusing (r ∷ rs) q
         which true l z =
@@ -66,11 +66,11 @@ refusing (r ∷ rs) q e = by r.holds refl e (refusing rs)
             (λ x k f. omega (arith, leb-true r.number p.number l, k f)) rs (more p b).smallest) z
         which false l z = subst (Refusing (r ∷ rs)) z (refusing_more r rs p (λ f. omega (arith, leb-false r.number p.number l)) (more p b))
 
-    by : (t : Bool) → r.holds ≡ t → pick t (broken rs) (some (sooner r (broken rs))) ≡ some q → ((p : Rule) → broken rs ≡ some p → Refusing rs p) → Refusing (r ∷ rs) q
+    by : (t : Bool) → r.holds ≡ t → pick t (broken rs) (Some (sooner r (broken rs))) ≡ Some q → ((p : Rule) → broken rs ≡ Some p → Refusing rs p) → Refusing (r ∷ rs) q
     by true h e more = refusing_more r rs q (λ f. absurd (never_both r.holds h f)) (more q e)
     by false h e more = either (broken rs) refl h (some_is (sooner r (broken rs)) q e) more
 
-pub leftmost : (rs : List Rule) (q : Rule) → LeftToRight rs → broken rs ≡ some q → Each (NotLeft q) rs
+pub leftmost : (rs : List Rule) (q : Rule) → LeftToRight rs → broken rs ≡ Some q → Each (NotLeft q) rs
 unfolding broken
 leftmost [] q o e = tt
 leftmost (r ∷ rs) q o e = by r.holds refl e (leftmost rs)
@@ -78,9 +78,9 @@ leftmost (r ∷ rs) q o e = by r.holds refl e (leftmost rs)
     itself : r ≡ q → Each (NotLeft q) (r ∷ rs)
     itself z = subst (λ (x : Rule). Each (NotLeft x) (r ∷ rs)) z (λ g f n. omega arith, o.0)
 
-    either : (p : Option Rule) → broken rs ≡ p → sooner r p ≡ q → ((x : Rule) → LeftToRight rs → broken rs ≡ some x → Each (NotLeft x) rs) → Each (NotLeft q) (r ∷ rs)
-    either none b z more = itself z
-    either (some p) b z more = which (leb r.number p.number) refl z
+    either : (p : Option Rule) → broken rs ≡ p → sooner r p ≡ q → ((x : Rule) → LeftToRight rs → broken rs ≡ Some x → Each (NotLeft x) rs) → Each (NotLeft q) (r ∷ rs)
+    either None b z more = itself z
+    either (Some p) b z more = which (leb r.number p.number) refl z
       where
         which : (t : Bool) → leb r.number p.number ≡ t → pick t r p ≡ q → Each (NotLeft q) (r ∷ rs)
         which true l z = itself z
@@ -88,7 +88,7 @@ leftmost (r ∷ rs) q o e = by r.holds refl e (leftmost rs)
             subst (λ (x : Rule). Each (NotLeft x) (r ∷ rs)) z
             (λ g f n. absurd (omega (arith, leb-false r.number p.number l, n)), more p o.1 b)
 
-    by : (t : Bool) → r.holds ≡ t → pick t (broken rs) (some (sooner r (broken rs))) ≡ some q → ((x : Rule) → LeftToRight rs → broken rs ≡ some x → Each (NotLeft x) rs) → Each (NotLeft q) (r ∷ rs)
+    by : (t : Bool) → r.holds ≡ t → pick t (broken rs) (Some (sooner r (broken rs))) ≡ Some q → ((x : Rule) → LeftToRight rs → broken rs ≡ Some x → Each (NotLeft x) rs) → Each (NotLeft q) (r ∷ rs)
     by true h e more = (λ g f n. absurd (never_both r.holds h f), more q o.1 e)
     by false h e more = either (broken rs) refl (some_is (sooner r (broken rs)) q e) more
 

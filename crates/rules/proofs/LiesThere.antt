@@ -5,7 +5,7 @@ use native.Mathlib.Omega.{arith}
 use mathlib.Core.Path.{◌≡◌, refl, sym, ap, ◌∙◌, subst}
 use mathlib.Core.Logic.{inl, inr}
 use mathlib.Core.Bool.{Bool, true, false}
-use mathlib.Core.Option.{Option, some}
+use Rattle.std.specs.Prelude.{Option, Some}
 use mathlib.Core.List.{List, [], ◌∷◌, ◌++◌, append_assoc}
 use lib.ListN.{length, take, drop, length-append, set}
 use lib.Seq.{drop_at}
@@ -54,7 +54,7 @@ module _ (file : List ℕ) where
   phase_tables (in_sentence p s) k = k.0
   phase_tables (behind_sentence p) k = k
 
-  closed_lies : (ts : Tables) (n : ℕ) (rs : List Row) → TablesLie ts → Each (RowLies file) rs → TablesLie (set ts n (some rs))
+  closed_lies : (ts : Tables) (n : ℕ) (rs : List Row) → TablesLie ts → Each (RowLies file) rs → TablesLie (set ts n (Some rs))
   closed_lies [] n rs k l = tt
   closed_lies (t ∷ ts) zero rs k l = (l, k.1)
   closed_lies (t ∷ ts) (suc n) rs k l = (k.0, closed_lies ts n rs k.1 l)

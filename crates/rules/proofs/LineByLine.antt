@@ -3,7 +3,7 @@
 use Prim.Native.Nat.{ℕ}
 use mathlib.Core.Path.{◌≡◌, refl, sym, ap, subst}
 use mathlib.Core.Bool.{Bool, true, false}
-use mathlib.Core.Option.{Option, none, some}
+use Rattle.std.specs.Prelude.{Option, None, Some}
 use mathlib.Core.List.{List, [], ◌∷◌, ◌++◌, map}
 use lib.ListN.{length}
 use borrow.Author.Tests.{le-leb, leb-true}
@@ -43,8 +43,8 @@ module _ {A : Type 0} (K : Phase → List Sentence → Type 0) (out : List Sente
   through_held = by (broken rs) refl
     where
       by : (o : Option Rule) → broken rs ≡ o → Through K out (next f (unless o a)) → Hold rs × Through K out (f a)
-      by none e t = (every_each holds_of rs (none_broken rs e), t)
-      by (some q) e t = absurd t
+      by None e t = (every_each holds_of rs (none_broken rs e), t)
+      by (Some q) e t = absurd t
 
   pub held_through : Hold rs → Through K out (f a) → Through K out (next f (checked rs a))
   unfolding checked

@@ -5,7 +5,7 @@ use native.Mathlib.Omega.{arith}
 use mathlib.Core.Path.{◌≡◌, refl, sym, ap, ◌∙◌, subst}
 use mathlib.Core.Logic.{◌⊎◌, inl, inr}
 use mathlib.Core.Bool.{Bool, true, false, false≢true, not, ◌&&◌}
-use mathlib.Core.Option.{Option, none, some}
+use Rattle.std.specs.Prelude.{Option, None, Some}
 use mathlib.Core.List.{List, [], ◌∷◌, ◌++◌}
 use lib.ListN.{length, drop}
 use lib.Dec.{eqb}
@@ -53,20 +53,20 @@ first_given l s = let b = begins 0 l s in subst (λ (cs : List Column). 1 ≤ le
 
 -- ---- numbers
 
-within_some : (k : Kind) (o : Option ℕ) (n : ℕ) → within k o ≡ some n → (m : ℕ) × (o ≡ some m)
-within_some k none n e = absurd (let z : ◌≡◌ {A = ℕ} 0 1 = cc in omega arith)
-within_some k (some m) n e = (m, refl)
+within_some : (k : Kind) (o : Option ℕ) (n : ℕ) → within k o ≡ Some n → (m : ℕ) × (o ≡ Some m)
+within_some k None n e = absurd (let z : ◌≡◌ {A = ℕ} 0 1 = cc in omega arith)
+within_some k (Some m) n e = (m, refl)
 
-decimal_digits : (xs : List ℕ) (n : ℕ) → decimal xs ≡ some n → digits xs ≡ true
+decimal_digits : (xs : List ℕ) (n : ℕ) → decimal xs ≡ Some n → digits xs ≡ true
 unfolding decimal
 decimal_digits [] n e = absurd (let z : ◌≡◌ {A = ℕ} 0 1 = cc in omega arith)
 decimal_digits (x ∷ xs) n e = by (plain (x ∷ xs) && every digit (x ∷ xs)) refl e
   where
-    by : (t : Bool) → (plain (x ∷ xs) && every digit (x ∷ xs)) ≡ t → pick t (some (value_from 0 (x ∷ xs))) none ≡ some n → every digit (x ∷ xs) ≡ true
+    by : (t : Bool) → (plain (x ∷ xs) && every digit (x ∷ xs)) ≡ t → pick t (Some (value_from 0 (x ∷ xs))) None ≡ Some n → every digit (x ∷ xs) ≡ true
     by true h e = ((and_both_ways (plain (x ∷ xs)) (every digit (x ∷ xs))).0 h).1
     by false h e = absurd (let z : ◌≡◌ {A = ℕ} 0 1 = cc in omega arith)
 
-pub number_digits : (k : Kind) (xs : List ℕ) (n : ℕ) → number k xs ≡ some n → digits xs ≡ true
+pub number_digits : (k : Kind) (xs : List ℕ) (n : ℕ) → number k xs ≡ Some n → digits xs ≡ true
 number_digits k xs n e = let m = within_some k (decimal xs) n e in decimal_digits xs m.0 m.1
 
 -- what begins with a digit or a minus starts a row
@@ -79,17 +79,17 @@ digits_row t e = by t.bytes e
         let d = ((and_both_ways (digit x) (every digit xs)).0 e).0 in
         (not_both_ways (eqb x 35)).1 (λ q. never_both (digit x) d (ap digit (eqb-true x 35 q)))
 
-pub number_row : (k : Kind) (t : Text) (n : ℕ) → number k t.bytes ≡ some n → starts_row t ≡ true
+pub number_row : (k : Kind) (t : Text) (n : ℕ) → number k t.bytes ≡ Some n → starts_row t ≡ true
 number_row k t n e = digits_row t (number_digits k t.bytes n e)
 
-pub id_row : (t : Text) (n : ℕ) → signed_id t.bytes ≡ some n → starts_row t ≡ true
-id_row t n e = by (same t.bytes (bytes "-1")) refl (within_some id_plus_one (pick (same t.bytes (bytes "-1")) (some 0) (plus_one (decimal t.bytes))) n e).1
+pub id_row : (t : Text) (n : ℕ) → signed_id t.bytes ≡ Some n → starts_row t ≡ true
+id_row t n e = by (same t.bytes (bytes "-1")) refl (within_some id_plus_one (pick (same t.bytes (bytes "-1")) (Some 0) (plus_one (decimal t.bytes))) n e).1
   where
-    more : (m : ℕ) (o : Option ℕ) → decimal t.bytes ≡ o → plus_one o ≡ some m → starts_row t ≡ true
-    more m none d q = absurd (let z : ◌≡◌ {A = ℕ} 0 1 = cc in omega arith)
-    more m (some k) d q = digits_row t (decimal_digits t.bytes k d)
+    more : (m : ℕ) (o : Option ℕ) → decimal t.bytes ≡ o → plus_one o ≡ Some m → starts_row t ≡ true
+    more m None d q = absurd (let z : ◌≡◌ {A = ℕ} 0 1 = cc in omega arith)
+    more m (Some k) d q = digits_row t (decimal_digits t.bytes k d)
 
-    by : {m : ℕ} (b : Bool) → same t.bytes (bytes "-1") ≡ b → pick b (some 0) (plus_one (decimal t.bytes)) ≡ some m → starts_row t ≡ true
+    by : {m : ℕ} (b : Bool) → same t.bytes (bytes "-1") ≡ b → pick b (Some 0) (plus_one (decimal t.bytes)) ≡ Some m → starts_row t ≡ true
     by true s q = let e = (reads_are (bytes "-1") t).0 s in ap (λ (xs : List ℕ). not (empty xs) && not (hashed xs)) e
     by {m} false s q = more m (decimal t.bytes) refl q
 

@@ -5,7 +5,7 @@ use native.Mathlib.Omega.{arith}
 use mathlib.Core.Path.{◌≡◌, refl, sym, ap, ◌∙◌}
 use mathlib.Core.Logic.{inl, inr}
 use mathlib.Core.Bool.{Bool, true, false}
-use mathlib.Core.Option.{Option, none, some}
+use Rattle.std.specs.Prelude.{Option, None, Some}
 use mathlib.Core.List.{List, [], ◌∷◌, ◌++◌, append_assoc}
 use lib.ListN.{length, take, drop, get_or}
 use lib.Seq.{take_at, drop_at}
@@ -107,8 +107,8 @@ unfolding checked
 if_granted P bad f rs a p = by (broken rs)
   where
     by : (o : Option Rule) → P (next f (unless o a))
-    by none = p
-    by (some r) = bad r
+    by None = p
+    by (Some r) = bad r
 
 -- ---- of a line that stands in a file
 

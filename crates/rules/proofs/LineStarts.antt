@@ -4,7 +4,7 @@ use native.Mathlib.Omega.{arith}
 use mathlib.Core.Path.{◌≡◌, refl, sym, ap, ◌∙◌, subst}
 use mathlib.Core.Logic.{inl, inr}
 use mathlib.Core.Bool.{Bool, true, false, ◌||◌}
-use mathlib.Core.Option.{Option, none, some}
+use Rattle.std.specs.Prelude.{Option, None, Some}
 use mathlib.Core.List.{List, [], ◌∷◌, ◌++◌}
 use lib.ListN.{length, take, drop, get_or, get_or-append}
 use lib.Dec.{eqb}
@@ -57,7 +57,7 @@ starts_same (c ∷ cs) x y e =
 
 -- ---- the first line
 
-pub first_line_lem : (l x : List ℕ) → OneLine l → ended_line (l ++ (newline ∷ x)) ≡ some l
+pub first_line_lem : (l x : List ℕ) → OneLine l → ended_line (l ++ (newline ∷ x)) ≡ Some l
 unfolding ended_line
 first_line_lem [] x o = refl
 first_line_lem (b ∷ bs) x o = rw (ne_eqb b newline o.0, first_line_lem bs x o.1)
@@ -67,18 +67,18 @@ pub record FirstLine (bs l : List ℕ) : Type 0 where
   pub parts : bs ≡ l ++ (newline ∷ rest)
   pub one_line : OneLine l
 
-pub line_first : (bs l : List ℕ) → ended_line bs ≡ some l → FirstLine bs l
+pub line_first : (bs l : List ℕ) → ended_line bs ≡ Some l → FirstLine bs l
 unfolding ended_line
 line_first [] l e = absurd (let z : ◌≡◌ {A = ℕ} 0 1 = cc in omega arith)
 line_first (b ∷ bs) l e = by (eqb b newline) refl (ended_line bs) refl (line_first bs) e
   where
-    by : (t : Bool) → eqb b newline ≡ t → (o : Option (List ℕ)) → ended_line bs ≡ o → ((k : List ℕ) → ended_line bs ≡ some k → FirstLine bs k)
-        → pick t (some []) (put_in_front b o) ≡ some l → FirstLine (b ∷ bs) l
+    by : (t : Bool) → eqb b newline ≡ t → (o : Option (List ℕ)) → ended_line bs ≡ o → ((k : List ℕ) → ended_line bs ≡ Some k → FirstLine bs k)
+        → pick t (Some []) (put_in_front b o) ≡ Some l → FirstLine (b ∷ bs) l
     by true n o q more e =
         let nothing : [] ≡ l = cc in
         subst (FirstLine (b ∷ bs)) nothing (record { rest = bs; parts = ap (λ (c : ℕ). c ∷ bs) (eqb-true b newline n); one_line = tt })
-    by false n none q more e = absurd (let z : ◌≡◌ {A = ℕ} 0 1 = cc in omega arith)
-    by false n (some k) q more e =
+    by false n None q more e = absurd (let z : ◌≡◌ {A = ℕ} 0 1 = cc in omega arith)
+    by false n (Some k) q more e =
         let f = more k q in
         let its : b ∷ k ≡ l = cc in
         subst (FirstLine (b ∷ bs)) its (record { rest = f.rest; parts = ap (λ (ys : List ℕ). b ∷ ys) f.parts; one_line = (eqb-false b newline n, f.one_line) })

@@ -4,7 +4,7 @@ use Prim.Native.Nat.{ℕ, suc, ◌+◌}
 use native.Mathlib.Omega.{arith}
 use mathlib.Core.Path.{◌≡◌, refl, sym, ap, ◌∙◌, subst}
 use mathlib.Core.Bool.{Bool, true, false}
-use mathlib.Core.Option.{none}
+use Rattle.std.specs.Prelude.{None}
 use mathlib.Core.List.{List, [], ◌∷◌, ◌++◌, map, reverse, reverse-reverse, append-nil, append_assoc}
 use lib.ListN.{length}
 use lib.Dec.{eqb}
@@ -54,7 +54,7 @@ one_more_out hs h = map_append (λ (h : Handed). h.sentence) hs (h ∷ [])
 
 -- a reading in front of a line
 abbrev pub fresh : ℕ → Phase → List Handed → Reading
-fresh a ph hs = record { at = a; line_start = a; part = []; phase = ph; handed = hs; fault = none }
+fresh a ph hs = record { at = a; line_start = a; part = []; phase = ph; handed = hs; fault = None }
 
 module _ (rest : List ℕ) (u : Unended rest) where
   closing_nothing : (r : Reading) (part : List ℕ) → part ≡ reverse rest ++ [] → (closing r part).number ≡ 0 → Ends rest r.phase []
@@ -64,7 +64,7 @@ module _ (rest : List ℕ) (u : Unended rest) where
   at_the_end : (a : ℕ) (ph : Phase) (hs : List Handed) → (verdict (read (fresh a ph hs) rest)).number ≡ 0 → Ends rest ph []
   at_the_end a ph hs z =
       let e = read_part (fresh a ph hs) rest refl u in
-      let s : Reading = record { at = a + length rest; line_start = a; part = reverse rest ++ []; phase = ph; handed = hs; fault = none } in
+      let s : Reading = record { at = a + length rest; line_start = a; part = reverse rest ++ []; phase = ph; handed = hs; fault = None } in
       closing_nothing s (reverse rest ++ []) refl (sym (ap (λ (r : Reading). (verdict r).number) e) ∙ z)
 
   -- what a reading of lines and a rest comes to
@@ -72,7 +72,7 @@ module _ (rest : List ℕ) (u : Unended rest) where
   Comes ls a ph hs = (verdict (read (fresh a ph hs) (lines_written ls ++ rest))).number ≡ 0
 
   abbrev line_end : (l : List ℕ) (a : ℕ) (ph : Phase) (hs : List Handed) → Reading
-  line_end l a ph hs = record { at = a + length l; line_start = a; part = reverse l; phase = ph; handed = hs; fault = none }
+  line_end l a ph hs = record { at = a + length l; line_start = a; part = reverse l; phase = ph; handed = hs; fault = None }
 
   one_line : (l : List ℕ) (ls : List (List ℕ)) (a : ℕ) (ph : Phase) (hs : List Handed) → Unended l
       → read (fresh a ph hs) (lines_written (l ∷ ls) ++ rest)

@@ -3,7 +3,7 @@
 use Prim.Native.Nat.{ℕ, zero, suc}
 use mathlib.Core.Path.{◌≡◌, refl, sym, ap, ap₂, ◌∙◌}
 use mathlib.Core.Bool.{Bool, not, ◌||◌}
-use mathlib.Core.Option.{Option, none, some}
+use Rattle.std.specs.Prelude.{Option, None, Some}
 use mathlib.Core.List.{List, [], ◌∷◌, map}
 use lib.ListN.{get_or-map}
 use lib.Dec.{eqb}
@@ -15,12 +15,12 @@ use Rattle.rules.specs.Meaning.{bare_row, row_id, meant_rows, by_id, meant_table
 use Rattle.rules.proofs.Sorting.{any_sorted, map_sorted, sorted_sorted}
 
 pub there_meant : (o : Option (List Row)) → there (meant_rows o) ≡ there o
-there_meant none = refl
-there_meant (some rs) = refl
+there_meant None = refl
+there_meant (Some rs) = refl
 
 there_by_id : (o : Option (List Row)) → there (meant_rows (by_id o)) ≡ there o
-there_by_id none = refl
-there_by_id (some rs) = refl
+there_by_id None = refl
+there_by_id (Some rs) = refl
 
 pub present_meant : (n : ℕ) (ts : Tables) → present n (meant_tables ts) ≡ present n ts
 present_meant n [] = refl
@@ -28,7 +28,7 @@ present_meant zero (o ∷ []) = there_by_id o
 present_meant (suc n) (o ∷ []) = refl
 present_meant zero (o ∷ e ∷ ts) = there_by_id o
 present_meant (suc zero) (o ∷ e ∷ ts) = there_by_id e
-present_meant (suc (suc n)) (o ∷ e ∷ ts) = ap there (get_or-map meant_rows ts n none) ∙ there_meant (table n ts)
+present_meant (suc (suc n)) (o ∷ e ∷ ts) = ap there (get_or-map meant_rows ts n None) ∙ there_meant (table n ts)
 
 -- a test of rows that doesn't see places
 module _ (f : Row → Bool) (placeless : (r : Row) → f (bare_row r) ≡ f r) where
@@ -37,12 +37,12 @@ module _ (f : Row → Bool) (placeless : (r : Row) → f (bare_row r) ≡ f r) w
   any_bare (r ∷ rs) = ap₂ ◌||◌ (placeless r) (any_bare rs)
 
   any_meant : (o : Option (List Row)) → any f (rows_of (meant_rows o)) ≡ any f (rows_of o)
-  any_meant none = refl
-  any_meant (some rs) = any_bare rs
+  any_meant None = refl
+  any_meant (Some rs) = any_bare rs
 
   any_by_id : (o : Option (List Row)) → any f (rows_of (meant_rows (by_id o))) ≡ any f (rows_of o)
-  any_by_id none = refl
-  any_by_id (some rs) = any_bare (sorted row_id rs) ∙ any_sorted row_id f rs
+  any_by_id None = refl
+  any_by_id (Some rs) = any_bare (sorted row_id rs) ∙ any_sorted row_id f rs
 
   pub rows_meant : (n : ℕ) (ts : Tables) → any f (rows_of (table n (meant_tables ts))) ≡ any f (rows_of (table n ts))
   rows_meant n [] = refl
@@ -50,7 +50,7 @@ module _ (f : Row → Bool) (placeless : (r : Row) → f (bare_row r) ≡ f r) w
   rows_meant (suc n) (o ∷ []) = refl
   rows_meant zero (o ∷ e ∷ ts) = any_by_id o
   rows_meant (suc zero) (o ∷ e ∷ ts) = any_by_id e
-  rows_meant (suc (suc n)) (o ∷ e ∷ ts) = ap (λ (o : Option (List Row)). any f (rows_of o)) (get_or-map meant_rows ts n none) ∙ any_meant (table n ts)
+  rows_meant (suc (suc n)) (o ∷ e ∷ ts) = ap (λ (o : Option (List Row)). any f (rows_of o)) (get_or-map meant_rows ts n None) ∙ any_meant (table n ts)
 
 pub has_id_meant : (i n : ℕ) (ts : Tables) → has_id i (rows_of (table n (meant_tables ts))) ≡ has_id i (rows_of (table n ts))
 unfolding has_id
@@ -73,12 +73,12 @@ known_origin_meant ts n = has_id_meant (suc n) origins ts
 -- ---- tables with the texts of what is meant mean the same
 
 pub meant_by_id : (o : Option (List Row)) → meant_rows (by_id o) ≡ by_id (meant_rows o)
-meant_by_id none = refl
-meant_by_id (some rs) = ap some (map_sorted row_id row_id bare_row (λ r. refl) rs)
+meant_by_id None = refl
+meant_by_id (Some rs) = ap Some (map_sorted row_id row_id bare_row (λ r. refl) rs)
 
 by_id_twice : (o : Option (List Row)) → by_id (by_id o) ≡ by_id o
-by_id_twice none = refl
-by_id_twice (some rs) = ap some (sorted_sorted row_id rs)
+by_id_twice None = refl
+by_id_twice (Some rs) = ap Some (sorted_sorted row_id rs)
 
 -- the rows of one table in the order of what is meant
 again_by_id : (o p : Option (List Row)) → meant_rows o ≡ meant_rows (by_id p) → meant_rows (by_id o) ≡ meant_rows (by_id p)

@@ -5,7 +5,7 @@ use native.Mathlib.Omega.{arith}
 use mathlib.Core.Path.{◌≡◌, refl, sym, ap, ap₂, ◌∙◌, subst}
 use mathlib.Core.Logic.{◌⊎◌, inl, inr, ◌↔◌}
 use mathlib.Core.Bool.{Bool, true, false, ◌&&◌}
-use mathlib.Core.Option.{Option, none, some}
+use Rattle.std.specs.Prelude.{Option, None, Some}
 use mathlib.Core.List.{List}
 use Rattle.rules.specs.Lists.{pick}
 use Rattle.rules.specs.Tables.{Tables, Row, origins, editors, table, there, present}
@@ -22,21 +22,21 @@ use Rattle.rules.proofs.CleanFronts.{survey_is, ends_by}
 use Rattle.rules.proofs.LastLine.{front_lines}
 use Rattle.rules.proofs.BadNumbers.{at_head}
 
-not_present : (ts : Tables) → (table 0 ts ≡ none) ⊎ (table 1 ts ≡ none) → both_present ts ≡ true → ⊥
+not_present : (ts : Tables) → (table 0 ts ≡ None) ⊎ (table 1 ts ≡ None) → both_present ts ≡ true → ⊥
 not_present ts l e = by l ((and_both_ways (present origins ts) (present editors ts)).0 e)
   where
-    by : (table 0 ts ≡ none) ⊎ (table 1 ts ≡ none) → (present origins ts ≡ true) × (present editors ts ≡ true) → ⊥
+    by : (table 0 ts ≡ None) ⊎ (table 1 ts ≡ None) → (present origins ts ≡ true) × (present editors ts ≡ true) → ⊥
     by (inl z) p = never_both true refl (sym p.0 ∙ ap there z)
     by (inr z) p = never_both true refl (sym p.1 ∙ ap there z)
 
-pub is_absent : (t : Option (List Row)) → there t ≡ false → t ≡ none
-is_absent none e = refl
-is_absent (some rs) e = absurd (never_both true refl e)
+pub is_absent : (t : Option (List Row)) → there t ≡ false → t ≡ None
+is_absent None e = refl
+is_absent (Some rs) e = absurd (never_both true refl e)
 
-lacks : (ts : Tables) → both_present ts ≡ false → (table 0 ts ≡ none) ⊎ (table 1 ts ≡ none)
+lacks : (ts : Tables) → both_present ts ≡ false → (table 0 ts ≡ None) ⊎ (table 1 ts ≡ None)
 lacks ts e = by (true_or_not (present origins ts)) (true_or_not (present editors ts))
   where
-    by : (present origins ts ≡ true) ⊎ (present origins ts ≡ false) → (present editors ts ≡ true) ⊎ (present editors ts ≡ false) → (table 0 ts ≡ none) ⊎ (table 1 ts ≡ none)
+    by : (present origins ts ≡ true) ⊎ (present origins ts ≡ false) → (present editors ts ≡ true) ⊎ (present editors ts ≡ false) → (table 0 ts ≡ None) ⊎ (table 1 ts ≡ None)
     by (inl p) (inl q) = absurd (never_both (both_present ts) ((and_both_ways (present origins ts) (present editors ts)).1 (p, q)) e)
     by (inl p) (inr q) = inr (is_absent (table 1 ts) q)
     by (inr p) q = inl (is_absent (table 0 ts) p)
@@ -60,7 +60,7 @@ module _ (front : List ℕ) (c : Clean front) where
   end_numbers (behind_sentence p) = inl refl
 
   thirteen : (phase : Phase) → PhaseKept phase (bares (read begin front).handed) → (at_end phase ≡ 9 → ⊥) → (at_end phase ≡ 23 → ⊥)
-      → (at_end phase ≡ 13) ↔ ((table 0 (tables_at phase) ≡ none) ⊎ (table 1 (tables_at phase) ≡ none))
+      → (at_end phase ≡ 13) ↔ ((table 0 (tables_at phase) ≡ None) ⊎ (table 1 (tables_at phase) ≡ None))
   thirteen start k a b = absurd (a refl)
   thirteen (top p) k a b = (λ e. lacks p.tables (which (both_present p.tables) e), λ l. rw (false_if_never (both_present p.tables) (not_present p.tables l)))
     where
@@ -82,7 +82,7 @@ module _ (front : List ℕ) (c : Clean front) where
         missing =
             λ a b.
             let t = thirteen stands (file_kept front).phase (λ e. a (ends_by front c ∙ e)) (λ e. b (ends_by front c ∙ e)) in (
-              λ r. subst (λ (ts : Tables). (table 0 ts ≡ none) ⊎ (table 1 ts ≡ none)) (sym its_tables) (t.0 (sym (ends_by front c) ∙ r.refusal)),
-              λ l. record { refusal = ends_by front c ∙ t.1 (subst (λ (ts : Tables). (table 0 ts ≡ none) ⊎ (table 1 ts ≡ none)) its_tables l); at = c.place },
+              λ r. subst (λ (ts : Tables). (table 0 ts ≡ None) ⊎ (table 1 ts ≡ None)) (sym its_tables) (t.0 (sym (ends_by front c) ∙ r.refusal)),
+              λ l. record { refusal = ends_by front c ∙ t.1 (subst (λ (ts : Tables). (table 0 ts ≡ None) ⊎ (table 1 ts ≡ None)) its_tables l); at = c.place },
             );
       }

@@ -3,7 +3,7 @@
 use Prim.Native.Nat.{ℕ}
 use mathlib.Core.Path.{◌≡◌, sym, ap, subst}
 use mathlib.Core.Bool.{Bool, true, false}
-use mathlib.Core.Option.{Option, none, some}
+use Rattle.std.specs.Prelude.{Option, None, Some}
 use mathlib.Core.List.{List, [], ◌∷◌}
 use lib.Dec.{eqb}
 use Rattle.rules.specs.Lists.{pick, bytes, member}
@@ -93,9 +93,9 @@ module _ (p : Preamble) where
   answer_late r b false a l k = l
 
   byte_late : (r : Reading) (b : ℕ) (f : Option Fault) → Late r.phase → Late (byte_unless f r b).phase
-  byte_late r b none l =
+  byte_late r b None l =
       answer_late r b (eqb b newline) (step r.phase (numbers r.handed) (line r)) l (step_keeps r.phase l (numbers r.handed) (line r))
-  byte_late r b (some f) l = l
+  byte_late r b (Some f) l = l
 
   pub read_late : (r : Reading) (bs : List ℕ) → Late r.phase → Late (read r bs).phase
   read_late r [] l = l

@@ -3,7 +3,7 @@
 use Prim.Native.Nat.{ℕ, ◌+◌, ◌≤◌, ◌<◌}
 use mathlib.Core.Path.{◌≡◌, refl, ap, ◌∙◌}
 use mathlib.Core.Bool.{Bool, true, false, not, ◌&&◌}
-use mathlib.Core.Option.{Option, some}
+use Rattle.std.specs.Prelude.{Option, Some}
 use mathlib.Core.List.{List, [], ◌∷◌, ◌++◌}
 use lib.ListN.{length, drop}
 use lib.Dec.{ltb}
@@ -131,7 +131,7 @@ module _ (format : ℕ) (ts : Tables) (so : SoFar) (line : Text) where
 
   pub record PhraseHolds (k : ℕ) : Type 0 where
     pub own : NodeHolds format (fields (columns line)) ts node_tags k
-    pub number : number phrase_number (drop 1 (text (fields (columns line)) 0).bytes) ≡ some k
+    pub number : number phrase_number (drop 1 (text (fields (columns line)) 0).bytes) ≡ Some k
     pub new : so.given_before k ≡ false
     pub room : so.edges + length (its_pairs format (fields (columns line))) ≤ edge_limit
 

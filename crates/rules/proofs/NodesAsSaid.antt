@@ -4,7 +4,7 @@ use Prim.Native.Nat.{ℕ, ◌<◌}
 use mathlib.Core.Path.{◌≡◌, refl, sym, ap, ◌∙◌}
 use mathlib.Core.Logic.{◌⊎◌, inl, inr, ◌↔◌}
 use mathlib.Core.Bool.{Bool, true, false}
-use mathlib.Core.Option.{some}
+use Rattle.std.specs.Prelude.{Some}
 use mathlib.Core.List.{List, [], ◌∷◌, ◌++◌, map}
 use lib.ListN.{length}
 use lib.Dec.{ltb, eqb}
@@ -180,13 +180,13 @@ module _ (format : ℕ) (T : Tables) (ts : List TableLines) (s : Stand T ts) (li
   -- and back: the rules hold of a line whose node fits, if its parent rises above the node's number and the others are others
   module _ (node : NodeLine) (sh : Shaped format fs node) (fit : NodeFits format ts tags node)
       (larger : (node.parent ≡ 0) ⊎ (n < node.parent)) (others : Each (λ (e : EdgeSaid). e.parent ≡ n → ⊥) node.secondary) where
-    parent_read : its_parent format fs ≡ some node.parent
+    parent_read : its_parent format fs ≡ Some node.parent
     parent_read = ap parent_number sh.at_parent ∙ (parent_said node.parent_text node.parent).1 fit.parent_written
 
     same_parent : value (its_parent format fs) ≡ node.parent
     same_parent = some_value (its_parent format fs) node.parent parent_read
 
-    pair_number : (p : Pair) (e : EdgeSaid) → p.parent.bytes ≡ e.parent_text → EdgeFits ts e → secondary_parent p ≡ some e.parent
+    pair_number : (p : Pair) (e : EdgeSaid) → p.parent.bytes ≡ e.parent_text → EdgeFits ts e → secondary_parent p ≡ Some e.parent
     pair_number p e q f = ap (number phrase_number) q ∙ (number_said phrase_number e.parent_text e.parent).1 f.parent_written
 
     pub said_held : NodeHeld format T fs tags n

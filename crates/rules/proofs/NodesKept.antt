@@ -3,7 +3,7 @@
 use Prim.Native.Nat.{ℕ}
 use mathlib.Core.Path.{◌≡◌, refl, sym, ap, ap₂, ◌∙◌, subst}
 use mathlib.Core.Bool.{true, false, false≢true}
-use mathlib.Core.Option.{some}
+use Rattle.std.specs.Prelude.{Some}
 use mathlib.Core.List.{List, [], ◌∷◌, map}
 use lib.ListN.{length, drop}
 use lib.Dec.{leb}
@@ -124,6 +124,6 @@ pub record WordKept (format : ℕ) (ts : Tables) (n : Node) : Type 0 where
 
 pub record PhraseKept (format : ℕ) (ts : Tables) (n : Node) : Type 0 where
   pub node : NodeKept format ts node_tags no_text n
-  pub number : number phrase_number (drop 1 (node_name n)) ≡ some n.number
+  pub number : number phrase_number (drop 1 (node_name n)) ≡ Some n.number
   pub no_end : same (node_name n) (bytes "#EOS") ≡ false
   pub begins : starts_phrase (unplaced (node_name n)) ≡ true

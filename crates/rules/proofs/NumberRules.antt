@@ -5,7 +5,7 @@ use native.Mathlib.Omega.{arith}
 use mathlib.Core.Path.{◌≡◌, refl, sym, ap, ◌∙◌, subst}
 use mathlib.Core.Logic.{◌⊎◌, inl, inr, ◌↔◌}
 use mathlib.Core.Bool.{Bool, true, false, ◌&&◌}
-use mathlib.Core.Option.{Option, none, some}
+use Rattle.std.specs.Prelude.{Option, None, Some}
 use mathlib.Core.List.{List, [], ◌∷◌}
 use lib.ListN.{length, drop}
 use lib.Dec.{leb, ltb}
@@ -69,8 +69,8 @@ pub eights_none : (rs : List Rule) → every (λ (q : Rule). leb 9 q.number) rs 
 eights_none rs h = (λ e. by (broken rs) refl e, λ z. absurd z)
   where
     by : (o : Option Rule) → broken rs ≡ o → number_of o ≡ 8 → ⊥
-    by none q e = omega (arith, e)
-    by (some r) q e = omega (arith, e, reaches 9 rs h r q)
+    by None q e = omega (arith, e)
+    by (Some r) q e = omega (arith, e, reaches 9 rs h r q)
 
 eight_first : {P Q : Type 0} (t : Text) (b : Bool) (rs : List Rule) → every (λ (q : Rule). leb 8 q.number) rs ≡ true → (b ≡ false) ↔ P → (smallest rs ≡ 8) ↔ Q
     → (smallest (rule 8 t b ∷ rs) ≡ 8) ↔ (P ⊎ Q)
@@ -95,8 +95,8 @@ unfolding checked
 checked_number f rs a z = by (broken rs)
   where
     by : (o : Option Rule) → refusal_of (next f (unless o a)) ≡ number_of o
-    by none = z
-    by (some r) = refl
+    by None = z
+    by (Some r) = refl
 
 only_left : {X P : Type 0} → X ↔ (P ⊎ ⊥) → X ↔ P
 only_left {X} {P} k = (λ x. left (k.0 x), λ p. k.1 (inl p))

@@ -3,7 +3,7 @@ use Prim.Native.Nat.{ℕ, zero, suc, ◌+◌, ◌*◌, ◌/◌, ◌%◌, ◌≤�
 use native.Mathlib.Omega.{arith}
 use mathlib.Core.Path.{◌≡◌, refl, ap, ◌∙◌}
 use mathlib.Core.Bool.{Bool, true, false}
-use mathlib.Core.Option.{Option, none, some}
+use Rattle.std.specs.Prelude.{Option, None, Some}
 use mathlib.Core.List.{List, [], ◌∷◌, ◌++◌}
 use lib.ListN.{length, length-append}
 use lib.Dec.{leb, ltb, eqb}
@@ -15,41 +15,41 @@ use Rattle.rules.proofs.Conjunctions.{and_left, and_right}
 use Rattle.rules.proofs.Decimal.{digits_one_writing, digits_given, id_given, digits_not_white, id_not_white}
 use Rattle.rules.proofs.PrintedLines.{solid}
 
-pub within_value : (k : Kind) (o : Option ℕ) (n : ℕ) → within k o ≡ some n → (o ≡ some n) × (between k.lowest k.highest n ≡ true)
-within_value k none n e = (cc, cc)
-within_value k (some m) n e = by (between k.lowest k.highest m) refl e
+pub within_value : (k : Kind) (o : Option ℕ) (n : ℕ) → within k o ≡ Some n → (o ≡ Some n) × (between k.lowest k.highest n ≡ true)
+within_value k None n e = (cc, cc)
+within_value k (Some m) n e = by (between k.lowest k.highest m) refl e
   where
-    by : (t : Bool) → between k.lowest k.highest m ≡ t → pick t (some m) none ≡ some n → (some m ≡ some n) × (between k.lowest k.highest n ≡ true)
+    by : (t : Bool) → between k.lowest k.highest m ≡ t → pick t (Some m) None ≡ Some n → (Some m ≡ Some n) × (between k.lowest k.highest n ≡ true)
     by true r q = let z : m ≡ n = cc in (q, rw z at r)
     by false r q = (cc, cc)
 
 -- a number of a kind is printed as it is written
-pub number_again : (k : Kind) (xs : List ℕ) (n : ℕ) → number k xs ≡ some n → digits_of n ≡ xs
+pub number_again : (k : Kind) (xs : List ℕ) (n : ℕ) → number k xs ≡ Some n → digits_of n ≡ xs
 number_again k xs n e = digits_one_writing xs n (within_value k (decimal xs) n e).0
 
-pub number_range : (k : Kind) (xs : List ℕ) (n : ℕ) → number k xs ≡ some n → (k.lowest ≤ n) × (n ≤ k.highest)
+pub number_range : (k : Kind) (xs : List ℕ) (n : ℕ) → number k xs ≡ Some n → (k.lowest ≤ n) × (n ≤ k.highest)
 number_range k xs n e =
     let b = (within_value k (decimal xs) n e).1 in
     (leb-true k.lowest n (and_left (leb k.lowest n) (leb n k.highest) b), leb-true n k.highest (and_right (leb k.lowest n) (leb n k.highest) b))
 
-pub id_range : (xs : List ℕ) (i : ℕ) → signed_id xs ≡ some i → i ≤ 65536
+pub id_range : (xs : List ℕ) (i : ℕ) → signed_id xs ≡ Some i → i ≤ 65536
 id_range xs i e =
-    let b = (within_value id_plus_one (pick (same xs (bytes "-1")) (some 0) (plus_one (decimal xs))) i e).1 in
+    let b = (within_value id_plus_one (pick (same xs (bytes "-1")) (Some 0) (plus_one (decimal xs))) i e).1 in
     leb-true i 65536 (and_right (leb 0 i) (leb i 65536) b)
 
-pub parent_again : (xs : List ℕ) (n : ℕ) → parent_number xs ≡ some n → digits_of n ≡ xs
+pub parent_again : (xs : List ℕ) (n : ℕ) → parent_number xs ≡ Some n → digits_of n ≡ xs
 parent_again xs n e = by (decimal xs) refl e
   where
-    above : (m : ℕ) → decimal xs ≡ some m → (t : Bool) → eqb m 0 ≡ t → pick t (some 0) (within phrase_number (some m)) ≡ some n → digits_of n ≡ xs
+    above : (m : ℕ) → decimal xs ≡ Some m → (t : Bool) → eqb m 0 ≡ t → pick t (Some 0) (within phrase_number (Some m)) ≡ Some n → digits_of n ≡ xs
     above m d true z q =
         let a : m ≡ 0 = eqb-true m 0 z in
         let b : ◌≡◌ {A = ℕ} 0 n = cc in
-        digits_one_writing xs n (d ∙ ap some (a ∙ b))
-    above m d false z q = digits_one_writing xs n (d ∙ (within_value phrase_number (some m) n q).0)
+        digits_one_writing xs n (d ∙ ap Some (a ∙ b))
+    above m d false z q = digits_one_writing xs n (d ∙ (within_value phrase_number (Some m) n q).0)
 
-    by : (o : Option ℕ) → decimal xs ≡ o → zero_or phrase_number o ≡ some n → digits_of n ≡ xs
-    by none d q = cc
-    by (some m) d q = above m d (eqb m 0) refl q
+    by : (o : Option ℕ) → decimal xs ≡ o → zero_or phrase_number o ≡ Some n → digits_of n ≡ xs
+    by None d q = cc
+    by (Some m) d q = above m d (eqb m 0) refl q
 
 -- ---- few digits
 

@@ -3,7 +3,7 @@
 use Prim.Native.Nat.{ℕ}
 use mathlib.Core.Path.{◌≡◌, refl, sym, subst}
 use mathlib.Core.Bool.{Bool, true, false}
-use mathlib.Core.Option.{Option, none, some}
+use Rattle.std.specs.Prelude.{Option, None, Some}
 use mathlib.Core.List.{List, [], ◌∷◌, map}
 use lib.ListN.{length}
 use Rattle.rules.specs.Lists.{pick, Each}
@@ -30,8 +30,8 @@ IdsDiffer o = Distinct row_id (rows_of o)
 
 module _ (n : ℕ) (new : (done : List Row) (r : Row) → RowNew n done r → has_id r.id1 done ≡ false) where
   ids_differ : (o : Option (List Row)) → TableKept n o → IdsDiffer o
-  ids_differ none k = tt
-  ids_differ (some rs) k = distinct_mapped row_id row_id bare_row (λ r. refl) rs (distinct_rows n new [] (map bare_row rs) tt k)
+  ids_differ None k = tt
+  ids_differ (Some rs) k = distinct_mapped row_id row_id bare_row (λ r. refl) rs (distinct_rows n new [] (map bare_row rs) tt k)
 
 pub record TablesDiffer (ts : Tables) : Type 0 where
   pub seven : length ts ≡ 7

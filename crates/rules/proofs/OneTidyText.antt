@@ -5,7 +5,7 @@ use native.Mathlib.Omega.{arith}
 use mathlib.Core.Path.{◌≡◌, refl, sym, ap, ap₂, ◌∙◌, subst}
 use mathlib.Core.Logic.{inl, inr, ◌↔◌}
 use mathlib.Core.Bool.{Bool, true, false}
-use mathlib.Core.Option.{Option, none, some}
+use Rattle.std.specs.Prelude.{Option, None, Some}
 use mathlib.Core.List.{List, [], ◌∷◌, ◌++◌}
 use lib.Dec.{leb}
 use Rattle.rules.specs.Lists.{pick, bytes}
@@ -77,12 +77,12 @@ module _ {A : Type 0} (key : A → ℕ) where
       (all_in ys zs (λ x i. (b.the_same x).0 ((a.the_same x).1 i))) (all_in zs ys (λ x i. (a.the_same x).0 ((b.the_same x).1 i)))
 
 one_table : (n : ℕ) (t u v : Option (List RowContent)) → TableOrdered n t u → TableOrdered n t v → u ≡ v
-one_table n none none none a b = refl
-one_table n none none (some vs) a b = absurd b
-one_table n none (some us) v a b = absurd a
-one_table n (some ts) none v a b = absurd a
-one_table n (some ts) (some us) none a b = absurd b
-one_table n (some ts) (some us) (some vs) a b = ap some (by (leb n 1) a b)
+one_table n None None None a b = refl
+one_table n None None (Some vs) a b = absurd b
+one_table n None (Some us) v a b = absurd a
+one_table n (Some ts) None v a b = absurd a
+one_table n (Some ts) (Some us) None a b = absurd b
+one_table n (Some ts) (Some us) (Some vs) a b = ap Some (by (leb n 1) a b)
   where
     Order : Bool → List RowContent → Type 0
     Order t rs = pick t (ByRising (λ (r : RowContent). r.id1) ts rs) (rs ≡ ts)

@@ -5,7 +5,7 @@ use native.Mathlib.Omega.{arith}
 use mathlib.Core.Path.{◌≡◌, refl, sym, ap, ◌∙◌, subst}
 use mathlib.Core.Logic.{◌↔◌}
 use mathlib.Core.Bool.{Bool, true, false, ◌||◌}
-use mathlib.Core.Option.{none, some}
+use Rattle.std.specs.Prelude.{None, Some}
 use mathlib.Core.List.{List, [], ◌∷◌, ◌++◌, append-nil, append_assoc}
 use lib.ListN.{length, take}
 use lib.Seq.{length-take-le}
@@ -37,11 +37,11 @@ has_around n (g ∷ front) h back e = has_around n front h back (or_right (eqb n
 pub other_way : (m n : ℕ) → eqb m n ≡ false → eqb n m ≡ false
 other_way m n e = ne_eqb n m (λ z. eqb-false m n e (sym z))
 
-found : (front : List Handed) (h : Handed) (back : List Handed) → Distinct number_of (front ++ (h ∷ back)) → sentence_of (number_of h) (front ++ (h ∷ back)) ≡ some h.sentence
+found : (front : List Handed) (h : Handed) (back : List Handed) → Distinct number_of (front ++ (h ∷ back)) → sentence_of (number_of h) (front ++ (h ∷ back)) ≡ Some h.sentence
 found [] h back d = rw (eq-eqb (number_of h) (number_of h) refl)
 found (g ∷ front) h back d = rw (other_way (number_of g) (number_of h) (has_around (number_of g) front h back d.0)) (found front h back d.1)
 
-not_found : (n : ℕ) (hs : List Handed) → member n (numbers hs) ≡ false → sentence_of n hs ≡ none
+not_found : (n : ℕ) (hs : List Handed) → member n (numbers hs) ≡ false → sentence_of n hs ≡ None
 not_found n [] e = refl
 not_found n (h ∷ hs) e = rw (or_left (eqb n (number_of h)) (member n (numbers hs)) e) (not_found n hs (or_right (eqb n (number_of h)) (member n (numbers hs)) e))
 
@@ -52,7 +52,7 @@ zero_found v n [] = (λ e. absurd (omega (arith, e)), λ e. absurd (never_both f
 zero_found v n (h ∷ hs) = by (eqb n (number_of h)) (zero_found v n hs)
   where
     by : (t : Bool) → ((opened v (sentence_of n hs)).answer ≡ 0) ↔ (member n (numbers hs) ≡ true)
-        → ((opened v (pick t (some h.sentence) (sentence_of n hs))).answer ≡ 0) ↔ ((t || member n (numbers hs)) ≡ true)
+        → ((opened v (pick t (Some h.sentence) (sentence_of n hs))).answer ≡ 0) ↔ ((t || member n (numbers hs)) ≡ true)
     by true more = (λ e. refl, λ e. refl)
     by false more = more
 

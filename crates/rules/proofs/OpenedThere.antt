@@ -6,7 +6,7 @@ use native.Mathlib.Omega.{arith}
 use mathlib.Core.Path.{◌≡◌, refl, sym, ap, ap₂, ◌∙◌, subst}
 use mathlib.Core.Logic.{◌↔◌}
 use mathlib.Core.Bool.{true, false, ◌&&◌}
-use mathlib.Core.Option.{Option, none, some}
+use Rattle.std.specs.Prelude.{Option, None, Some}
 use mathlib.Core.List.{List, ◌∷◌, ◌++◌}
 use lib.ListN.{length, take, get_or, length-append}
 use lib.Dec.{eqb}
@@ -49,9 +49,9 @@ sized_sentence tables seen sheet edges s = record { sentence_sheet_lem = s.sente
 
 -- ---- the opening at a place
 
-zero_begins : (o : Option Sentence) → ((opened_as o).answer ≡ 0) ↔ ((s : Sentence) × (o ≡ some s))
-zero_begins none = (λ e. absurd (omega (arith, e)), λ b. absurd (let e = b.1 in let z : ◌≡◌ {A = ℕ} 0 1 = cc in omega arith))
-zero_begins (some s) = (λ e. (s, refl), λ b. refl)
+zero_begins : (o : Option Sentence) → ((opened_as o).answer ≡ 0) ↔ ((s : Sentence) × (o ≡ Some s))
+zero_begins None = (λ e. absurd (omega (arith, e)), λ b. absurd (let e = b.1 in let z : ◌≡◌ {A = ℕ} 0 1 = cc in omega arith))
+zero_begins (Some s) = (λ e. (s, refl), λ b. refl)
 
 module _ (file : List ℕ) (at : ℕ) (sheet : List ℕ) (edges : List EdgeRecord) where
   opens_at : SentenceSized sheet edges → WithinLimit file → after_opening_at file at sheet edges ≡ opened_as (sentence_from file at)
@@ -64,7 +64,7 @@ module _ (file : List ℕ) (at : ℕ) (sheet : List ℕ) (edges : List EdgeRecor
       record {
         wrong_size = λ other. rw (sentence_misfits sheet edges other);
         too_long = λ s h. rw (sentence_fits_lem sheet edges s, long_misfits file h);
-        exactly = λ s h. subst (λ (o : OpenedAt). (o.answer ≡ 0) ↔ ((s : Sentence) × (sentence_from file at ≡ some s))) (sym (opens_at s h)) (zero_begins (sentence_from file at));
+        exactly = λ s h. subst (λ (o : OpenedAt). (o.answer ≡ 0) ↔ ((s : Sentence) × (sentence_from file at ≡ Some s))) (sym (opens_at s h)) (zero_begins (sentence_from file at));
         given = λ s h t e. opens_at s h ∙ ap opened_as e;
         absent = λ s h e. opens_at s h ∙ ap opened_as e;
       }
@@ -72,8 +72,8 @@ module _ (file : List ℕ) (at : ℕ) (sheet : List ℕ) (edges : List EdgeRecor
 -- ---- by the index
 
 part_opened : (v : Survey) (o : Option Sentence) → opened_part (opened v o) ≡ opened_as o
-part_opened v none = refl
-part_opened v (some s) = refl
+part_opened v None = refl
+part_opened v (Some s) = refl
 
 module _ (file : List ℕ) (n : ℕ) (tables seen places : List ℕ) (sized : IndexSized tables seen places) (fits : WithinLimit file) where
   abbrev entry : ℕ

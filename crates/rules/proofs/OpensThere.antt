@@ -5,7 +5,7 @@ use native.Mathlib.Omega.{arith}
 use mathlib.Core.Path.{◌≡◌, refl, sym, ap, ◌∙◌, subst}
 use mathlib.Core.Logic.{inr}
 use mathlib.Core.Bool.{true, false≢true}
-use mathlib.Core.Option.{some}
+use Rattle.std.specs.Prelude.{Some}
 use mathlib.Core.List.{List, [], ◌∷◌, ◌++◌, append_assoc}
 use lib.ListN.{length}
 use Rattle.rules.specs.Lists.{bytes, every, Each}
@@ -100,9 +100,9 @@ preamble = record { format = 3; tables = no_tables }
 abbrev Said : SentenceLines → Phase → List Sentence → Type 0
 Said s ph out = (t : Sentence) × (out ≡ t ∷ []) × (sentence_read t ≡ sentence_says s)
 
-first_out : (hs more : List Handed) (t : Sentence) → sentences_of hs ≡ t ∷ [] → first_handed (hs ++ more) ≡ some t
+first_out : (hs more : List Handed) (t : Sentence) → sentences_of hs ≡ t ∷ [] → first_handed (hs ++ more) ≡ Some t
 first_out [] more t e = absurd (let z : ◌≡◌ {A = ℕ} 0 1 = cc in omega arith)
-first_out (h ∷ hs) more t e = let q : h.sentence ≡ t = cc in ap some q
+first_out (h ∷ hs) more t e = let q : h.sentence ≡ t = cc in ap Some q
 
 module _ (file : List ℕ) (at : ℕ) (s : SentenceLines) (ts : List TableLines) (f : SentenceFits sentence_range 3 ts s)
     (w : SentenceStands file at s) where
@@ -155,7 +155,7 @@ module _ (file : List ℕ) (at : ℕ) (s : SentenceLines) (ts : List TableLines)
       (append_assoc (s.head.line ++ (newline ∷ [])) (lines_written w.others) w.back
       ∙ append_assoc s.head.line (newline ∷ []) (lines_written w.others ++ w.back))
 
-  found_there : sentence_from file (length w.front) ≡ some reached.1.0
+  found_there : sentence_from file (length w.front) ≡ Some reached.1.0
   found_there =
       let r = read (fresh next inside []) (lines_written w.others) in
       let starts = starts_tested file (length w.front) (subst (StartsLine file) (sym w.place) w.starts) in
@@ -168,5 +168,5 @@ module _ (file : List ℕ) (at : ℕ) (s : SentenceLines) (ts : List TableLines)
 pub opens_there : (file : List ℕ) (at : ℕ) (s : SentenceLines) → FitsAlone s → SentenceStands file at s → OpensThere file at s
 opens_there file at s f w =
     let t = (reached file at s f.0 f.1 w).1 in
-    let found = subst (λ (n : ℕ). sentence_from file n ≡ some t.0) w.place (found_there file at s f.0 f.1 w) in
+    let found = subst (λ (n : ℕ). sentence_from file n ≡ Some t.0) w.place (found_there file at s f.0 f.1 w) in
     record { sentence = t.0; found = found; place = (stands_there file at t.0 found).place; says = t.2 }

@@ -4,7 +4,7 @@ use Prim.Native.Nat.{ℕ, suc, ◌+◌, ◌≤◌, ◌<◌}
 use native.Mathlib.Omega.{arith}
 use mathlib.Core.Path.{◌≡◌, refl, sym, ap, ◌∙◌, subst}
 use mathlib.Core.Bool.{true, false, not, false≢true}
-use mathlib.Core.Option.{Option, some}
+use Rattle.std.specs.Prelude.{Option, Some}
 use mathlib.Core.List.{List, [], ◌∷◌, ◌++◌, append-nil}
 use lib.ListN.{length}
 use lib.Dec.{leb}
@@ -156,7 +156,7 @@ module _ (rs : List Row) (r : Row) (k : OriginKept r) (at : ℕ) where
   origin_back new few =
       let a = (column (columns line_back) 0).after.start in
       let is : suc k.id ≡ r.id1 = ap (λ (q : Row). q.id1) k.placeless in
-      let e1 : number origin_id (column (columns line_back) 0).text.bytes ≡ some k.id =
+      let e1 : number origin_id (column (columns line_back) 0).text.bytes ≡ Some k.id =
       ap (number origin_id) (column_back ∙ ap id_digits (sym is)) ∙ number_read_back origin_id k.id k.range.0 k.range.1 in
       let e2 : (name rs line_back).bytes ≡ r.first.bytes =
       ap (λ (l : List ℕ). (trim_from a (front_bytes l)).bytes) after_back ∙ name_back a r.first.bytes r.second.bytes k.name.given k.name.trimmed k.single in

@@ -5,7 +5,7 @@ use native.Mathlib.Nat.{zero-add}
 use native.Mathlib.Omega.{arith}
 use mathlib.Core.Path.{◌≡◌, refl, sym, ap, ◌∙◌, subst}
 use mathlib.Core.Bool.{Bool, true, false, ◌&&◌, false≢true}
-use mathlib.Core.Option.{Option, none, some}
+use Rattle.std.specs.Prelude.{Option, None, Some}
 use mathlib.Core.List.{List, [], ◌∷◌, ◌++◌}
 use lib.ListN.{length, length-append}
 use lib.Dec.{leb}
@@ -35,7 +35,7 @@ fresh_clean front fits k =
 
 -- ---- a line is refused
 
-module _ (file : List ℕ) (fits : WithinLimit file) (g : Fault) (faulty : (read begin file).fault ≡ some g) where
+module _ (file : List ℕ) (fits : WithinLimit file) (g : Fault) (faulty : (read begin file).fault ≡ Some g) where
   abbrev k : FirstFaulty file g
   k = first_faulty file g faulty
 
@@ -106,7 +106,7 @@ end_points (in_table p n rs) = refl
 end_points (in_sentence p s) = refl
 end_points (behind_sentence p) = refl
 
-module _ (file : List ℕ) (fits : WithinLimit file) (sound : (read begin file).fault ≡ none) where
+module _ (file : List ℕ) (fits : WithinLimit file) (sound : (read begin file).fault ≡ None) where
   -- what is said at the end, with these bytes behind the last newline
   ended_so : (part : List ℕ) → (read begin file).part ≡ part → (survey_of file).refusal ≡ (closing (read begin file) part).number
   ended_so part e = ap (λ (v : Survey). v.refusal) (survey_is file fits) ∙ ap (λ (o : Option Fault). (closing_unless o (read begin file)).number) sound ∙ ap (λ (l : List ℕ). (closing (read begin file) l).number) e
@@ -136,8 +136,8 @@ unfolding survey_of
 pointed_at file = by (leb (length file) file_limit) refl
   where
     within : WithinLimit file → (o : Option Fault) → (read begin file).fault ≡ o → PlaceRule file
-    within fits none e = no_line_refused file fits e
-    within fits (some g) e = line_refused file fits g e
+    within fits None e = no_line_refused file fits e
+    within fits (Some g) e = line_refused file fits g e
 
     unread : TooLong file → survey_of file ≡ nothing_read 2 → PlaceRule file
     unread long e =

@@ -5,7 +5,7 @@ use native.Mathlib.Omega.{arith}
 use mathlib.Core.Path.{◌≡◌, refl, sym, ap, subst}
 use mathlib.Core.Logic.{◌⊎◌, inl, inr}
 use mathlib.Core.Bool.{Bool, true, false}
-use mathlib.Core.Option.{Option, none, some}
+use Rattle.std.specs.Prelude.{Option, None, Some}
 use mathlib.Core.List.{List, [], ◌∷◌}
 use lib.Dec.{leb}
 use borrow.Author.Tests.{leb-true}
@@ -57,7 +57,7 @@ module _ (Broken : ℕ → Text → Type 0) (line : Text) where
 
   module _ {A : Type 0} (f : A → Answer) (rs : List Rule) (a : A) (granted : Placing (f a)) (Whole : Type 0) (each : Each (Told Whole) rs)
       (whole : (q : Rule) → Refusing rs q → points q ≡ true → Whole) (left : Whole → LeftToRight rs) (found : (n : ℕ) (t : Text) → Broken n t → Found rs n t) where
-    at_column : (q : Rule) → broken rs ≡ some q → points q ≡ true → AtColumn Broken line q.number q.about.start
+    at_column : (q : Rule) → broken rs ≡ Some q → points q ≡ true → AtColumn Broken line q.number q.about.start
     at_column q e p =
         let k = refusing rs q e in
         let w = whole q k p in
@@ -82,8 +82,8 @@ module _ (Broken : ℕ → Text → Type 0) (line : Text) where
     placing_checked = by (broken rs) refl
       where
         by : (o : Option Rule) → broken rs ≡ o → Placing (next f (unless o a))
-        by none e = granted
-        by (some q) e =
+        by None e = granted
+        by (Some q) e =
             record {
               column = at_column q e;
               first = λ p. (each_one (Told Whole) rs q each (refusing rs q e).one).first p;
@@ -106,8 +106,8 @@ module _ (Broken : ℕ → Text → Type 0) (line : Text) (Whole : Type 0) where
   placing_plain f rs a g k = by (broken rs) refl
     where
       by : (o : Option Rule) → broken rs ≡ o → Placing Broken line (next f (unless o a))
-      by none e = g
-      by (some q) e =
+      by None e = g
+      by (Some q) e =
           let h = each_one (λ (r : Rule). (points r ≡ false) × (r.about ≡ line)) rs q k (refusing rs q e).one in
           record { column = λ p. absurd (never_both (points q) p h.0); first = λ p. ap (λ (t : Text). t.start) h.1 }
 

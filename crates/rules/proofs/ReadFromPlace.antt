@@ -4,7 +4,7 @@ use Prim.Native.Nat.{ℕ, suc, ◌+◌, ◌≤◌}
 use native.Mathlib.Omega.{arith}
 use mathlib.Core.Path.{◌≡◌, refl, sym, ap, ◌∙◌, subst}
 use mathlib.Core.Bool.{Bool, true, false}
-use mathlib.Core.Option.{Option, none, some}
+use Rattle.std.specs.Prelude.{Option, None, Some}
 use mathlib.Core.List.{List, [], ◌∷◌, ◌++◌, append_assoc}
 use lib.ListN.{length, take, drop, length-append, length-drop, take-append-drop}
 use lib.Seq.{length-take-le, drop_at}
@@ -39,7 +39,7 @@ module _ (file : List ℕ) where
   read_from front head x h parts starts o e =
       let at = length front in
       let next = suc (at + length head) in
-      ap (λ (t : Bool). pick t (begun_by file at (ended_line (drop at file))) none) starts
+      ap (λ (t : Bool). pick t (begun_by file at (ended_line (drop at file))) None) starts
       ∙ ap (begun_by file at) (ap ended_line (ap (drop at) parts ∙ drop_at front (head ++ (newline ∷ x)) at refl) ∙ first_line_lem head x o)
       ∙ ap (headed_by file at next) e
       ∙ ap (λ (bs : List ℕ). first_handed (read (behind_heading at h next) bs).handed) (ap (drop next) (parts ∙ around front head x) ∙ drop_at (front ++ (head ++ (newline ∷ []))) x next (past front head))
@@ -67,13 +67,13 @@ record First (hs : List Handed) (s : Sentence) : Type 0 where
   pub gives : hs ≡ handed ∷ others
   pub its : handed.sentence ≡ s
 
-first_of : (hs : List Handed) (s : Sentence) → first_handed hs ≡ some s → First hs s
+first_of : (hs : List Handed) (s : Sentence) → first_handed hs ≡ Some s → First hs s
 first_of [] s e = absurd (let z : ◌≡◌ {A = ℕ} 0 1 = cc in omega arith)
 first_of (h ∷ hs) s e = record { handed = h; others = hs; gives = refl; its = cc }
 
 module _ (file : List ℕ) (at : ℕ) (s : Sentence) where
-  begun_headed : (l : List ℕ) → ended_line (drop at file) ≡ some l → starts_line file at ≡ true → (v : Verdict Heading) → heading_alone (record { start = at; bytes = l }) ≡ v
-      → headed_by file at (suc (at + length l)) v ≡ some s → Begun file at s
+  begun_headed : (l : List ℕ) → ended_line (drop at file) ≡ Some l → starts_line file at ≡ true → (v : Verdict Heading) → heading_alone (record { start = at; bytes = l }) ≡ v
+      → headed_by file at (suc (at + length l)) v ≡ Some s → Begun file at s
   begun_headed l q starts (refused r) g e = absurd (let z : ◌≡◌ {A = ℕ} 0 1 = cc in omega arith)
   begun_headed l q starts (granted h) g e =
       let f = line_first (drop at file) l q in
@@ -101,14 +101,14 @@ module _ (file : List ℕ) (at : ℕ) (s : Sentence) where
         its = o.its;
       }
 
-  pub begun_at : sentence_from file at ≡ some s → Begun file at s
+  pub begun_at : sentence_from file at ≡ Some s → Begun file at s
   unfolding sentence_from
   begun_at e = by (starts_line file at) refl (ended_line (drop at file)) refl e
     where
-      by : (t : Bool) → starts_line file at ≡ t → (o : Option (List ℕ)) → ended_line (drop at file) ≡ o → pick t (begun_by file at o) none ≡ some s → Begun file at s
+      by : (t : Bool) → starts_line file at ≡ t → (o : Option (List ℕ)) → ended_line (drop at file) ≡ o → pick t (begun_by file at o) None ≡ Some s → Begun file at s
       by false t o q e = absurd (let z : ◌≡◌ {A = ℕ} 0 1 = cc in omega arith)
-      by true t none q e = absurd (let z : ◌≡◌ {A = ℕ} 0 1 = cc in omega arith)
-      by true t (some l) q e = begun_headed l q t (heading_alone (record { start = at; bytes = l })) refl e
+      by true t None q e = absurd (let z : ◌≡◌ {A = ℕ} 0 1 = cc in omega arith)
+      by true t (Some l) q e = begun_headed l q t (heading_alone (record { start = at; bytes = l })) refl e
 
 module _ (f : List ℕ) (at : ℕ) (s : Sentence) (b : Begun f at s) where
   -- a file that goes on like this one up to behind the heading
@@ -122,8 +122,8 @@ module _ (f : List ℕ) (at : ℕ) (s : Sentence) (b : Begun f at s) where
       subst (λ (n : ℕ). sentence_from file n ≡ first_handed (read (behind_heading n b.heading (suc (n + length b.head))) x).handed) b.place
       (read_from file b.front b.head x b.heading parts starts b.one_line heads)
 
-  pub from_begun : sentence_from f at ≡ some s
-  from_begun = from_bytes f b.rest b.parts ∙ ap first_handed b.gives ∙ ap some b.its
+  pub from_begun : sentence_from f at ≡ Some s
+  from_begun = from_bytes f b.rest b.parts ∙ ap first_handed b.gives ∙ ap Some b.its
 
 -- a sentence handed out begins at its place, and ends there too
 pub record HandedAt (file : List ℕ) (h : Handed) : Type 0 where

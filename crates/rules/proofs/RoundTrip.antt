@@ -4,7 +4,7 @@ use Prim.Native.Nat.{ℕ, ◌≤◌}
 use native.Mathlib.Omega.{arith}
 use mathlib.Core.Path.{◌≡◌, refl, sym, ap, ap₂, ◌∙◌, subst}
 use mathlib.Core.Bool.{true, false, ◌&&◌}
-use mathlib.Core.Option.{none}
+use Rattle.std.specs.Prelude.{None}
 use mathlib.Core.List.{List, [], ◌∷◌, ◌++◌, map}
 use lib.ListN.{length, replicate}
 use borrow.Author.Tests.{le-leb}
@@ -61,15 +61,15 @@ format_read n e =
 
 -- ---- the tables
 
-blank_tables : (ts : Tables) → blanks ts ≡ replicate (length ts) none
+blank_tables : (ts : Tables) → blanks ts ≡ replicate (length ts) None
 blank_tables [] = refl
-blank_tables (t ∷ ts) = ap (λ (us : Tables). none ∷ us) (blank_tables ts)
+blank_tables (t ∷ ts) = ap (λ (us : Tables). None ∷ us) (blank_tables ts)
 
 preamble_read : (p : Preamble) (x : Reading) → PreambleKept p → Stands (top (unread p.format)) [] x → TablesRead p.format (means p) [] (read x (tables_text 0 (means p)))
 preamble_read p x k st =
     let seven : length (means p) ≡ 7 = length_meant p.tables ∙ k.seven in
     tables_read [] (means p) [] 0 (unread p.format) x refl (omega (arith, seven)) (tables_printed p.tables k.tables)
-    (sym (blank_tables (means p) ∙ ap (λ (n : ℕ). replicate n none) seven)) st
+    (sym (blank_tables (means p) ∙ ap (λ (n : ℕ). replicate n None) seven)) st
 
 -- ---- the sentences
 

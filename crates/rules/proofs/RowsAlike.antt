@@ -4,7 +4,7 @@ use native.Mathlib.Omega.{arith}
 use mathlib.Core.Path.{◌≡◌, sym, ap, ◌∙◌}
 use mathlib.Core.Logic.{◌↔◌}
 use mathlib.Core.Bool.{true}
-use mathlib.Core.Option.{none}
+use Rattle.std.specs.Prelude.{None}
 use mathlib.Core.List.{List, [], ◌∷◌, ◌++◌, map}
 use lib.ListN.{length, length-append}
 use lib.Dec.{ltb}
@@ -67,13 +67,13 @@ module _ (rs : List Row) (rows : List RowLine) (a : Alike rs rows) where
 
   pub next_in_order : (i : ℕ) (row : RowLine) → row.id1 ≡ i → IdsInOrder (ids1 rows) → follows (last_id rs) i ≡ true → IdsInOrder (ids1 (rows ++ (row ∷ [])))
   next_in_order i row e o h =
-      let last : last_of none (ids1 rows) ≡ last_id rs = ap (last_of none) (sym (alike_ids rs rows a)) ∙ last_id_lem rs in
+      let last : last_of None (ids1 rows) ≡ last_id rs = ap (last_of None) (sym (alike_ids rs rows a)) ∙ last_id_lem rs in
       rw (map_append (λ (r : RowLine). r.id1) rows (row ∷ []), e)
-      (chained_ordered (ids1 rows ++ (i ∷ [])) (chained_more none (ids1 rows) i (ordered_chained (ids1 rows) o) (rw last h)))
+      (chained_ordered (ids1 rows ++ (i ∷ [])) (chained_more None (ids1 rows) i (ordered_chained (ids1 rows) o) (rw last h)))
 
   pub in_order_next : (row : RowLine) (more : List RowLine) → IdsInOrder (ids1 (rows ++ (row ∷ more))) → follows (last_id rs) row.id1 ≡ true
   in_order_next row more o =
-      let last : last_of none (ids1 rows) ≡ last_id rs = ap (last_of none) (sym (alike_ids rs rows a)) ∙ last_id_lem rs in
+      let last : last_of None (ids1 rows) ≡ last_id rs = ap (last_of None) (sym (alike_ids rs rows a)) ∙ last_id_lem rs in
       rw (← last)
-      (chained_next none (ids1 rows) row.id1 (ids1 more)
+      (chained_next None (ids1 rows) row.id1 (ids1 more)
       (ordered_chained (ids1 rows ++ ids1 (row ∷ more)) (rw (map_append (λ (r : RowLine). r.id1) rows (row ∷ more)) at o)))

@@ -5,7 +5,7 @@ use native.Mathlib.Omega.{arith}
 use mathlib.Core.Path.{◌≡◌, refl, sym, ap, ◌∙◌, subst}
 use mathlib.Core.Logic.{inl, inr}
 use mathlib.Core.Bool.{Bool, true, false}
-use mathlib.Core.Option.{some}
+use Rattle.std.specs.Prelude.{Some}
 use mathlib.Core.List.{List, [], ◌∷◌, ◌++◌}
 use lib.ListN.{length, take, get_or, length-append}
 use lib.Dec.{eqb}
@@ -27,7 +27,7 @@ use Rattle.rules.proofs.NamesAndNotes.{note_said, said_note}
 
 pub record OriginRead (r : RowLine) : Type 0 where
   pub id : ℕ
-  pub id_written : number origin_id (column_at 0 r.line) ≡ some id
+  pub id_written : number origin_id (column_at 0 r.line) ≡ Some id
   pub one_more : r.id1 ≡ suc id
   pub name_is : r.first ≡ (trim (in_front (rest_behind 0 r.line))).bytes
   pub name : GivenUpTo 128 r.first
@@ -36,7 +36,7 @@ pub record OriginRead (r : RowLine) : Type 0 where
   pub no_flag : r.flag ≡ 0
 
 pub record EditorRead (r : RowLine) : Type 0 where
-  pub id_written : signed_id (column_at 0 r.line) ≡ some r.id1
+  pub id_written : signed_id (column_at 0 r.line) ≡ Some r.id1
   pub login_is : r.first ≡ column_at 1 r.line
   pub login : length r.first ≤ 16
   pub full_name_is : r.second ≡ text_behind 1 r.line
@@ -44,7 +44,7 @@ pub record EditorRead (r : RowLine) : Type 0 where
   pub no_flag : r.flag ≡ 0
 
 pub record TagRead (which : ℕ) (r : RowLine) : Type 0 where
-  pub id_written : signed_id (column_at 0 r.line) ≡ some r.id1
+  pub id_written : signed_id (column_at 0 r.line) ≡ Some r.id1
   pub tag_is : r.first ≡ column_at 1 r.line
   pub tag : length r.first ≤ tag_limit which
   pub no_comment_sign : r.first ≡ percents → ⊥

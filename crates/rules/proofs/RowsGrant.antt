@@ -3,7 +3,7 @@ use Prim.Native.Nat.{ℕ, zero, suc, ◌≤◌}
 use native.Mathlib.Omega.{arith}
 use mathlib.Core.Path.{◌≡◌, refl, sym, ap, ◌∙◌}
 use mathlib.Core.Bool.{not, ◌&&◌}
-use mathlib.Core.Option.{some}
+use Rattle.std.specs.Prelude.{Some}
 use mathlib.Core.List.{List, [], ◌∷◌, ◌++◌}
 use lib.ListN.{length}
 use lib.Dec.{eqb}
@@ -42,7 +42,7 @@ module _ (rs : List Row) (rows : List RowLine) (a : Alike rs rows) (K : Phase �
     origin_grants t =
         let one : OriginRead row = said_origin row (each_back OriginRow rows (row ∷ more) t.each_row).0 in
         let id = number origin_id (column (columns line) 0).text.bytes in
-        let is : id ≡ some one.id = ap (number origin_id) (at_column 0) ∙ one.id_written in
+        let is : id ≡ Some one.id = ap (number origin_id) (at_column 0) ∙ one.id_written in
         let same_id : suc (value id) ≡ row.id1 = ap suc (some_value id one.id is) ∙ sym one.one_more in
         let name = trim (in_front (column (columns line) 0).after) in
         let same_name : name.bytes ≡ row.first = name_there line ∙ ap (λ (l : List ℕ). (trim (in_front (rest_behind 0 l))).bytes) (sym its_line) ∙ sym one.name_is in
@@ -72,7 +72,7 @@ module _ (rs : List Row) (rows : List RowLine) (a : Alike rs rows) (K : Phase �
     editor_grants t =
         let one : EditorRead row = said_editor row (each_back EditorRow rows (row ∷ more) t.each_row).0 in
         let id = signed_id (column (columns line) 0).text.bytes in
-        let is : id ≡ some row.id1 = ap signed_id (at_column 0) ∙ one.id_written in
+        let is : id ≡ Some row.id1 = ap signed_id (at_column 0) ∙ one.id_written in
         let same_id : value id ≡ row.id1 = some_value id row.id1 is in
         let login = (column (columns line) 1).text in
         let same_login : login.bytes ≡ row.first = at_column 1 ∙ sym one.login_is in
@@ -103,7 +103,7 @@ module _ (rs : List Row) (rows : List RowLine) (a : Alike rs rows) (K : Phase �
         let one : TagRead n row = said_tag n row (each_back (TagRow n) rows (row ∷ more) t.each_row).0 in
         let own : Carries row = (each_back Carries rows (row ∷ more) t.carried).0 in
         let id = signed_id (column (columns line) 0).text.bytes in
-        let is : id ≡ some row.id1 = ap signed_id (at_column 0) ∙ one.id_written in
+        let is : id ≡ Some row.id1 = ap signed_id (at_column 0) ∙ one.id_written in
         let same_id : value id ≡ row.id1 = some_value id row.id1 is in
         let tag = (column (columns line) 1).text in
         let same_tag : tag.bytes ≡ row.first = at_column 1 ∙ sym one.tag_is in

@@ -4,7 +4,7 @@ use native.Mathlib.Omega.{arith}
 use mathlib.Core.Path.{◌≡◌, refl, sym, ap, subst}
 use mathlib.Core.Logic.{inl, inr}
 use mathlib.Core.Bool.{Bool, true, false, not, ◌&&◌, ◌||◌}
-use mathlib.Core.Option.{Option, none, some}
+use Rattle.std.specs.Prelude.{Option, None, Some}
 use mathlib.Core.List.{List, [], ◌∷◌}
 use lib.ListN.{length}
 use lib.Dec.{eqb}
@@ -37,8 +37,8 @@ unfolding checked
 if_held P bad f rs a p = by (broken rs) refl
   where
     by : (o : Option Rule) → broken rs ≡ o → P (next f (unless o a))
-    by none e = p (held rs (none_broken rs e))
-    by (some r) e = bad r
+    by None e = p (held rs (none_broken rs e))
+    by (Some r) e = bad r
 
 -- a text behind a column says that the column is there
 behind_there : (F : Text → Text) → given (F no_text) ≡ false → (cs : List Column) (n : ℕ) → given (F (column cs n).after) ≡ true → n < length cs

@@ -4,7 +4,7 @@ use Prim.Native.Nat.{ℕ, zero, suc, ◌≤◌, ◌<◌}
 use native.Mathlib.Omega.{arith}
 use mathlib.Core.Path.{◌≡◌, refl, ap, ◌∙◌}
 use mathlib.Core.Bool.{Bool, true, false, ◌&&◌}
-use mathlib.Core.Option.{Option, none, some}
+use Rattle.std.specs.Prelude.{Option, None, Some}
 use mathlib.Core.List.{List, [], ◌∷◌, ◌++◌}
 use lib.Dec.{leb, eqb}
 use borrow.Author.Tests.{le-leb, lt-leb, leb-true, leb-false, ne_eqb}
@@ -17,29 +17,29 @@ holds_of r = r.holds
 
 -- the number of a refusal, 0 where there is none
 abbrev pub number_of : Option Rule → ℕ
-number_of none = 0
-number_of (some r) = r.number
+number_of None = 0
+number_of (Some r) = r.number
 
 -- the smallest number among the rules that don't hold, 0 if all hold
 abbrev pub smallest : List Rule → ℕ
 smallest rs = number_of (broken rs)
 
-pub all_hold : (rs : List Rule) → every holds_of rs ≡ true → broken rs ≡ none
+pub all_hold : (rs : List Rule) → every holds_of rs ≡ true → broken rs ≡ None
 unfolding broken
 all_hold [] e = refl
 all_hold (r ∷ rs) e = by r.holds e (all_hold rs)
   where
-    by : (t : Bool) → (t && every holds_of rs) ≡ true → (every holds_of rs ≡ true → broken rs ≡ none)
-        → pick t (broken rs) (some (sooner r (broken rs))) ≡ none
+    by : (t : Bool) → (t && every holds_of rs) ≡ true → (every holds_of rs ≡ true → broken rs ≡ None)
+        → pick t (broken rs) (Some (sooner r (broken rs))) ≡ None
     by true e more = more e
     by false e more = absurd (let z : ◌≡◌ {A = ℕ} 0 1 = cc in omega arith)
 
-pub none_broken : (rs : List Rule) → broken rs ≡ none → every holds_of rs ≡ true
+pub none_broken : (rs : List Rule) → broken rs ≡ None → every holds_of rs ≡ true
 unfolding broken
 none_broken [] e = refl
 none_broken (r ∷ rs) e = by r.holds e (none_broken rs)
   where
-    by : (t : Bool) → pick t (broken rs) (some (sooner r (broken rs))) ≡ none → (broken rs ≡ none → every holds_of rs ≡ true) → (t && every holds_of rs) ≡ true
+    by : (t : Bool) → pick t (broken rs) (Some (sooner r (broken rs))) ≡ None → (broken rs ≡ None → every holds_of rs ≡ true) → (t && every holds_of rs) ≡ true
     by true e more = more e
     by false e more = absurd (let z : ◌≡◌ {A = ℕ} 0 1 = cc in omega arith)
 
@@ -49,8 +49,8 @@ unfolding checked
 granted_holds rs a b e = by (broken rs) refl e
   where
     by : (o : Option Rule) → broken rs ≡ o → unless o a ≡ granted b → (every holds_of rs ≡ true) × (a ≡ b)
-    by none q e = (none_broken rs q, (cc))
-    by (some r) q e = absurd (let z : ◌≡◌ {A = ℕ} 0 1 = cc in omega arith)
+    by None q e = (none_broken rs q, (cc))
+    by (Some r) q e = absurd (let z : ◌≡◌ {A = ℕ} 0 1 = cc in omega arith)
 
 pub holds_granted : {A : Type 0} (rs : List Rule) (a : A) → every holds_of rs ≡ true → checked rs a ≡ granted a
 unfolding checked
@@ -59,15 +59,15 @@ holds_granted rs a e = rw (all_hold rs e)
 -- ---- rules put together
 
 abbrev pub or_else : Option Rule → Option Rule → Option Rule
-or_else none o = o
-or_else (some r) o = some (sooner r o)
+or_else None o = o
+or_else (Some r) o = Some (sooner r o)
 
-sooner_sooner : (r q : Rule) (o : Option Rule) → sooner r (some (sooner q o)) ≡ sooner (sooner r (some q)) o
-sooner_sooner r q none = refl
-sooner_sooner r q (some p) = by (leb r.number q.number) refl (leb q.number p.number) refl
+sooner_sooner : (r q : Rule) (o : Option Rule) → sooner r (Some (sooner q o)) ≡ sooner (sooner r (Some q)) o
+sooner_sooner r q None = refl
+sooner_sooner r q (Some p) = by (leb r.number q.number) refl (leb q.number p.number) refl
   where
     by : (t : Bool) → leb r.number q.number ≡ t → (u : Bool) → leb q.number p.number ≡ u
-        → sooner r (some (pick u q p)) ≡ sooner (pick t r q) (some p)
+        → sooner r (Some (pick u q p)) ≡ sooner (pick t r q) (Some p)
     by true e true f =
         let h : r.number ≤ p.number = omega (arith, leb-true r.number q.number e, leb-true q.number p.number f) in
         rw (e, le-leb r.number p.number h)
@@ -77,9 +77,9 @@ sooner_sooner r q (some p) = by (leb r.number q.number) refl (leb q.number p.num
         let h : p.number < r.number = omega (arith, leb-false r.number q.number e, leb-false q.number p.number f) in
         rw (f, lt-leb r.number p.number h)
 
-or_else_assoc : (r : Rule) (o p : Option Rule) → some (sooner r (or_else o p)) ≡ or_else (some (sooner r o)) p
-or_else_assoc r none p = refl
-or_else_assoc r (some q) p = ap some (sooner_sooner r q p)
+or_else_assoc : (r : Rule) (o p : Option Rule) → Some (sooner r (or_else o p)) ≡ or_else (Some (sooner r o)) p
+or_else_assoc r None p = refl
+or_else_assoc r (Some q) p = ap Some (sooner_sooner r q p)
 
 pub broken_append : (rs qs : List Rule) → broken (rs ++ qs) ≡ or_else (broken rs) (broken qs)
 unfolding broken
@@ -87,29 +87,29 @@ broken_append [] qs = refl
 broken_append (r ∷ rs) qs = by r.holds (broken_append rs qs)
   where
     by : (t : Bool) → broken (rs ++ qs) ≡ or_else (broken rs) (broken qs)
-        → pick t (broken (rs ++ qs)) (some (sooner r (broken (rs ++ qs)))) ≡ or_else (pick t (broken rs) (some (sooner r (broken rs)))) (broken qs)
+        → pick t (broken (rs ++ qs)) (Some (sooner r (broken (rs ++ qs)))) ≡ or_else (pick t (broken rs) (Some (sooner r (broken rs)))) (broken qs)
     by true e = e
-    by false e = ap (λ (o : Option Rule). some (sooner r o)) e ∙ or_else_assoc r (broken rs) (broken qs)
+    by false e = ap (λ (o : Option Rule). Some (sooner r o)) e ∙ or_else_assoc r (broken rs) (broken qs)
 
 -- ---- the numbers alone
 
 -- a rule that is broken has a number no smaller than what all numbers reach
-pub reaches : (n : ℕ) (rs : List Rule) → every (λ (q : Rule). leb n q.number) rs ≡ true → (p : Rule) → broken rs ≡ some p → n ≤ p.number
+pub reaches : (n : ℕ) (rs : List Rule) → every (λ (q : Rule). leb n q.number) rs ≡ true → (p : Rule) → broken rs ≡ Some p → n ≤ p.number
 unfolding broken
 reaches n [] h p e = absurd (let z : ◌≡◌ {A = ℕ} 0 1 = cc in omega arith)
 reaches n (r ∷ rs) h p e =
     by r.holds e (leb-true n r.number (and_left (leb n r.number) (every (λ (q : Rule). leb n q.number) rs) h))
     (reaches n rs (and_right (leb n r.number) (every (λ (q : Rule). leb n q.number) rs) h))
   where
-    either : (o : Option Rule) → broken rs ≡ o → n ≤ r.number → ((p : Rule) → broken rs ≡ some p → n ≤ p.number) → n ≤ (sooner r o).number
-    either none q k more = k
-    either (some x) q k more = pick_either (leb r.number x.number) k (more x q)
+    either : (o : Option Rule) → broken rs ≡ o → n ≤ r.number → ((p : Rule) → broken rs ≡ Some p → n ≤ p.number) → n ≤ (sooner r o).number
+    either None q k more = k
+    either (Some x) q k more = pick_either (leb r.number x.number) k (more x q)
       where
         pick_either : (t : Bool) → n ≤ r.number → n ≤ x.number → n ≤ (pick t r x).number
         pick_either true a b = a
         pick_either false a b = b
 
-    by : (t : Bool) → pick t (broken rs) (some (sooner r (broken rs))) ≡ some p → n ≤ r.number → ((p : Rule) → broken rs ≡ some p → n ≤ p.number) → n ≤ p.number
+    by : (t : Bool) → pick t (broken rs) (Some (sooner r (broken rs))) ≡ Some p → n ≤ r.number → ((p : Rule) → broken rs ≡ Some p → n ≤ p.number) → n ≤ p.number
     by true e k more = more p e
     by false e k more =
         let q : sooner r (broken rs) ≡ p = cc in
@@ -118,16 +118,16 @@ reaches n (r ∷ rs) h p e =
 module _ (r : Rule) (rs : List Rule) where
   pub passes : r.holds ≡ true → broken (r ∷ rs) ≡ broken rs
   unfolding broken
-  passes e = ap (λ (t : Bool). pick t (broken rs) (some (sooner r (broken rs)))) e
+  passes e = ap (λ (t : Bool). pick t (broken rs) (Some (sooner r (broken rs)))) e
 
   -- a broken rule whose number none behind it undercuts decides
   pub decides : r.holds ≡ false → every (λ (q : Rule). leb r.number q.number) rs ≡ true → smallest (r ∷ rs) ≡ r.number
   unfolding broken
-  decides e h = ap (λ (t : Bool). number_of (pick t (broken rs) (some (sooner r (broken rs))))) e ∙ by (broken rs) refl
+  decides e h = ap (λ (t : Bool). number_of (pick t (broken rs) (Some (sooner r (broken rs))))) e ∙ by (broken rs) refl
     where
       by : (o : Option Rule) → broken rs ≡ o → (sooner r o).number ≡ r.number
-      by none q = refl
-      by (some p) q = rw (le-leb r.number p.number (reaches r.number rs h p q))
+      by None q = refl
+      by (Some p) q = rw (le-leb r.number p.number (reaches r.number rs h p q))
 
 -- of two numbers of refusal the smaller; 0 is none
 abbrev pub lesser : ℕ → ℕ → ℕ
@@ -138,15 +138,15 @@ lesser (suc m) (suc n) = pick (leb (suc m) (suc n)) (suc m) (suc n)
 abbrev pub numbered : List Rule → Bool
 numbered rs = every (λ (q : Rule). leb 1 q.number) rs
 
-pub lesser_number : (o p : Option Rule) → ((r : Rule) → o ≡ some r → 1 ≤ r.number) → ((r : Rule) → p ≡ some r → 1 ≤ r.number)
+pub lesser_number : (o p : Option Rule) → ((r : Rule) → o ≡ Some r → 1 ≤ r.number) → ((r : Rule) → p ≡ Some r → 1 ≤ r.number)
     → number_of (or_else o p) ≡ lesser (number_of o) (number_of p)
-lesser_number none p f g = refl
-lesser_number (some r) none f g = alone r.number (f r refl)
+lesser_number None p f g = refl
+lesser_number (Some r) None f g = alone r.number (f r refl)
   where
     alone : (m : ℕ) → 1 ≤ m → m ≡ lesser m 0
     alone zero h = refl
     alone (suc m) h = refl
-lesser_number (some r) (some q) f g = by r.number q.number (f r refl) (g q refl) refl refl
+lesser_number (Some r) (Some q) f g = by r.number q.number (f r refl) (g q refl) refl refl
   where
     by : (m n : ℕ) → 1 ≤ m → 1 ≤ n → r.number ≡ m → q.number ≡ n → (pick (leb r.number q.number) r q).number ≡ lesser m n
     by zero n h k a b = absurd (omega arith)
@@ -172,8 +172,8 @@ unfolding checked
 told_checked f g rs a h = by (broken rs) refl
   where
     by : (o : Option Rule) → broken rs ≡ o → told f g (unless o a) ≡ pick (eqb (number_of o) 0) (g a) (f (number_of o))
-    by none q = refl
-    by (some r) q = let k : 1 ≤ r.number = reaches 1 rs h r q in rw (ne_eqb r.number 0 (λ z. omega (arith, z)))
+    by None q = refl
+    by (Some r) q = let k : 1 ≤ r.number = reaches 1 rs h r q in rw (ne_eqb r.number 0 (λ z. omega (arith, z)))
 
 -- ---- rules in rising order of their numbers: the first that is broken decides
 
@@ -193,10 +193,10 @@ in_order_lem (r ∷ rs) a e =
     (and_left (every (λ (q : Rule). leb r.number q.number) rs) (rising rs) e)
   where
     first : (o : Option Rule) → broken rs ≡ o → every (λ (q : Rule). leb r.number q.number) rs ≡ true → sooner r o ≡ r
-    first none q h = refl
-    first (some p) q h = rw (le-leb r.number p.number (reaches r.number rs h p q))
+    first None q h = refl
+    first (Some p) q h = rw (le-leb r.number p.number (reaches r.number rs h p q))
 
     by : (t : Bool) → checked rs a ≡ in_order rs a → every (λ (q : Rule). leb r.number q.number) rs ≡ true
-        → unless (pick t (broken rs) (some (sooner r (broken rs)))) a ≡ pick t (in_order rs a) (refused r)
+        → unless (pick t (broken rs) (Some (sooner r (broken rs)))) a ≡ pick t (in_order rs a) (refused r)
     by true more h = more
     by false more h = ap (λ (q : Rule). refused q) (first (broken rs) refl h)

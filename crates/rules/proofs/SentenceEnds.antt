@@ -5,7 +5,7 @@ use native.Mathlib.Omega.{arith}
 use mathlib.Core.Path.{◌≡◌, refl, sym, ap, ap₂, ◌∙◌, subst}
 use mathlib.Core.Logic.{◌⊎◌, inl, inr, ◌↔◌}
 use mathlib.Core.Bool.{Bool, true, false, ◌||◌}
-use mathlib.Core.Option.{some}
+use Rattle.std.specs.Prelude.{Some}
 use mathlib.Core.List.{List, [], ◌∷◌, ◌++◌, map}
 use lib.ListN.{length, length-append}
 use lib.Dec.{eqb}
@@ -201,7 +201,7 @@ module _ (s : Sentence) (head : HeadLine) (words : List NodeLine) (phrases : Lis
               record {
                 number_text = (written (columns line) 1).bytes;
                 columns = columns_said line.bytes (bytes "#EOS" ∷ (written (columns line) 1).bytes ∷ []) (two_columns line h.0.0 ∙ ap (λ (x : List ℕ). x ∷ (written (columns line) 1).bytes ∷ []) q);
-                number_written = (number_said sentence_number (written (columns line) 1).bytes head.number).0 (good_some o h.0.1.0 ∙ ap some (eqb-true (value o) s.heading.number h.0.1.1.0 ∙ its_number));
+                number_written = (number_said sentence_number (written (columns line) 1).bytes head.number).0 (good_some o h.0.1.0 ∙ ap Some (eqb-true (value o) s.heading.number h.0.1.1.0 ∙ its_number));
               };
           no_gap = λ n l u. (given_before n).0 (every_counted (listed s.phrases) 500 (length s.phrases) h.0.1.1.1.0 n l (omega (arith, phrases_count)));
           of_words = parents_said s.phrases phrases phrase_numbers s.words words word_sides (each_every (parented s.phrases) s.words (each_front P s.words s.phrases both));
@@ -213,7 +213,7 @@ module _ (s : Sentence) (head : HeadLine) (words : List NodeLine) (phrases : Lis
     unfolding end_of end_rules
     end_grants t no_gap of_words of_phrases goes_on =
         let o = number sentence_number (written (columns line) 1).bytes in
-        let is : o ≡ some head.number = ap (number sentence_number) (name_second line (bytes "#EOS") t.number_text t.columns) ∙ (number_said sentence_number t.number_text head.number).1 t.number_written in
+        let is : o ≡ Some head.number = ap (number sentence_number) (name_second line (bytes "#EOS") t.number_text t.columns) ∙ (number_said sentence_number t.number_text head.number).1 t.number_written in
         let P : Node → Type 0 = λ (n : Node). parented s.phrases n ≡ true in
         held_through K out f _ _ (
           eq-eqb (length (columns line)) 2 (columns_two line (bytes "#EOS") t.number_text t.columns),

@@ -11,7 +11,7 @@ use Rattle.rules.specs.Lists.{sorted, Each}
 use Rattle.rules.specs.Sentences.{Sentence}
 use Rattle.rules.specs.Reading.{Handed}
 use Rattle.rules.specs.Meaning.{sentence_number_of, meant_sentence, meant_sentences}
-use Rattle.rules.specs.Same.{Some, SameSentence, handed_number, Occurs, SentencesAgree}
+use Rattle.rules.specs.Same.{Any, SameSentence, handed_number, Occurs, SentencesAgree}
 use Rattle.rules.proofs.Conjunctions.{or_left, or_right}
 use Rattle.rules.proofs.EachElement.{each_then, each_both}
 use Rattle.rules.proofs.Sorting.{has, Distinct, map_sorted}
@@ -22,7 +22,7 @@ use Rattle.rules.proofs.SameFields.{PhrasesDiffer, same_sentence}
 -- ---- said of lists
 
 -- what one of a list tells, whichever it is
-told_by_some : {A : Type 0} (C : Type 0) (xs : List A) → Some (λ (x : A). C) xs → C
+told_by_some : {A : Type 0} (C : Type 0) (xs : List A) → Any (λ (x : A). C) xs → C
 told_by_some C [] s = absurd s
 told_by_some C (x ∷ xs) (inl c) = c
 told_by_some C (x ∷ xs) (inr s) = told_by_some C xs s
@@ -38,7 +38,7 @@ module _ {A : Type 0} (key : A → ℕ) (So : A → Type 0) (k : ℕ) (numbered 
   lacking n [] e = tt
   lacking n (x ∷ xs) e = (eqb-false n (key x) (or_left (eqb n (key x)) (has key n xs) e), lacking n xs (or_right (eqb n (key x)) (has key n xs) e))
 
-  only_one : (xs : List A) → Distinct key xs → Some So xs → Each (λ (x : A). k ≡ key x → So x) xs
+  only_one : (xs : List A) → Distinct key xs → Any So xs → Each (λ (x : A). k ≡ key x → So x) xs
   only_one [] d s = tt
   only_one (x ∷ xs) d (inl p) = ((λ e. p), each_then _ _ (λ z n e. absurd (n (numbered x p ∙ e))) xs (lacking (key x) xs d.0))
   only_one (x ∷ xs) d (inr s) = ((λ e. absurd (other e)), only_one xs d.1 s)
@@ -65,14 +65,14 @@ exactly : (h g : Handed) → Sound h → Sound g → (meant h ≡ meant g) ↔ A
 exactly h g d c = same_sentence h.sentence g.sentence d c
 
 -- a number that occurs among sentences that have their like occurs among these
-occurs_alike : (P : Handed → Handed → Type 0) → ((h g : Handed) → P h g → handed_number g ≡ handed_number h) → (hs gs : List Handed) → Each (λ (h : Handed). Some (λ (g : Handed). P h g) gs) hs
+occurs_alike : (P : Handed → Handed → Type 0) → ((h g : Handed) → P h g → handed_number g ≡ handed_number h) → (hs gs : List Handed) → Each (λ (h : Handed). Any (λ (g : Handed). P h g) gs) hs
     → (n : ℕ) → Occurs n hs → Occurs n gs
 occurs_alike P numbered hs gs a n o =
     told_by_some (Occurs n gs) hs (some_then _ _ (λ h p. some_then _ _ (λ g s. numbered h g s ∙ p.1) gs p.0) hs (each_some _ _ hs a o))
 
 -- if the sentences of each number agree, and the same numbers occur, each has its like
 like_of_each : (P : Handed → Handed → Type 0) (hs gs : List Handed) → ((n : ℕ) → Occurs n hs → Occurs n gs) → Each (λ (h : Handed). Each (λ (g : Handed). handed_number h ≡ handed_number g → P h g) gs) hs
-    → Each (λ (h : Handed). Some (λ (g : Handed). P h g) gs) hs
+    → Each (λ (h : Handed). Any (λ (g : Handed). P h g) gs) hs
 like_of_each P hs gs occurs a =
     each_then _ _
     (λ h p. some_then _ _ (λ g q. q.0 (sym q.1)) gs (each_some _ _ gs p.1 (occurs (handed_number h) (some_then _ _ (λ i e. rw e) hs p.0))))

@@ -4,7 +4,7 @@ use Prim.Native.Nat.{ℕ, ◌<◌}
 use native.Mathlib.Omega.{arith}
 use mathlib.Core.Path.{◌≡◌, refl, sym, ap, ◌∙◌, subst}
 use mathlib.Core.Bool.{Bool, true, false, not, ◌&&◌, ◌||◌}
-use mathlib.Core.Option.{Option, none, some}
+use Rattle.std.specs.Prelude.{Option, None, Some}
 use mathlib.Core.List.{List, [], ◌∷◌, ◌++◌, append_assoc, append-nil}
 use lib.ListN.{length, get_or, length-set}
 use lib.Seq.{get_or-set_same, get_or-set_other}
@@ -48,7 +48,7 @@ hash_first line c e =
     let its : b.first.text.bytes ≡ bytes "#" ++ c = sym (ap (λ (cs : List Column). (written cs 0).bytes) b.form) ∙ s.1 in
     (c ++ b.first.after.bytes, b.whole ∙ ap (λ (xs : List ℕ). xs ++ b.first.after.bytes) its)
 
-one_name : (n m : ℕ) → ◌≡◌ {A = Option ℕ} (some n) (some m) → n ≡ m
+one_name : (n m : ℕ) → ◌≡◌ {A = Option ℕ} (Some n) (Some m) → n ≡ m
 one_name n m e = cc
 
 -- ---- one line; K is what is to be so behind it
@@ -171,7 +171,7 @@ module _ (E : Phase → List Sentence → Type 0) where
     pub preamble : Preamble
     pub told : List Row
     pub each_row : EachWith (TableRowSaid n) told rows
-    pub there : table n preamble.tables ≡ some told
+    pub there : table n preamble.tables ≡ Some told
     pub out : List Sentence
     pub goes_on : Walks E tail (top preamble) out
 
@@ -192,7 +192,7 @@ module _ (E : Phase → List Sentence → Type 0) where
         preamble = with_table p n r.0;
         told = r.0;
         each_row = r.1;
-        there = get_or-set_same p.tables n (some r.0) none (omega (arith, room));
+        there = get_or-set_same p.tables n (Some r.0) None (omega (arith, room));
         out = out;
         goes_on = eot_closes (Walks E tail) out c.0 (numbers_in out) p n r.0 (subst (Names (bytes "#EOT") n) (sym c.1) ends) c.2;
       }
@@ -207,8 +207,8 @@ module _ (E : Phase → List Sentence → Type 0) where
   phase_seven (in_sentence p s) h = h
   phase_seven (behind_sentence p) h = h
 
-  phase_has : (n : ℕ) (us : List Row) (ph : Phase) → Holds ⊥ (λ (ts : Tables). table n ts ≡ some us) (λ (m : ℕ) (ts : Tables). m ≡ n → ⊥) ph
-      → table n (tables_at ph) ≡ some us
+  phase_has : (n : ℕ) (us : List Row) (ph : Phase) → Holds ⊥ (λ (ts : Tables). table n ts ≡ Some us) (λ (m : ℕ) (ts : Tables). m ≡ n → ⊥) ph
+      → table n (tables_at ph) ≡ Some us
   phase_has n us start h = absurd h
   phase_has n us (top p) h = h
   phase_has n us (in_table p m rs) h = h.0
@@ -222,7 +222,7 @@ module _ (E : Phase → List Sentence → Type 0) where
     pub phase : Phase
     pub out : List Sentence
     pub at_end_lem : E phase out
-    pub there : table n (tables_at phase) ≡ some told
+    pub there : table n (tables_at phase) ≡ Some told
 
   last_taken : (ph : Phase) (out : List Sentence) → Walks E [] ph out → E ph out
   last_taken ph out w = by w.0 w.1 w.2
@@ -237,12 +237,12 @@ module _ (E : Phase → List Sentence → Type 0) where
       → Walks E (before ++ (((bot ∷ rows) ++ (eot ∷ [])) ++ behind)) start [] → Standing n rows
   stands_told n l bot eot before rows behind begins ends plain w =
       let to = walked (Unit {0}) (λ (ts : Tables). length ts ≡ 7) (λ (m : ℕ) (ts : Tables). Unit {0}) (λ s. refl) (λ m ts q new. tt)
-      (λ m rs ts q r. length-set ts m (some rs) ∙ q) E before (((bot ∷ rows) ++ (eot ∷ [])) ++ behind) start [] tt w in
+      (λ m rs ts q r. length-set ts m (Some rs) ∙ q) E before (((bot ∷ rows) ++ (eot ∷ [])) ++ behind) start [] tt w in
       let c = table_walked n l bot eot rows behind begins ends plain to.0 to.1 (phase_seven to.0 to.2) to.3 in
       let us = c.told in
-      let on = walked ⊥ (λ (ts : Tables). table n ts ≡ some us) (λ (m : ℕ) (ts : Tables). m ≡ n → ⊥) (λ s. absurd s)
+      let on = walked ⊥ (λ (ts : Tables). table n ts ≡ Some us) (λ (m : ℕ) (ts : Tables). m ≡ n → ⊥) (λ s. absurd s)
       (λ m ts q new e. new (ap (λ (m : ℕ). present m ts) e ∙ ap there_is q))
-      (λ m rs ts q other. get_or-set_other ts m n (some rs) none (λ e. other (sym e)) ∙ q) E behind [] (top c.preamble) c.out c.there
+      (λ m rs ts q other. get_or-set_other ts m n (Some rs) None (λ e. other (sym e)) ∙ q) E behind [] (top c.preamble) c.out c.there
       (subst (λ (ls : List (List ℕ)). Walks E ls (top c.preamble) c.out) (sym (append-nil behind)) c.goes_on) in
       record {
         told = us;

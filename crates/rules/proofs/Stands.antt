@@ -2,7 +2,7 @@
 use Prim.Native.Nat.{ℕ, ◌+◌}
 use mathlib.Core.Path.{◌≡◌, refl, sym, ap, ◌∙◌, subst}
 use mathlib.Core.Bool.{true, false, false≢true}
-use mathlib.Core.Option.{none}
+use Rattle.std.specs.Prelude.{None}
 use mathlib.Core.List.{List, [], ◌∷◌, ◌++◌, reverse}
 use lib.ListN.{length}
 use borrow.Author.Tests.{ne_eqb}
@@ -23,7 +23,7 @@ use Rattle.rules.proofs.SentencesKept.{bare_sentence}
 use Rattle.rules.proofs.KeptReading.{bares}
 
 pub record Stands (place : Phase) (ss : List Sentence) (r : Reading) : Type 0 where
-  pub sound : r.fault ≡ none
+  pub sound : r.fault ≡ None
   pub unbegun : r.part ≡ []
   pub phase : r.phase ≡ place
   pub handed : bares r.handed ≡ ss
@@ -46,7 +46,7 @@ module _ (phase : Phase) (ss : List Sentence) (r : Reading) (l : List ℕ) (s : 
         part = reverse l;
         phase = r.phase;
         handed = r.handed;
-        fault = none;
+        fault = None;
       }
 
   line_ended : (a : Answer) → step phase (numbers r.handed) (next_line r l) ≡ a → read r (l ++ (newline ∷ [])) ≡ ended behind_bytes a

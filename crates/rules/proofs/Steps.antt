@@ -4,7 +4,7 @@ use Prim.Native.Nat.{ℕ, zero, suc, ◌≤◌}
 use native.Mathlib.Omega.{arith}
 use mathlib.Core.Path.{◌≡◌, refl, sym, ap, ◌∙◌, subst}
 use mathlib.Core.Bool.{Bool, true, false, not, ◌&&◌, false≢true}
-use mathlib.Core.Option.{Option, none, some}
+use Rattle.std.specs.Prelude.{Option, None, Some}
 use mathlib.Core.List.{List, [], ◌∷◌, ◌++◌}
 use lib.ListN.{length}
 use lib.Dec.{leb, eqb}
@@ -54,8 +54,8 @@ module _ (P : Answer → Type 0) where
         above (suc m) e = omega arith
 
         by : (o : Option Rule) → broken rs ≡ o → told (λ (n : ℕ). n) (λ (x : A). 1) (unless o a) ≡ pick (eqb (number_of o) 0) 1 (number_of o) → P (next f (unless o a))
-        by none q e = g (none_broken rs q)
-        by (some r) q e = bad r (above r.number e)
+        by None q e = g (none_broken rs q)
+        by (Some r) q e = bad r (above r.number e)
 
     -- one line: it is ignored, or it fits and is answerTo where the reading stands
     pub step_cases : (phase : Phase) (used : List ℕ) (line : Text) → P (go phase) → (LineFit line.bytes → P (answer_at phase used line (first_column line))) → P (step phase used line)

@@ -3,7 +3,7 @@ use Prim.Native.Nat.{ℕ, suc, ◌+◌, ◌-◌, ◌*◌, ◌≤◌, ◌<◌}
 use native.Mathlib.Numerals.{add-one}
 use native.Mathlib.Omega.{arith}
 use mathlib.Core.Path.{◌≡◌, refl, sym, ap, ◌∙◌, subst}
-use mathlib.Core.Option.{Option, none}
+use Rattle.std.specs.Prelude.{Option, None}
 use mathlib.Core.List.{List, [], ◌∷◌, ◌++◌, map, append-nil}
 use lib.ListN.{length, take, drop, get_or, replicate, length-append, length-map, length-replicate, get_or-replicate, get_or-append, get_or-map}
 use lib.Seq.{split_at, length-take-le}
@@ -75,7 +75,7 @@ module _ (ts : Tables) (seven : length ts ≡ 7) (fit : Each FewRows ts) where
   module _ (n : ℕ) (below : n < 7) where
     count_at : get_or (table_sheet ts) n 0 ≡ count (table n ts)
     unfolding table_sheet
-    count_at = get_or-append (map count ts) (joined (map room_of ts)) 0 n (omega (arith, counts)) ∙ get_or-map count ts n none
+    count_at = get_or-append (map count ts) (joined (map room_of ts)) 0 n (omega (arith, counts)) ∙ get_or-map count ts n None
 
     -- a number of the n-th table's room
     room_at : (i : ℕ) → i < 1536 → get_or (table_sheet ts) (7 + 1536 * n + i) 0 ≡ get_or (room_of (table n ts)) i 0
@@ -84,7 +84,7 @@ module _ (ts : Tables) (seven : length ts ≡ 7) (fit : Each FewRows ts) where
         let front = take n ts in
         let t = table n ts in
         let back = drop (suc n) ts in
-        let parts : ts ≡ front ++ (t ∷ back) = split_at ts n none (omega (arith, seven)) in
+        let parts : ts ≡ front ++ (t ∷ back) = split_at ts n None (omega (arith, seven)) in
         let sized : length front ≡ n = length-take-le n ts (omega (arith, seven)) in
         let both : Each Room (front ++ (t ∷ back)) =
         subst (Each Room) parts wide in
@@ -94,14 +94,14 @@ module _ (ts : Tables) (seven : length ts ≡ 7) (fit : Each FewRows ts) where
         ∙ ap (λ (us : Tables). get_or (joined (map room_of us)) (1536 * length front + i) 0) parts
         ∙ ap (λ (l : List ℕ). get_or l (1536 * length front + i) 0) (sym (append-nil (joined (map room_of (front ++ (t ∷ back))))))
         ∙ at_around room_of 1536 front t back [] i 0 (each_front Room front (t ∷ back) both)
-        ∙ get_or-append (room_of t) (joined (map room_of back) ++ []) 0 i (omega (arith, each_at Room ts n none wide (omega (arith, seven))))
+        ∙ get_or-append (room_of t) (joined (map room_of back) ++ []) 0 i (omega (arith, each_at Room ts n None wide (omega (arith, seven))))
 
     row_laid : (front : List Row) (r : Row) (back : List Row) → rows_of (table n ts) ≡ front ++ (r ∷ back) → RowLaid (table_sheet ts) (7 + 1536 * n + 6 * length front) r
     row_laid front r back e =
         record { id = at 0 (omega arith); first_start = at 1 (omega arith); first_length = at 2 (omega arith); second_start = at 3 (omega arith); second_length = at 4 (omega arith); flag = at 5 (omega arith) }
       where
         fits : length (rows_of (table n ts)) ≤ 256
-        fits = each_at FewRows ts n none fit (omega (arith, seven))
+        fits = each_at FewRows ts n None fit (omega (arith, seven))
 
         at : (j : ℕ) → j < 6
             → get_or (table_sheet ts) (7 + 1536 * n + 6 * length front + j) 0

@@ -4,7 +4,7 @@ use Prim.Native.Nat.{ℕ, zero, suc, ◌≤◌, ◌<◌}
 use native.Mathlib.Omega.{arith}
 use mathlib.Core.Path.{◌≡◌, refl, sym, ap, ◌∙◌}
 use mathlib.Core.Logic.{◌↔◌}
-use mathlib.Core.Option.{Option, none, some}
+use Rattle.std.specs.Prelude.{Option, None, Some}
 use mathlib.Core.List.{List, [], ◌∷◌, map}
 use lib.ListN.{length, length-map, get_or-map}
 use lib.Seq.{ext_get_or}
@@ -18,26 +18,26 @@ use Rattle.rules.proofs.NumbersDiffer.{IdsDiffer, TablesDiffer}
 
 -- ---- one table
 
-unlike : (rs : List Row) → ◌≡◌ {A = Option (List Row)} none (some rs) → ⊥
+unlike : (rs : List Row) → ◌≡◌ {A = Option (List Row)} None (Some rs) → ⊥
 unlike rs e = let z : ◌≡◌ {A = ℕ} 0 1 = cc in omega arith
 
-both_present : (Alike : List Row → List Row → Type 0) (rs qs xs ys : List Row) → (xs ≡ ys) ↔ Alike rs qs → (some xs ≡ some ys) ↔ Alike rs qs
-both_present Alike rs qs xs ys exactly = ((λ e. let same : xs ≡ ys = cc in exactly.0 same), (λ a. ap some (exactly.1 a)))
+both_present : (Alike : List Row → List Row → Type 0) (rs qs xs ys : List Row) → (xs ≡ ys) ↔ Alike rs qs → (Some xs ≡ Some ys) ↔ Alike rs qs
+both_present Alike rs qs xs ys exactly = ((λ e. let same : xs ≡ ys = cc in exactly.0 same), (λ a. ap Some (exactly.1 a)))
 
 -- rows as they stand
 tag_table : (o p : Option (List Row)) → (meant_rows o ≡ meant_rows p) ↔ Present (InOrder SameRow) o p
-tag_table none none = ((λ e. tt), (λ a. refl))
-tag_table none (some qs) = (unlike (map bare_row qs), (λ a. absurd a))
-tag_table (some rs) none = ((λ e. unlike (map bare_row rs) (sym e)), (λ a. absurd a))
-tag_table (some rs) (some qs) =
+tag_table None None = ((λ e. tt), (λ a. refl))
+tag_table None (Some qs) = (unlike (map bare_row qs), (λ a. absurd a))
+tag_table (Some rs) None = ((λ e. unlike (map bare_row rs) (sym e)), (λ a. absurd a))
+tag_table (Some rs) (Some qs) =
     both_present (InOrder SameRow) rs qs (map bare_row rs) (map bare_row qs) (alike_in_order bare_row Any SameRow same_row rs qs (each_any rs) (each_any qs))
 
 -- rows in any order
 id_table : (o p : Option (List Row)) → IdsDiffer o → IdsDiffer p → (meant_rows (by_id o) ≡ meant_rows (by_id p)) ↔ Present (InAnyOrder SameRow) o p
-id_table none none d c = ((λ e. tt), (λ a. refl))
-id_table none (some qs) d c = (unlike (map bare_row (sorted row_id qs)), (λ a. absurd a))
-id_table (some rs) none d c = ((λ e. unlike (map bare_row (sorted row_id rs)) (sym e)), (λ a. absurd a))
-id_table (some rs) (some qs) d c =
+id_table None None d c = ((λ e. tt), (λ a. refl))
+id_table None (Some qs) d c = (unlike (map bare_row (sorted row_id qs)), (λ a. absurd a))
+id_table (Some rs) None d c = ((λ e. unlike (map bare_row (sorted row_id rs)) (sym e)), (λ a. absurd a))
+id_table (Some rs) (Some qs) d c =
     both_present (InAnyOrder SameRow) rs qs (map bare_row (sorted row_id rs)) (map bare_row (sorted row_id qs))
     (alike_in_any_order bare_row Any SameRow same_row row_id row_id (λ r. refl) rs qs (each_any rs) (each_any qs) d c)
 
@@ -56,7 +56,7 @@ editor_meant (o ∷ e ∷ ts) = refl
 tag_meant : (n : ℕ) (ts : Tables) → table (suc (suc n)) (meant_tables ts) ≡ meant_rows (table (suc (suc n)) ts)
 tag_meant n [] = refl
 tag_meant n (o ∷ []) = refl
-tag_meant n (o ∷ e ∷ ts) = get_or-map meant_rows ts n none
+tag_meant n (o ∷ e ∷ ts) = get_or-map meant_rows ts n None
 
 pub length_meant : (ts : Tables) → length (meant_tables ts) ≡ length ts
 length_meant [] = refl
@@ -86,7 +86,7 @@ module _ (ts us : Tables) (d : TablesDiffer ts) (c : TablesDiffer us) where
   agree_meant : TablesAgree ts us → meant_tables ts ≡ meant_tables us
   agree_meant a =
       let seven = length_meant ts ∙ d.seven in
-      ext_get_or none (meant_tables ts) (meant_tables us) (seven ∙ sym (length_meant us ∙ c.seven)) (λ n l. each n (omega (arith, seven)))
+      ext_get_or None (meant_tables ts) (meant_tables us) (seven ∙ sym (length_meant us ∙ c.seven)) (λ n l. each n (omega (arith, seven)))
     where
       each : (n : ℕ) → n < 7 → table n (meant_tables ts) ≡ table n (meant_tables us)
       each zero l = origin_meant ts ∙ origin_table.1 a.origin_rows ∙ sym (origin_meant us)

@@ -6,7 +6,7 @@ use native.Mathlib.Nat.{add-zero}
 use mathlib.Core.Path.{◌≡◌, refl, sym, ap, ap₂, ◌∙◌, subst}
 use mathlib.Core.Logic.{◌⊎◌, inl, inr, ◌↔◌}
 use mathlib.Core.Bool.{Bool, true, false, false≢true, not, ◌||◌}
-use mathlib.Core.Option.{Option, none, some}
+use Rattle.std.specs.Prelude.{Option, None, Some}
 use mathlib.Core.List.{List, [], ◌∷◌, ◌++◌, map}
 use lib.ListN.{length, get_or, set, replicate, length-set}
 use lib.Seq.{get_or-set_same, get_or-set_other}
@@ -34,23 +34,23 @@ record Placed (k n : ℕ) (t : Text) (names : List (List ℕ)) : Type 0 where
   number : n ≡ k + at
   name : t.bytes ≡ get_or names at []
 
-placed : (k n : ℕ) (t : Text) (names : List (List ℕ)) → place_from k t names ≡ some n → Placed k n t names
+placed : (k n : ℕ) (t : Text) (names : List (List ℕ)) → place_from k t names ≡ Some n → Placed k n t names
 placed k n t [] e = absurd (let z : ◌≡◌ {A = ℕ} 0 1 = cc in omega arith)
 placed k n t (x ∷ xs) e = by (reads x t) refl e (placed (suc k) n t xs)
   where
-    by : (b : Bool) → reads x t ≡ b → pick b (some k) (place_from (suc k) t xs) ≡ some n → (place_from (suc k) t xs ≡ some n → Placed (suc k) n t xs) → Placed k n t (x ∷ xs)
+    by : (b : Bool) → reads x t ≡ b → pick b (Some k) (place_from (suc k) t xs) ≡ Some n → (place_from (suc k) t xs ≡ Some n → Placed (suc k) n t xs) → Placed k n t (x ∷ xs)
     by true h e more = record { at = 0; there = omega arith; number = let q : k ≡ n = cc in omega arith; name = (reads_are x t).0 h }
     by false h e more =
         let p = more e in
         record { at = suc p.at; there = omega (arith, p.there); number = omega (arith, p.number); name = p.name }
 
-pub named_is : (t : Text) (n : ℕ) → table_named t ≡ some n → (n < 7) × (t.bytes ≡ get_or table_names n [])
+pub named_is : (t : Text) (n : ℕ) → table_named t ≡ Some n → (n < 7) × (t.bytes ≡ get_or table_names n [])
 named_is t n e =
     let p = placed 0 n t table_names e in
     let q : n ≡ p.at = omega (arith, p.number) in
     (omega (arith, p.there), p.name ∙ ap (λ (k : ℕ). get_or table_names k []) (sym q))
 
-pub is_named : (t : Text) (n : ℕ) → n < 7 → t.bytes ≡ get_or table_names n [] → table_named t ≡ some n
+pub is_named : (t : Text) (n : ℕ) → n < 7 → t.bytes ≡ get_or table_names n [] → table_named t ≡ Some n
 is_named t zero h e = rw e
 is_named t (suc zero) h e = rw e
 is_named t (suc (suc zero)) h e = rw e
@@ -63,14 +63,14 @@ is_named t (suc (suc (suc (suc (suc (suc (suc n))))))) h e = absurd (omega arith
 -- ---- tables that stand for each other
 
 abbrev pub Slot : Option (List Row) → ℕ → List TableLines → Type 0
-Slot none w ts = In w (whiches ts) → ⊥
-Slot (some rs) w ts = In w (whiches ts) × ((t : TableLines) → In t ts → t.which ≡ w → Alike rs t.rows)
+Slot None w ts = In w (whiches ts) → ⊥
+Slot (Some rs) w ts = In w (whiches ts) × ((t : TableLines) → In t ts → t.which ≡ w → Alike rs t.rows)
 
 pub record Stand (T : Tables) (ts : List TableLines) : Type 0 where
   pub seven : length T ≡ 7
   pub slot : (w : ℕ) → Slot (table w T) w ts
 
-none_there : (n w : ℕ) → ◌≡◌ {A = Option (List Row)} (get_or (replicate n none) w none) none
+none_there : (n w : ℕ) → ◌≡◌ {A = Option (List Row)} (get_or (replicate n None) w None) None
 none_there zero w = refl
 none_there (suc n) zero = refl
 none_there (suc n) (suc w) = none_there n w
@@ -88,7 +88,7 @@ module _ (T : Tables) (ts : List TableLines) (s : Stand T ts) where
         either (inr (inl e)) = inr e
         either (inr (inr i)) = absurd i
 
-    slot_same : (w : ℕ) → w ≡ t.which → Slot (some rs) w (ts ++ (t ∷ []))
+    slot_same : (w : ℕ) → w ≡ t.which → Slot (Some rs) w (ts ++ (t ∷ []))
     slot_same w e = (
       subst (λ (w : ℕ). In w (whiches (ts ++ (t ∷ [])))) (sym e) (in_map (λ (t : TableLines). t.which) t (ts ++ (t ∷ [])) (in_last t ts)),
       λ u i q. either u q (in_either u ts (t ∷ []) i),
@@ -100,12 +100,12 @@ module _ (T : Tables) (ts : List TableLines) (s : Stand T ts) where
         either u q (inr (inr i)) = absurd i
 
     slot_other : (w : ℕ) (o : Option (List Row)) → (w ≡ t.which → ⊥) → Slot o w ts → Slot o w (ts ++ (t ∷ []))
-    slot_other w none n k = λ i. either (in_which w i)
+    slot_other w None n k = λ i. either (in_which w i)
       where
         either : In w (whiches ts) ⊎ (w ≡ t.which) → ⊥
         either (inl i) = k i
         either (inr e) = n e
-    slot_other w (some qs) n k = (
+    slot_other w (Some qs) n k = (
       rw (map_append (λ (t : TableLines). t.which) ts (t ∷ [])) (in_front w (whiches ts) (t.which ∷ []) k.0),
       λ u i q. either u q (in_either u ts (t ∷ []) i),
     )
@@ -116,39 +116,39 @@ module _ (T : Tables) (ts : List TableLines) (s : Stand T ts) where
         either u q (inr (inr i)) = absurd i
 
     pub stand_more : Stand (closed t.which rs T) (ts ++ (t ∷ []))
-    stand_more = record { seven = length-set T t.which (some rs) ∙ s.seven; slot = λ w. by w (true_or_not (eqb w t.which)) }
+    stand_more = record { seven = length-set T t.which (Some rs) ∙ s.seven; slot = λ w. by w (true_or_not (eqb w t.which)) }
       where
         by : (w : ℕ) → (eqb w t.which ≡ true) ⊎ (eqb w t.which ≡ false) → Slot (table w (closed t.which rs T)) w (ts ++ (t ∷ []))
         by w (inl e) =
             let q = eqb-true w t.which e in
-            let at : table w (closed t.which rs T) ≡ some rs =
-            ap (λ (w : ℕ). get_or (set T t.which (some rs)) w none) q ∙ get_or-set_same T t.which (some rs) none (omega (arith, s.seven)) in
+            let at : table w (closed t.which rs T) ≡ Some rs =
+            ap (λ (w : ℕ). get_or (set T t.which (Some rs)) w None) q ∙ get_or-set_same T t.which (Some rs) None (omega (arith, s.seven)) in
             subst (λ (o : Option (List Row)). Slot o w (ts ++ (t ∷ []))) (sym at) (slot_same w q)
         by w (inr e) =
             let n = eqb-false w t.which e in
-            subst (λ (o : Option (List Row)). Slot o w (ts ++ (t ∷ []))) (sym (get_or-set_other T t.which w (some rs) none n)) (slot_other w (table w T) n (s.slot w))
+            subst (λ (o : Option (List Row)). Slot o w (ts ++ (t ∷ []))) (sym (get_or-set_other T t.which w (Some rs) None n)) (slot_other w (table w T) n (s.slot w))
 
   -- ---- they say the same
 
-  none_named : (w : ℕ) (ts : List TableLines) → (In w (whiches ts) → ⊥) → none ≡ rows_named ts w
+  none_named : (w : ℕ) (ts : List TableLines) → (In w (whiches ts) → ⊥) → None ≡ rows_named ts w
   none_named w [] n = refl
   none_named w (t ∷ ts) n =
       none_named w ts (λ i. n (inr i))
-      ∙ sym (ap (λ (b : Bool). pick b (some (map row_says t.rows)) (rows_named ts w)) (false_if_never (eqb t.which w) (λ e. n (inl (sym (eqb-true t.which w e))))))
+      ∙ sym (ap (λ (b : Bool). pick b (Some (map row_says t.rows)) (rows_named ts w)) (false_if_never (eqb t.which w) (λ e. n (inl (sym (eqb-true t.which w e))))))
 
-  some_named : (w : ℕ) (rs : List Row) (ts : List TableLines) → In w (whiches ts) → ((t : TableLines) → In t ts → t.which ≡ w → Alike rs t.rows) → some (map row_read rs) ≡ rows_named ts w
+  some_named : (w : ℕ) (rs : List Row) (ts : List TableLines) → In w (whiches ts) → ((t : TableLines) → In t ts → t.which ≡ w → Alike rs t.rows) → Some (map row_read rs) ≡ rows_named ts w
   some_named w rs [] i f = absurd i
   some_named w rs (t ∷ ts) i f = by (eqb t.which w) refl i (λ j. some_named w rs ts j (λ u k q. f u (inr k) q))
     where
-      by : (b : Bool) → eqb t.which w ≡ b → In w (whiches (t ∷ ts)) → (In w (whiches ts) → some (map row_read rs) ≡ rows_named ts w)
-          → some (map row_read rs) ≡ pick b (some (map row_says t.rows)) (rows_named ts w)
-      by true e i more = ap some (f t (inl refl) (eqb-true t.which w e))
+      by : (b : Bool) → eqb t.which w ≡ b → In w (whiches (t ∷ ts)) → (In w (whiches ts) → Some (map row_read rs) ≡ rows_named ts w)
+          → Some (map row_read rs) ≡ pick b (Some (map row_says t.rows)) (rows_named ts w)
+      by true e i more = ap Some (f t (inl refl) (eqb-true t.which w e))
       by false e (inl q) more = absurd (eqb-false t.which w e (sym q))
       by false e (inr i) more = more i
 
   slot_says : (w : ℕ) (o : Option (List Row)) → Slot o w ts → table_read o ≡ rows_named ts w
-  slot_says w none k = none_named w ts k
-  slot_says w (some rs) k = some_named w rs ts k.0 k.1
+  slot_says w None k = none_named w ts k
+  slot_says w (Some rs) k = some_named w rs ts k.0 k.1
 
   by_places : (f : ℕ → Option (List RowContent)) (U : Tables) (k : ℕ) → ((w : ℕ) → table_read (table w U) ≡ f (k + w)) → map table_read U ≡ map f (counting k (length U))
   by_places f [] k h = refl
@@ -167,16 +167,16 @@ module _ (T : Tables) (ts : List TableLines) (s : Stand T ts) where
   is_there w = by (table w T) (s.slot w)
     where
       by : (o : Option (List Row)) → Slot o w ts → (there o ≡ true) ↔ In w (whiches ts)
-      by none k = (λ e. absurd (false≢true e), λ i. absurd (k i))
-      by (some rs) k = (λ e. k.0, λ i. refl)
+      by None k = (λ e. absurd (false≢true e), λ i. absurd (k i))
+      by (Some rs) k = (λ e. k.0, λ i. refl)
 
   pub has_row : (w i : ℕ) → (has_id i (rows_of (table w T)) ≡ true) ↔ HasRow ts w i
   has_row w i = by (table w T) (s.slot w)
     where
       by : (o : Option (List Row)) → Slot o w ts → (has_id i (rows_of o) ≡ true) ↔ HasRow ts w i
-      by none k =
+      by None k =
           (λ e. absurd ((has_id_lem i []).0 e), λ h. absurd (k (subst (λ (w : ℕ). In w (whiches ts)) h.2 (in_map (λ (t : TableLines). t.which) h.0 ts h.1))))
-      by (some rs) k = (
+      by (Some rs) k = (
         λ e. let t = in_mapped (λ (t : TableLines). t.which) w ts k.0 in (t.0, t.1, t.2, subst (In i) (alike_ids rs t.0.rows (k.1 t.0 t.1 t.2)) ((has_id_lem i rs).0 e)),
         λ h. (has_id_lem i rs).1 (subst (In i) (sym (alike_ids rs h.0.rows (k.1 h.0 h.1 h.2))) h.3),
       )
@@ -199,11 +199,11 @@ module _ (T : Tables) (ts : List TableLines) (s : Stand T ts) where
           (or_both_ways (reserved t) tested).1 (inl ((or_both_ways (reads dashes t) (reads unknown t)).1 (inr ((reads_are unknown t).1 u))))
 
       by : (o : Option (List Row)) → Slot o w ts → ((reserved t || not (there o) || has_tag t (rows_of o)) ≡ true) ↔ Known ts w t.bytes
-      by none k = (
+      by None k = (
         λ e. inr (inr (λ u i q. absurd (k (subst (λ (w : ℕ). In w (whiches ts)) q (in_map (λ (t : TableLines). t.which) u ts i))))),
         λ n. (or_both_ways (reserved t || true) (has_tag t [])).1 (inl ((or_both_ways (reserved t) true).1 (inr refl))),
       )
-      by (some rs) k = (λ e. there_known ((or_both_ways (reserved t || false) (has_tag t rs)).0 e), λ n. known_there n)
+      by (Some rs) k = (λ e. there_known ((or_both_ways (reserved t || false) (has_tag t rs)).0 e), λ n. known_there n)
         where
           there_known : ((reserved t || false) ≡ true) ⊎ (has_tag t rs ≡ true) → Known ts w t.bytes
           there_known (inl e) = first ((or_both_ways (reserved t) false).0 e)

@@ -4,7 +4,7 @@ use Prim.Native.Nat.{ℕ, zero, suc, ◌+◌, ◌<◌}
 use native.Mathlib.Omega.{arith}
 use mathlib.Core.Path.{◌≡◌, refl, sym, ap, ap₂, ◌∙◌, subst}
 use mathlib.Core.Bool.{false}
-use mathlib.Core.Option.{Option, none, some}
+use Rattle.std.specs.Prelude.{Option, None, Some}
 use mathlib.Core.List.{List, [], ◌∷◌, ◌++◌, map, append_assoc, append-nil}
 use lib.ListN.{length, get_or, set, length-append, get_or-map}
 use lib.Seq.{get_or_at, set_at}
@@ -108,7 +108,7 @@ module _ (p : Preamble) (n : ℕ) (h : n < 7) (ss : List Sentence) where
       step_printed space refl (in_table p n rs) used at (bytes "#EOT") (table_name n ∷ []) [] refl (table_fit n h at (bytes "#EOT") refl eot_seen refl (omega arith))
       ∙ ap (next (λ m. go_closed p n rs)) (table_ended_lem n h at)
 
-  table_read_lem : (rs : List Row) (x : Reading) → present n p.tables ≡ false → RowsKept n [] rs → Stands (top p) ss x → TableRead p n rs ss (read x (table_text n (some rs)))
+  table_read_lem : (rs : List Row) (x : Reading) → present n p.tables ≡ false → RowsKept n [] rs → Stands (top p) ss x → TableRead p n rs ss (read x (table_text n (Some rs)))
   table_read_lem rs x e k s =
       let first = keyword_line (bytes "#BOT" ∷ table_name n ∷ []) in
       let middle = joined (map (row_line n) rs) in
@@ -123,7 +123,7 @@ module _ (p : Preamble) (n : ℕ) (h : n < 7) (ss : List Sentence) where
       subst (λ (l : List ℕ). Stands (top (with_table p n filled.rows)) ss (read x2 l)) (sym (parted_plain space (bytes "#EOT") (table_name n ∷ [])))
       (line_go (in_table p n filled.rows) ss x2 (keyed (bytes "#EOT") (table_name n)) filled.stands (table_fit n h 0 (bytes "#EOT") refl eot_seen refl (omega arith))
       (top (with_table p n filled.rows)) (ends (numbers x2.handed) x2.line_start filled.rows)) in
-      let whole : read x (table_text n (some rs)) ≡ read x2 last = read_append x (first ++ middle) last ∙ ap (λ (y : Reading). read y last) (read_append x first middle) in
+      let whole : read x (table_text n (Some rs)) ≡ read x2 last = read_append x (first ++ middle) last ∙ ap (λ (y : Reading). read y last) (read_append x first middle) in
       record {
         rows = filled.rows;
         same = filled.same;
@@ -134,8 +134,8 @@ module _ (p : Preamble) (n : ℕ) (h : n < 7) (ss : List Sentence) where
 
 -- the tables from the n-th on, with the rows that they are printed with
 abbrev pub PrintedTable : ℕ → Option (List Row) → Type 0
-PrintedTable n none = Unit {0}
-PrintedTable n (some rs) = RowsKept n [] rs
+PrintedTable n None = Unit {0}
+PrintedTable n (Some rs) = RowsKept n [] rs
 
 abbrev pub PrintedTables : ℕ → Tables → Type 0
 PrintedTables n [] = Unit {0}
@@ -144,7 +144,7 @@ PrintedTables n (t ∷ ts) = PrintedTable n t × PrintedTables (suc n) ts
 -- as many tables, of which none is there
 abbrev pub blanks : Tables → Tables
 blanks [] = []
-blanks (t ∷ ts) = none ∷ blanks ts
+blanks (t ∷ ts) = None ∷ blanks ts
 
 pub record TablesRead (format : ℕ) (ts : Tables) (ss : List Sentence) (x : Reading) : Type 0 where
   pub preamble : Preamble
@@ -152,10 +152,10 @@ pub record TablesRead (format : ℕ) (ts : Tables) (ss : List Sentence) (x : Rea
   pub same : map meant_rows preamble.tables ≡ ts
   pub stands : Stands (top preamble) ss x
 
-absent : (us done rest : Tables) (n : ℕ) → length done ≡ n → map meant_rows us ≡ done ++ (none ∷ rest) → present n us ≡ false
+absent : (us done rest : Tables) (n : ℕ) → length done ≡ n → map meant_rows us ≡ done ++ (None ∷ rest) → present n us ≡ false
 absent us done rest n e m =
-    sym (there_meant (table n us)) ∙ sym (ap there (get_or-map meant_rows us n none)) ∙ ap (λ (ts : Tables). there (get_or ts n none)) m
-    ∙ ap there (get_or_at done none rest none n e)
+    sym (there_meant (table n us)) ∙ sym (ap there (get_or-map meant_rows us n None)) ∙ ap (λ (ts : Tables). there (get_or ts n None)) m
+    ∙ ap there (get_or_at done None rest None n e)
 
 one_more : (done : Tables) (t : Option (List Row)) (n : ℕ) → length done ≡ n → length (done ++ (t ∷ [])) ≡ suc n
 one_more done t n e = omega (arith, length-append done (t ∷ []), e)
@@ -164,36 +164,36 @@ module _ (ss : List Sentence) where
   pub tables_read : (todo done : Tables) (n : ℕ) (p : Preamble) (x : Reading) → length done ≡ n → n + length todo ≡ 7 → PrintedTables n todo
       → map meant_rows p.tables ≡ done ++ blanks todo → Stands (top p) ss x → TablesRead p.format (done ++ todo) ss (read x (tables_text n todo))
   tables_read [] done n p x e seven k m s = record { preamble = p; kept = refl; same = m; stands = s }
-  tables_read (none ∷ todo) done n p x e seven k m s =
-      subst (λ (ts : Tables). TablesRead p.format ts ss (read x (tables_text (suc n) todo))) (append_assoc done (none ∷ []) todo)
-      (tables_read todo (done ++ (none ∷ [])) (suc n) p x (one_more done none n e) (omega (arith, seven)) k.1 (m ∙ sym (append_assoc done (none ∷ []) (blanks todo))) s)
-  tables_read (some rs ∷ todo) done n p x e seven k m s =
+  tables_read (None ∷ todo) done n p x e seven k m s =
+      subst (λ (ts : Tables). TablesRead p.format ts ss (read x (tables_text (suc n) todo))) (append_assoc done (None ∷ []) todo)
+      (tables_read todo (done ++ (None ∷ [])) (suc n) p x (one_more done None n e) (omega (arith, seven)) k.1 (m ∙ sym (append_assoc done (None ∷ []) (blanks todo))) s)
+  tables_read (Some rs ∷ todo) done n p x e seven k m s =
       let t = table_read_lem p n (omega (arith, seven)) ss rs x (absent p.tables done (blanks todo) n e m) k.0 s in
       let q = with_table p n t.rows in
-      let set_in : map meant_rows q.tables ≡ (done ++ (some rs ∷ [])) ++ blanks todo =
-      set_map meant_rows p.tables n (some t.rows) ∙ ap₂ (λ (us : Tables) (r : List Row). set us n (some r)) m t.same
-      ∙ set_at done none (blanks todo) (some rs) n e ∙ sym (append_assoc done (some rs ∷ []) (blanks todo)) in
-      let all = tables_read todo (done ++ (some rs ∷ [])) (suc n) q (read x (table_text n (some rs))) (one_more done (some rs) n e) (omega (arith, seven)) k.1 set_in t.stands in
-      subst (λ (y : Reading). TablesRead p.format (done ++ (some rs ∷ todo)) ss y) (sym (read_append x (table_text n (some rs)) (tables_text (suc n) todo)))
-      (subst (λ (ts : Tables). TablesRead p.format ts ss (read (read x (table_text n (some rs))) (tables_text (suc n) todo))) (append_assoc done (some rs ∷ []) todo) all)
+      let set_in : map meant_rows q.tables ≡ (done ++ (Some rs ∷ [])) ++ blanks todo =
+      set_map meant_rows p.tables n (Some t.rows) ∙ ap₂ (λ (us : Tables) (r : List Row). set us n (Some r)) m t.same
+      ∙ set_at done None (blanks todo) (Some rs) n e ∙ sym (append_assoc done (Some rs ∷ []) (blanks todo)) in
+      let all = tables_read todo (done ++ (Some rs ∷ [])) (suc n) q (read x (table_text n (Some rs))) (one_more done (Some rs) n e) (omega (arith, seven)) k.1 set_in t.stands in
+      subst (λ (y : Reading). TablesRead p.format (done ++ (Some rs ∷ todo)) ss y) (sym (read_append x (table_text n (Some rs)) (tables_text (suc n) todo)))
+      (subst (λ (ts : Tables). TablesRead p.format ts ss (read (read x (table_text n (Some rs))) (tables_text (suc n) todo))) (append_assoc done (Some rs ∷ []) todo) all)
 
 -- ---- what is meant is fit to be printed
 
 meant_printed : (n : ℕ) (o : Option (List Row)) → TableKept n o → PrintedTable n (meant_rows o)
-meant_printed n none k = tt
-meant_printed n (some rs) k = k
+meant_printed n None k = tt
+meant_printed n (Some rs) k = k
 
 meant_all : (n : ℕ) (ts : Tables) → TablesKept n ts → PrintedTables n (map meant_rows ts)
 meant_all n [] k = tt
 meant_all n (t ∷ ts) k = (meant_printed n t k.0, meant_all (suc n) ts k.1)
 
 origins_printed : (o : Option (List Row)) → TableKept 0 o → PrintedTable 0 (meant_rows (by_id o))
-origins_printed none k = tt
-origins_printed (some rs) k = subst (RowsKept 0 []) (sym (map_sorted row_id row_id bare_row (λ r. refl) rs)) (origins_sorted (map bare_row rs) k)
+origins_printed None k = tt
+origins_printed (Some rs) k = subst (RowsKept 0 []) (sym (map_sorted row_id row_id bare_row (λ r. refl) rs)) (origins_sorted (map bare_row rs) k)
 
 editors_printed : (o : Option (List Row)) → TableKept 1 o → PrintedTable 1 (meant_rows (by_id o))
-editors_printed none k = tt
-editors_printed (some rs) k = subst (RowsKept 1 []) (sym (map_sorted row_id row_id bare_row (λ r. refl) rs)) (editors_sorted (map bare_row rs) k)
+editors_printed None k = tt
+editors_printed (Some rs) k = subst (RowsKept 1 []) (sym (map_sorted row_id row_id bare_row (λ r. refl) rs)) (editors_sorted (map bare_row rs) k)
 
 pub tables_printed : (ts : Tables) → TablesKept 0 ts → PrintedTables 0 (meant_tables ts)
 tables_printed [] k = tt

@@ -5,7 +5,7 @@ use native.Mathlib.Nat.{add-zero, add-suc, suc-add, zero-add}
 use native.Mathlib.Omega.{arith}
 use mathlib.Core.Path.{◌≡◌, refl, sym, ap, ◌∙◌, subst}
 use mathlib.Core.Bool.{Bool, true, false}
-use mathlib.Core.Option.{none, some}
+use Rattle.std.specs.Prelude.{None, Some}
 use mathlib.Core.List.{List, [], ◌∷◌, ◌++◌, append-nil, append_assoc}
 use lib.ListN.{length, set}
 use Rattle.rules.specs.Lists.{pick, bytes, member, Each}
@@ -63,12 +63,12 @@ Stands file done (behind_sentence p) = TablesSaid file 0 p.tables
 no_tables_said : (file : List ℕ) → TablesSaid file 0 no_tables
 no_tables_said file = tt
 
-closed_said : (file : List ℕ) (k n : ℕ) (ts : Tables) (rs : List Row) → TablesSaid file k ts → TableSaid file (k + n) rs → TablesSaid file k (set ts n (some rs))
+closed_said : (file : List ℕ) (k n : ℕ) (ts : Tables) (rs : List Row) → TablesSaid file k ts → TableSaid file (k + n) rs → TablesSaid file k (set ts n (Some rs))
 closed_said file k n [] rs t r = tt
-closed_said file k zero (none ∷ ts) rs t r = (subst (λ (i : ℕ). TableSaid file i rs) (add-zero k) r, t)
-closed_said file k zero (some us ∷ ts) rs t r = (subst (λ (i : ℕ). TableSaid file i rs) (add-zero k) r, t.1)
-closed_said file k (suc n) (none ∷ ts) rs t r = closed_said file (suc k) n ts rs t (subst (λ (i : ℕ). TableSaid file i rs) (add-suc k n ∙ sym (suc-add k n)) r)
-closed_said file k (suc n) (some us ∷ ts) rs t r = (t.0, closed_said file (suc k) n ts rs t.1 (subst (λ (i : ℕ). TableSaid file i rs) (add-suc k n ∙ sym (suc-add k n)) r))
+closed_said file k zero (None ∷ ts) rs t r = (subst (λ (i : ℕ). TableSaid file i rs) (add-zero k) r, t)
+closed_said file k zero (Some us ∷ ts) rs t r = (subst (λ (i : ℕ). TableSaid file i rs) (add-zero k) r, t.1)
+closed_said file k (suc n) (None ∷ ts) rs t r = closed_said file (suc k) n ts rs t (subst (λ (i : ℕ). TableSaid file i rs) (add-suc k n ∙ sym (suc-add k n)) r)
+closed_said file k (suc n) (Some us ∷ ts) rs t r = (t.0, closed_said file (suc k) n ts rs t.1 (subst (λ (i : ℕ). TableSaid file i rs) (add-suc k n ∙ sym (suc-add k n)) r))
 
 module _ (done l : List ℕ) (plain : OneLine l) (n : ℕ) (rs : List Row) (k : TableSoFar done n rs) where
   each_line_more : Each OneLine (k.lines ++ (l ∷ []))

@@ -5,7 +5,7 @@ use native.Mathlib.Nat.{le_refl}
 use native.Mathlib.Omega.{arith}
 use mathlib.Core.Path.{◌≡◌, refl, sym, ap, ap₂, ◌∙◌, subst}
 use mathlib.Core.Bool.{Bool, true, false, not, ◌&&◌, ◌||◌, false≢true}
-use mathlib.Core.Option.{Option, some}
+use Rattle.std.specs.Prelude.{Option, Some}
 use mathlib.Core.List.{List, [], ◌∷◌, ◌++◌}
 use lib.ListN.{length}
 use lib.Dec.{leb, eqb}
@@ -226,7 +226,7 @@ module _ (n : ℕ) (rs : List Row) (r : Row) (k : TagKept n r) (at : ℕ) where
   tag_back order new few =
       let b = columns_back (eqb n word_tags) r at k.tag.solid in
       let a = (last n rs line_back).after.start in
-      let e1 : signed_id (c n rs line_back).text.bytes ≡ some r.id1 = ap signed_id b.first ∙ id_read_back r.id1 k.id in
+      let e1 : signed_id (c n rs line_back).text.bytes ≡ Some r.id1 = ap signed_id b.first ∙ id_read_back r.id1 k.id in
       let e2 : (tag n rs line_back).text.bytes ≡ r.first.bytes = b.second in
       let e3 : (description n rs line_back).bytes ≡ r.second.bytes = ap (λ (l : List ℕ). (trim_from a l).bytes) b.behind ∙ last_text a r.second.bytes k.described.trimmed in
       let e4 : pick (eqb n word_tags && same (flag n rs line_back).text.bytes yes) 1 0 ≡ r.flag =

@@ -3,7 +3,7 @@ use Prim.Native.Nat.{ℕ, zero, suc, ◌≤◌}
 use native.Mathlib.Omega.{arith}
 use mathlib.Core.Path.{◌≡◌, refl, sym, ◌∙◌, subst}
 use mathlib.Core.Bool.{Bool, true, false}
-use mathlib.Core.Option.{Option, none, some}
+use Rattle.std.specs.Prelude.{Option, None, Some}
 use mathlib.Core.List.{List, [], ◌∷◌, ◌++◌, map, append_assoc, append-nil}
 use Rattle.rules.specs.Lists.{pick}
 use Rattle.rules.specs.Texts.{Text, same_bytes}
@@ -54,8 +54,8 @@ with_places (r ∷ rs) a = (sym (any_map (λ (q : Row). same_bytes r.first q.fir
 -- ---- any file
 
 table_apart : (n : ℕ) (o : Option (List Row)) → TableKept (suc (suc n)) o → TagsApart (rows_of o)
-table_apart n none k = tt
-table_apart n (some rs) k = with_places rs (apart_rows n [] (map bare_row rs) tt k)
+table_apart n None k = tt
+table_apart n (Some rs) k = with_places rs (apart_rows n [] (map bare_row rs) tt k)
 
 tables_apart : (m n : ℕ) (ts : Tables) → TablesKept (suc (suc m)) ts → TagsApart (rows_of (table n ts))
 tables_apart m n [] k = tt

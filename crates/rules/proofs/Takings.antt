@@ -3,7 +3,7 @@
 use Prim.Native.Nat.{ℕ}
 use mathlib.Core.Path.{◌≡◌, refl, ap, ap₂, ◌∙◌}
 use mathlib.Core.Bool.{Bool, true, false}
-use mathlib.Core.Option.{Option, none, some}
+use Rattle.std.specs.Prelude.{Option, None, Some}
 use mathlib.Core.List.{List, [], ◌∷◌, ◌++◌}
 use lib.ListN.{length}
 use lib.Dec.{leb}
@@ -128,7 +128,7 @@ unfolding step judged taken answer_to checked after
 step_answers phase used line = by (broken (line_rules line))
   where
     by : (o : Option Rule) → next (after phase line.start) (and_then (taken phase used) (unless o line)) ≡ next (answer_to phase used) (unless o line)
-    by none =
+    by None =
         next_pick (after phase line.start) (ignored line.bytes) _ (line_at phase used line (first_column line))
         ∙ ap (pick (ignored line.bytes) (go phase)) (answers line (first_column line) phase used)
-    by (some q) = refl
+    by (Some q) = refl

@@ -5,7 +5,7 @@ use native.Mathlib.Omega.{arith}
 use mathlib.Core.Path.{◌≡◌, refl, sym, ap}
 use mathlib.Core.Logic.{◌↔◌}
 use mathlib.Core.Bool.{Bool, true, false≢true, not}
-use mathlib.Core.Option.{Option, none, some}
+use Rattle.std.specs.Prelude.{Option, None, Some}
 use mathlib.Core.List.{List, [], ◌∷◌, map}
 use lib.ListN.{length}
 use lib.Dec.{leb, eqb}
@@ -38,14 +38,14 @@ eqb_is a b = (eqb-true a b, eq-eqb a b)
 pub other_is : (a b : ℕ) → (not (eqb a b) ≡ true) ↔ (b ≡ a → ⊥)
 other_is a b = (λ e z. (not_both_ways (eqb a b)).0 e (eq-eqb a b (sym z)), λ n. (not_both_ways (eqb a b)).1 (λ q. n (sym (eqb-true a b q))))
 
-pub good_some : (o : Option ℕ) → good o ≡ true → o ≡ some (value o)
-good_some none e = absurd (false≢true e)
-good_some (some n) e = refl
+pub good_some : (o : Option ℕ) → good o ≡ true → o ≡ Some (value o)
+good_some None e = absurd (false≢true e)
+good_some (Some n) e = refl
 
-pub some_good : (o : Option ℕ) (n : ℕ) → o ≡ some n → good o ≡ true
+pub some_good : (o : Option ℕ) (n : ℕ) → o ≡ Some n → good o ≡ true
 some_good o n e = rw e
 
-pub some_value : (o : Option ℕ) (n : ℕ) → o ≡ some n → value o ≡ n
+pub some_value : (o : Option ℕ) (n : ℕ) → o ≡ Some n → value o ≡ n
 some_value o n e = rw e
 
 -- ---- among others

@@ -4,7 +4,7 @@ use Prim.Native.String.{String}
 use Prim.Native.Nat.{ℕ, suc}
 use mathlib.Core.Path.{◌≡◌, refl, sym, ap, ◌∙◌, subst}
 use mathlib.Core.Bool.{true, false, not}
-use mathlib.Core.Option.{Option, none, some}
+use Rattle.std.specs.Prelude.{Option, None, Some}
 use mathlib.Core.List.{List, [], ◌∷◌, ◌++◌, map}
 use lib.ListN.{take}
 use Rattle.rules.specs.Lists.{bytes, empty, every, same, joined, sorted, Each}
@@ -55,8 +55,8 @@ row_line_lem n r =
     (id_says r.id1, (refl, further))
 
 table_lines : (n : ℕ) (o : Option (List Row)) → Lined (tidy_table n (table_read o)) (table_text n o)
-table_lines n none = no_line
-table_lines n (some rs) =
+table_lines n None = no_line
+table_lines n (Some rs) =
     let rows = lines_of Any row_read (tidy_row n) (row_line n) (λ r a. row_line_lem n r) rs (each_any rs) in
     then_lines (then_lines (title_line "#BOT" n) rows) (title_line "#EOT" n)
 

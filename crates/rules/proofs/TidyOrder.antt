@@ -4,7 +4,7 @@ use Prim.Native.Nat.{ℕ, suc}
 use native.Mathlib.Omega.{arith}
 use mathlib.Core.Path.{◌≡◌, refl, sym, ap, ap₂, subst}
 use mathlib.Core.Logic.{inl, inr}
-use mathlib.Core.Option.{Option, none, some}
+use Rattle.std.specs.Prelude.{Option, None, Some}
 use mathlib.Core.List.{List, [], ◌∷◌, map}
 use borrow.Author.Tests.{lt-leb}
 use Rattle.rules.specs.Lists.{sorted, Each}
@@ -13,7 +13,7 @@ use Rattle.rules.specs.Sentences.{Edge, Node, Sentence}
 use Rattle.rules.specs.Reading.{Handed}
 use Rattle.rules.specs.Survey.{Survey}
 use Rattle.rules.specs.Meaning.{bare_row, bare_edge, bare_node, row_id, node_number, sentence_number_of, meant_rows, by_id, meant_tables, meant_sentence, meant_sentences}
-use Rattle.rules.specs.Same.{Some, handed_number}
+use Rattle.rules.specs.Same.{Any, handed_number}
 use Rattle.rules.specs.GrammarContent.{RowContent, EdgeContent, NodeContent, SentenceContent, Content}
 use Rattle.rules.specs.GrammarLines.{In}
 use Rattle.rules.specs.GrammarSurvey.{row_read, table_read, edge_read, node_read, sentence_read, content_of}
@@ -28,12 +28,12 @@ use Rattle.rules.proofs.SameFields.{PhrasesDiffer}
 -- ---- a sorted list
 
 module _ {A : Type 0} where
-  pub in_some : (x : A) (xs : List A) → In x xs → Some (λ (y : A). x ≡ y) xs
+  pub in_some : (x : A) (xs : List A) → In x xs → Any (λ (y : A). x ≡ y) xs
   in_some x [] i = i
   in_some x (y ∷ xs) (inl e) = inl e
   in_some x (y ∷ xs) (inr i) = inr (in_some x xs i)
 
-  pub some_in : (x : A) (xs : List A) → Some (λ (y : A). x ≡ y) xs → In x xs
+  pub some_in : (x : A) (xs : List A) → Any (λ (y : A). x ≡ y) xs → In x xs
   some_in x [] i = i
   some_in x (y ∷ xs) (inl e) = inl e
   some_in x (y ∷ xs) (inr i) = inr (some_in x xs i)
@@ -67,8 +67,8 @@ rows_read [] = refl
 rows_read (r ∷ rs) = ap (λ (qs : List RowContent). row_read r ∷ qs) (rows_read rs)
 
 table_read_lem : (o : Option (List Row)) → table_read (meant_rows o) ≡ table_read o
-table_read_lem none = refl
-table_read_lem (some rs) = ap some (rows_read rs)
+table_read_lem None = refl
+table_read_lem (Some rs) = ap Some (rows_read rs)
 
 edges_read : (es : List Edge) → map edge_read (map bare_edge es) ≡ map edge_read es
 edges_read [] = refl
@@ -91,17 +91,17 @@ rows_by_id rs d =
     subst (ByRising id1_of (map row_read rs)) (sym (rows_read (sorted row_id rs))) (mapped_by_rising row_id id1_of row_read (λ r. refl) rs d)
 
 origins_by_id : (o : Option (List Row)) → IdsDiffer o → TableOrdered 0 (table_read o) (table_read (meant_rows (by_id o)))
-origins_by_id none d = tt
-origins_by_id (some rs) d = rows_by_id rs d
+origins_by_id None d = tt
+origins_by_id (Some rs) d = rows_by_id rs d
 
 editors_by_id : (o : Option (List Row)) → IdsDiffer o → TableOrdered 1 (table_read o) (table_read (meant_rows (by_id o)))
-editors_by_id none d = tt
-editors_by_id (some rs) d = rows_by_id rs d
+editors_by_id None d = tt
+editors_by_id (Some rs) d = rows_by_id rs d
 
 tags_ordered : (n : ℕ) (ts : Tables) → TablesOrdered (suc (suc n)) (map table_read ts) (map table_read (map meant_rows ts))
 tags_ordered n [] = tt
-tags_ordered n (none ∷ ts) = (tt, tags_ordered (suc n) ts)
-tags_ordered n (some rs ∷ ts) = (rw (lt-leb (suc (suc n)) 1 (omega arith)) (rows_read rs), tags_ordered (suc n) ts)
+tags_ordered n (None ∷ ts) = (tt, tags_ordered (suc n) ts)
+tags_ordered n (Some rs ∷ ts) = (rw (lt-leb (suc (suc n)) 1 (omega arith)) (rows_read rs), tags_ordered (suc n) ts)
 
 tables_ordered : (ts : Tables) → TablesDiffer ts → TablesOrdered 0 (map table_read ts) (map table_read (meant_tables ts))
 tables_ordered [] d = tt

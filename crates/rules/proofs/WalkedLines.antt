@@ -4,7 +4,7 @@ use Prim.Native.Nat.{ℕ, suc, ◌+◌}
 use native.Mathlib.Omega.{arith}
 use mathlib.Core.Path.{◌≡◌, refl, sym, ap, ◌∙◌, subst}
 use mathlib.Core.Bool.{Bool, true, false≢true, ◌&&◌, ◌||◌}
-use mathlib.Core.Option.{Option, none, some}
+use Rattle.std.specs.Prelude.{Option, None, Some}
 use mathlib.Core.List.{List, [], ◌∷◌, ◌++◌, reverse, append_assoc}
 use lib.ListN.{length}
 use lib.Dec.{ltb, eqb}
@@ -39,11 +39,11 @@ use Rattle.rules.proofs.LinesOfFiles.{placed, sentences_of, numbers_out, one_mor
 
 -- a reading at the end of a line
 abbrev line_end : List ℕ → ℕ → Phase → List Handed → Reading
-line_end l a ph hs = record { at = a + length l; line_start = a; part = reverse l; phase = ph; handed = hs; fault = none }
+line_end l a ph hs = record { at = a + length l; line_start = a; part = reverse l; phase = ph; handed = hs; fault = None }
 
 module _ (E : Phase → List Sentence → Type 0) where
   abbrev Soundly : Reading → Type 0
-  Soundly r = (r.fault ≡ none) × E r.phase (sentences_of r.handed)
+  Soundly r = (r.fault ≡ None) × E r.phase (sentences_of r.handed)
 
   pub sound_lines : (ls : List (List ℕ)) (a : ℕ) (ph : Phase) (hs : List Handed) → Each OneLine ls
       → Soundly (read (fresh a ph hs) (lines_written ls))
@@ -135,8 +135,8 @@ module _ (S : Type 0) (Q : Tables → Type 0) (R : ℕ → Tables → Type 0) (f
         free h e = sym (ap (λ (b : Bool). b || unused p.tables name) (le-ltb (length (columns line)) 2 (omega (arith, e)))) ∙ h
 
         by : (o : Option ℕ) → unused p.tables o ≡ true → R (value o) p.tables
-        by none h = absurd (false≢true h)
-        by (some n) h = opens n p.tables q ((not_both_ways (present n p.tables)).0 h)
+        by None h = absurd (false≢true h)
+        by (Some n) h = opens n p.tables q ((not_both_ways (present n p.tables)).0 h)
 
     behind : (p : Preamble) (used : List ℕ) → Q p.tables → Keeps (answer_behind line (first_column line) p used)
     unfolding answer_behind

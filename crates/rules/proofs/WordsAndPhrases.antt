@@ -5,7 +5,7 @@ use native.Mathlib.Omega.{arith}
 use mathlib.Core.Path.{◌≡◌, refl, sym, ap, ◌∙◌}
 use mathlib.Core.Logic.{◌⊎◌, inl, inr}
 use mathlib.Core.Bool.{true, not, ◌&&◌}
-use mathlib.Core.Option.{some}
+use Rattle.std.specs.Prelude.{Some}
 use mathlib.Core.List.{List, [], ◌∷◌, ◌++◌, map}
 use lib.ListN.{length, drop}
 use lib.Dec.{ltb}
@@ -174,7 +174,7 @@ module _ (format : ℕ) (T : Tables) (ts : List TableLines) (s : Stand T ts) (K 
       let node = p.node in
       let sh = columns_shaped format fs node (front_columns_lem line ∙ ap front_columns (sym l) ∙ said_front node.line (node_columns format node) node.comment w.node.columns) in
       let o = number phrase_number (behind_hash (text fs 0)).bytes in
-      let is : o ≡ some p.number = ap (λ (xs : List ℕ). number phrase_number (drop 1 xs)) (sh.at_first ∙ w.sign) ∙ (number_said phrase_number w.digits p.number).1 w.number_written in
+      let is : o ≡ Some p.number = ap (λ (xs : List ℕ). number phrase_number (drop 1 xs)) (sh.at_first ∙ w.sign) ∙ (number_said phrase_number w.digits p.number).1 w.number_written in
       let v : value o ≡ p.number = some_value o p.number is in
       let larger : (node.parent ≡ 0) ⊎ (value o < node.parent) = rw v w.parent_larger in
       let others : Each (λ (e : EdgeSaid). e.parent ≡ value o → ⊥) node.secondary = rw v w.secondary_others in

@@ -4,7 +4,7 @@ use Prim.Native.Nat.{ℕ, ◌≤◌}
 use native.Mathlib.Omega.{arith}
 use mathlib.Core.Path.{◌≡◌, refl, sym, ap, ◌∙◌, subst}
 use mathlib.Core.Bool.{true}
-use mathlib.Core.Option.{some}
+use Rattle.std.specs.Prelude.{Some}
 use mathlib.Core.List.{List, [], ◌++◌}
 use lib.ListN.{length, take, get_or, replicate, length-replicate}
 use borrow.Author.Tests.{lt-leb}
@@ -109,9 +109,9 @@ pub sound_place_of_fault : ((f : List ℕ) → (survey_of (take (survey_of f).so
 sound_place_of_fault w = omega (arith, w faulty, of_faulty.0, of_faulty.2)
 
 -- a sentence that ends behind the cut is found
-pub unchanged_behind_cut : ((f : List ℕ) (n : ℕ) (x : List ℕ) → Each (λ (h : Handed). sentence_of h.sentence.heading.number (survey_of (take n f ++ x)).handed ≡ some h.sentence) (survey_of f).handed) → ⊥
+pub unchanged_behind_cut : ((f : List ℕ) (n : ℕ) (x : List ℕ) → Each (λ (h : Handed). sentence_of h.sentence.heading.number (survey_of (take n f ++ x)).handed ≡ Some h.sentence) (survey_of f).handed) → ⊥
 unchanged_behind_cut w =
-    let found = (subst (Each (λ (h : Handed). sentence_of h.sentence.heading.number (survey_of (take 125 file_a ++ [])).handed ≡ some h.sentence)) handed_a_lem (w file_a 125 [])).0 in
+    let found = (subst (Each (λ (h : Handed). sentence_of h.sentence.heading.number (survey_of (take 125 file_a ++ [])).handed ≡ Some h.sentence)) handed_a_lem (w file_a 125 [])).0 in
     let z : ◌≡◌ {A = ℕ} 0 1 = cc (sym (ap (sentence_of 7) none_cut) ∙ found) in
     omega arith
 

@@ -1,7 +1,6 @@
 -- What is handed out is what is written: between a sentence's start and its end the file has its lines, all of them and no
 -- others, and each number, text and comment of its records is what the line says. Document 01, "The file from top to bottom".
-use Rattle.std.specs.Prelude.{ℕ, zero, suc, ◌+◌, ◌≡◌, ◌⊎◌, List, [], ◌∷◌, ◌++◌, map, length}
-use Rattle.std.proofs.Math.Option.{none, some}
+use Rattle.std.specs.Prelude.{ℕ, zero, suc, ◌+◌, ◌≡◌, ◌⊎◌, List, [], ◌∷◌, ◌++◌, map, length, None, Some}
 use Rattle.rules.specs.Lists.{bytes, joined, counting, Each}
 use Rattle.rules.specs.Bytes.{percents}
 use Rattle.rules.specs.Texts.{no_text}
@@ -122,8 +121,8 @@ pub record TableSaid (file : List ℕ) (n : ℕ) (rs : List Row) : Type 0 where
 -- the tables from the n-th on
 abbrev pub TablesSaid : List ℕ → ℕ → Tables → Type 0
 TablesSaid file n [] = Unit
-TablesSaid file n (none ∷ ts) = TablesSaid file (suc n) ts
-TablesSaid file n (some rs ∷ ts) = TableSaid file n rs × TablesSaid file (suc n) ts
+TablesSaid file n (None ∷ ts) = TablesSaid file (suc n) ts
+TablesSaid file n (Some rs ∷ ts) = TableSaid file n rs × TablesSaid file (suc n) ts
 
 -- ---- all that is handed out
 

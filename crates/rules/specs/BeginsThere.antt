@@ -1,8 +1,7 @@
 -- What is known of the sentence that begins at a place, of any file, whatever stands in front: it is what is written there, its
 -- texts stand in the file, every chain of parents climbs, and a cut behind its end leaves it. Document 01, "The file from top to
 -- bottom".
-use Rattle.std.specs.Prelude.{ℕ, ◌≤◌, ◌<◌, ◌≡◌, ◌⊎◌, true, List, ◌++◌, take}
-use Rattle.std.proofs.Math.Option.{none, some}
+use Rattle.std.specs.Prelude.{ℕ, ◌≤◌, ◌<◌, ◌≡◌, ◌⊎◌, true, List, ◌++◌, take, None, Some}
 use Rattle.rules.specs.Lists.{Each}
 use Rattle.rules.specs.Sentences.{Edge, Node, Sentence, listed}
 use Rattle.rules.specs.Sheets.{nodes, sentence_sheet}
@@ -33,5 +32,5 @@ pub record BeginsThere (file : List ℕ) (at : ℕ) (s : Sentence) : Type 0 wher
   pub climbs : EveryChainClimbs s (parent_in s)
   pub climbs_on_sheet : EveryChainClimbs s (parent_on (sentence_sheet s))
   -- of the file's first n bytes, with any bytes behind them; with none behind
-  pub kept : (n : ℕ) (x : List ℕ) → end ≤ n → sentence_from (take n file ++ x) at ≡ some s
-  pub lost : (n : ℕ) → n < end → sentence_from (take n file) at ≡ none
+  pub kept : (n : ℕ) (x : List ℕ) → end ≤ n → sentence_from (take n file ++ x) at ≡ Some s
+  pub lost : (n : ℕ) → n < end → sentence_from (take n file) at ≡ None

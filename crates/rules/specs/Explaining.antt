@@ -1,7 +1,6 @@
 -- Document 02, request 2: given a file and a list, also an export file, the description of a tag of a named table, as a part of
 -- whichever of the two holds it: the file if it has that table, else the list.
-use Rattle.std.specs.Prelude.{ℕ, suc, ◌-◌, ◌&&◌, ◌||◌, List, [], ◌∷◌, replicate, eqb}
-use Rattle.std.proofs.Math.Option.{Option, none, some}
+use Rattle.std.specs.Prelude.{ℕ, suc, ◌-◌, ◌&&◌, ◌||◌, List, [], ◌∷◌, replicate, eqb, Option, None, Some}
 use Rattle.rules.specs.Lists.{pick, between, same}
 use Rattle.rules.specs.Texts.{Text, no_text}
 use Rattle.rules.specs.Tables.{Row, Tables, table, there, word_tags, sec_edge_tags, dashes, unknown}
@@ -12,21 +11,21 @@ use Rattle.rules.specs.Survey.{Survey, survey_of, sheets_fit, file_fits}
 
 -- the rows of a table by its place in document 01's order, 1 to 7, if it is one of the five tag tables and is there
 abbrev pub tag_rows : ℕ → Tables → Option (List Row)
-tag_rows place ts = pick (between (suc word_tags) (suc sec_edge_tags) place) (table (place - 1) ts) none
+tag_rows place ts = pick (between (suc word_tags) (suc sec_edge_tags) place) (table (place - 1) ts) None
 
 -- in a table that is present, -- and UNKNOWN without a row have an empty description
 abbrev pub without_row : List ℕ → Option Text
-without_row tag = pick (same tag dashes || same tag unknown) (some no_text) none
+without_row tag = pick (same tag dashes || same tag unknown) (Some no_text) None
 
 unfoldable pub described : List ℕ → List Row → Option Text
 described tag [] = without_row tag
 described tag (r ∷ rs) =
     let later = described tag rs in
-    pick (same tag r.first.bytes) (some r.second) later
+    pick (same tag r.first.bytes) (Some r.second) later
 
 abbrev pub described_in : List ℕ → Option (List Row) → Option Text
-described_in tag none = none
-described_in tag (some rs) = described tag rs
+described_in tag None = None
+described_in tag (Some rs) = described tag rs
 
 -- the description of a tag of a named table in given tables
 abbrev pub description : Tables → ℕ → List ℕ → Option Text
@@ -44,8 +43,8 @@ abbrev pub refused_by : ℕ → Explanation
 refused_by n = record { refusal = n; of = 0; part = no_text }
 
 abbrev pub part_of : ℕ → Option Text → Explanation
-part_of which none = refused_by 26
-part_of which (some t) = record { refusal = 0; of = which; part = t }
+part_of which None = refused_by 26
+part_of which (Some t) = record { refusal = 0; of = which; part = t }
 
 -- the table decides, not the tag
 abbrev pub explanation : Tables → Tables → ℕ → List ℕ → Explanation

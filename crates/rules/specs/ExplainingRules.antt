@@ -1,6 +1,5 @@
 -- Document 02, request 2, said otherwise: where a granted part stands, which of the two it is of, and when 26 is given.
-use Rattle.std.specs.Prelude.{ℕ, suc, ◌≤◌, ◌≡◌, ◌≢◌, ◌↔◌, false, List, [], ◌∷◌, ◌++◌, replicate}
-use Rattle.std.proofs.Math.Option.{none, some}
+use Rattle.std.specs.Prelude.{ℕ, suc, ◌≤◌, ◌≡◌, ◌≢◌, ◌↔◌, false, List, [], ◌∷◌, ◌++◌, replicate, None, Some}
 use Rattle.rules.specs.Lists.{bytes, Each}
 use Rattle.rules.specs.Texts.{Text, no_text}
 use Rattle.rules.specs.Tables.{Row, Tables, table, has_tag}
@@ -44,9 +43,9 @@ pub record Lacks (tag : List ℕ) (rs : List Row) : Type 0 where
 -- the table named isn't one of the five tag tables, is in neither file, or lacks the tag
 pub data Unexplained (file list : Tables) (place : ℕ) (tag : List ℕ) : Type 0 where
   no_tag_table : ((n : ℕ) → TagTablePlace n place → ⊥) → Unexplained file list place tag
-  in_neither : (n : ℕ) → TagTablePlace n place → table n file ≡ none → table n list ≡ none → Unexplained file list place tag
-  file_lacks : (n : ℕ) (rs : List Row) → TagTablePlace n place → table n file ≡ some rs → Lacks tag rs → Unexplained file list place tag
-  list_lacks : (n : ℕ) (rs : List Row) → TagTablePlace n place → table n file ≡ none → table n list ≡ some rs → Lacks tag rs → Unexplained file list place tag
+  in_neither : (n : ℕ) → TagTablePlace n place → table n file ≡ None → table n list ≡ None → Unexplained file list place tag
+  file_lacks : (n : ℕ) (rs : List Row) → TagTablePlace n place → table n file ≡ Some rs → Lacks tag rs → Unexplained file list place tag
+  list_lacks : (n : ℕ) (rs : List Row) → TagTablePlace n place → table n file ≡ None → table n list ≡ Some rs → Lacks tag rs → Unexplained file list place tag
 
 abbrev pub Accepted : List ℕ → Type 0
 Accepted file = (survey_of file).refusal ≡ 0
@@ -56,10 +55,10 @@ pub record ExplainingRule (file list : List ℕ) (place : ℕ) (tag : List ℕ) 
   pub file_first : (survey_of file).refusal ≢ 0 → explained (survey_of file) (survey_of list) place tag ≡ refused_by (survey_of file).refusal
   pub then_list : Accepted file → (survey_of list).refusal ≢ 0 → explained (survey_of file) (survey_of list) place tag ≡ refused_by (survey_of list).refusal
   -- which of the two is decided by the table's presence alone: the file if it has it, else the list; the part is what its rows tell
-  pub by_file : Accepted file → Accepted list → (n : ℕ) (rs : List Row) (t : Text) → TagTablePlace n place → table n (survey_of file).tables ≡ some rs → RowsTell tag rs t
+  pub by_file : Accepted file → Accepted list → (n : ℕ) (rs : List Row) (t : Text) → TagTablePlace n place → table n (survey_of file).tables ≡ Some rs → RowsTell tag rs t
       → explained (survey_of file) (survey_of list) place tag ≡ record { refusal = 0; of = 1; part = t }
-  pub by_list : Accepted file → Accepted list → (n : ℕ) (rs : List Row) (t : Text) → TagTablePlace n place → table n (survey_of file).tables ≡ none
-      → table n (survey_of list).tables ≡ some rs → RowsTell tag rs t
+  pub by_list : Accepted file → Accepted list → (n : ℕ) (rs : List Row) (t : Text) → TagTablePlace n place → table n (survey_of file).tables ≡ None
+      → table n (survey_of list).tables ≡ Some rs → RowsTell tag rs t
       → explained (survey_of file) (survey_of list) place tag ≡ record { refusal = 0; of = 2; part = t }
   -- 26 exactly if there is nothing to tell
   pub exactly : Accepted file → Accepted list

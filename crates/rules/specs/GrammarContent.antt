@@ -1,7 +1,6 @@
 -- What a file contains: its tables and its sentences, all texts as bytes, without their places in the file. An absent text is
 -- empty.
-use Rattle.std.specs.Prelude.{ℕ, List}
-use Rattle.std.proofs.Math.Option.{Option}
+use Rattle.std.specs.Prelude.{ℕ, List, Option}
 
 -- one more than the row's id; its name, login or tag; its comment, full name or description; 1 for the flag Y, else 0
 pub record RowContent : Type 0 where

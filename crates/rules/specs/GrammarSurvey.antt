@@ -1,6 +1,5 @@
 -- What a survey has read of a file, field by field, without the places.
-use Rattle.std.proofs.Math.Option.{Option, none, some}
-use Rattle.std.specs.Prelude.{List, map}
+use Rattle.std.specs.Prelude.{Option, None, Some, List, map}
 use Rattle.rules.specs.Tables.{Row}
 use Rattle.rules.specs.Sentences.{Edge, Node, Heading, Sentence}
 use Rattle.rules.specs.Reading.{Handed}
@@ -11,8 +10,8 @@ abbrev pub row_read : Row → RowContent
 row_read r = record { id1 = r.id1; first = r.first.bytes; second = r.second.bytes; flag = r.flag }
 
 abbrev pub table_read : Option (List Row) → Option (List RowContent)
-table_read none = none
-table_read (some rs) = some (map row_read rs)
+table_read None = None
+table_read (Some rs) = Some (map row_read rs)
 
 abbrev pub edge_read : Edge → EdgeContent
 edge_read e = record { label = e.label.bytes; parent = e.parent }

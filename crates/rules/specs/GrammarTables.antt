@@ -1,7 +1,6 @@
 -- What a table of a file is. Document 01, "The file from top to bottom": `#BOT NAME`, rows, `#EOT NAME`; what its rows are
 -- together, and which of them can be cited.
-use Rattle.std.specs.Prelude.{ℕ, ◌≤◌, ◌<◌, ◌≡◌, ◌⊎◌, ◌↔◌, Bool, List, [], ◌∷◌, ◌++◌, map, length, get_or, eqb}
-use Rattle.std.proofs.Math.Option.{Option, none, some}
+use Rattle.std.specs.Prelude.{ℕ, ◌≤◌, ◌<◌, ◌≡◌, ◌⊎◌, ◌↔◌, Bool, List, [], ◌∷◌, ◌++◌, map, length, get_or, eqb, Option, None, Some}
 use Rattle.rules.specs.Lists.{pick, bytes, counting, Each}
 use Rattle.rules.specs.GrammarNumbers.{table_rows}
 use Rattle.rules.specs.GrammarNames.{no_tag, unknown_tag, titles, of_origin, of_editor, of_wordtag}
@@ -78,8 +77,8 @@ pub record TablesFit (ts : List TableLines) : Type 0 where
 
 -- the rows of the table at a place, if the file has it
 abbrev pub rows_named : List TableLines → ℕ → Option (List RowContent)
-rows_named [] which = none
-rows_named (t ∷ ts) which = let others = rows_named ts which in pick (eqb t.which which) (some (map row_says t.rows)) others
+rows_named [] which = None
+rows_named (t ∷ ts) which = let others = rows_named ts which in pick (eqb t.which which) (Some (map row_says t.rows)) others
 
 -- what the tables say, in the order of the seven names
 abbrev pub tables_say : List TableLines → List (Option (List RowContent))

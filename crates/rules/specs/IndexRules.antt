@@ -1,7 +1,6 @@
 -- The index, the opening of the sentence that begins at a place, and what the one gives for the other, with lent buffers: 1 and
 -- 2 come first and change no buffer; else what is answered and what each buffer then holds. Sizes are those printed.
-use Rattle.std.specs.Prelude.{ℕ, ◌+◌, ◌≤◌, ◌<◌, ◌≡◌, ◌↔◌, false, List, ◌∷◌, ◌++◌, length, take, get_or, replicate}
-use Rattle.std.proofs.Math.Option.{none, some}
+use Rattle.std.specs.Prelude.{ℕ, ◌+◌, ◌≤◌, ◌<◌, ◌≡◌, ◌↔◌, false, List, ◌∷◌, ◌++◌, length, take, get_or, replicate, None, Some}
 use Rattle.rules.specs.Lists.{member}
 use Rattle.rules.specs.Sentences.{Sentence}
 use Rattle.rules.specs.Reading.{Handed, numbers}
@@ -50,12 +49,12 @@ pub record OpeningAtRule (file : List ℕ) (at : ℕ) (sheet : List ℕ) (edges 
   pub too_long : SentenceSized sheet edges → TooLong file → after_opening_at file at sheet edges ≡ record { answer = 2; sheet = sheet; edges = edges }
   -- 0 exactly if a sentence begins there
   pub exactly : SentenceSized sheet edges → WithinLimit file
-      → ((after_opening_at file at sheet edges).answer ≡ 0) ↔ ((s : Sentence) × (sentence_from file at ≡ some s))
+      → ((after_opening_at file at sheet edges).answer ≡ 0) ↔ ((s : Sentence) × (sentence_from file at ≡ Some s))
   -- then sheet and list are that sentence's
-  pub given : SentenceSized sheet edges → WithinLimit file → (s : Sentence) → sentence_from file at ≡ some s
+  pub given : SentenceSized sheet edges → WithinLimit file → (s : Sentence) → sentence_from file at ≡ Some s
       → after_opening_at file at sheet edges ≡ record { answer = 0; sheet = sentence_sheet s; edges = edge_list s }
   -- else 24 with zeros
-  pub absent : SentenceSized sheet edges → WithinLimit file → sentence_from file at ≡ none → after_opening_at file at sheet edges ≡ nothing_there
+  pub absent : SentenceSized sheet edges → WithinLimit file → sentence_from file at ≡ None → after_opening_at file at sheet edges ≡ nothing_there
 
 -- ---- at a place that the index gives for a number stands the sentence that an opening gives for it
 

@@ -1,7 +1,6 @@
 -- Document 01, "The file from top to bottom": the keyword lines of the format and of tables, and the kinds of lines, by
 -- their first column.
-use Rattle.std.specs.Prelude.{ℕ, Bool, false, not, ◌&&◌, ◌||◌, List, [], ◌∷◌, length, ltb, eqb}
-use Rattle.std.proofs.Math.Option.{Option, none, some}
+use Rattle.std.specs.Prelude.{ℕ, Bool, false, not, ◌&&◌, ◌||◌, List, [], ◌∷◌, length, ltb, eqb, Option, None, Some}
 use Rattle.rules.specs.Lists.{pick, bytes, empty, every}
 use Rattle.rules.specs.Bytes.{white, digit}
 use Rattle.rules.specs.Texts.{Text, no_text, reads}
@@ -28,8 +27,8 @@ format_of line =
 
 -- each table at most once
 abbrev pub fresh : Tables → Option ℕ → Bool
-fresh ts none = false
-fresh ts (some n) = not (present n ts)
+fresh ts None = false
+fresh ts (Some n) = not (present n ts)
 
 -- #BOT NAME; a missing name is a missing column
 unfoldable pub table_opened : Tables → Text → Verdict ℕ
@@ -39,8 +38,8 @@ table_opened ts line =
     checked (rule 6 line (ltb (length cs) 2 || fresh ts n) ∷ rule 7 line (eqb (length cs) 2) ∷ []) (value n)
 
 abbrev pub itself : ℕ → Option ℕ → Bool
-itself n none = false
-itself n (some m) = eqb n m
+itself n None = false
+itself n (Some m) = eqb n m
 
 -- #EOT NAME, with the name at #BOT
 unfoldable pub table_ended : ℕ → Text → Verdict ℕ

@@ -1,7 +1,6 @@
 -- Document 01, "The sheets", number by number, with the layout written out: what stands at each place of the table sheet,
 -- of the seen set, of a sentence sheet and of a list of secondary edges.
-use Rattle.std.specs.Prelude.{ℕ, ◌+◌, ◌*◌, ◌/◌, ◌%◌, ◌^◌, ◌≤◌, ◌<◌, ◌≡◌, false, List, [], ◌∷◌, ◌++◌, map, length, get_or}
-use Rattle.std.proofs.Math.Option.{Option, none, some}
+use Rattle.std.specs.Prelude.{ℕ, ◌+◌, ◌*◌, ◌/◌, ◌%◌, ◌^◌, ◌≤◌, ◌<◌, ◌≡◌, false, List, [], ◌∷◌, ◌++◌, map, length, get_or, Option, None, Some}
 use Rattle.rules.specs.Lists.{pick, member, joined, Each}
 use Rattle.rules.specs.Tables.{Tables, Row, table, rows_of}
 use Rattle.rules.specs.Sentences.{Edge, Node, Sentence, listed}
@@ -23,8 +22,8 @@ pub record RowLaid (sheet : List ℕ) (at : ℕ) (r : Row) : Type 0 where
 
 -- the count is 0 for a table that is absent, else rows + 1; rows are filled in file order, unused room is zero
 pub record TableLaid (sheet : List ℕ) (n : ℕ) (t : Option (List Row)) : Type 0 where
-  pub absent : t ≡ none → get_or sheet n 0 ≡ 0
-  pub present : (rs : List Row) → t ≡ some rs → get_or sheet n 0 ≡ length rs + 1
+  pub absent : t ≡ None → get_or sheet n 0 ≡ 0
+  pub present : (rs : List Row) → t ≡ Some rs → get_or sheet n 0 ≡ length rs + 1
   pub row : (front : List Row) (r : Row) (back : List Row) → rows_of t ≡ front ++ (r ∷ back) → RowLaid sheet (7 + 1536 * n + 6 * length front) r
   pub unused : (k j : ℕ) → length (rows_of t) ≤ k → k < 256 → j < 6 → get_or sheet (7 + 1536 * n + 6 * k + j) 0 ≡ 0
 

@@ -1,7 +1,6 @@
 -- Document 01, "Tidy text": what a file means, places and the order that doesn't count left out; the tidy text is printed
 -- from it.
-use Rattle.std.specs.Prelude.{ℕ, List, [], ◌∷◌, map}
-use Rattle.std.proofs.Math.Option.{Option, none, some}
+use Rattle.std.specs.Prelude.{ℕ, List, [], ◌∷◌, map, Option, None, Some}
 use Rattle.rules.specs.Lists.{sorted}
 use Rattle.rules.specs.Texts.{bare}
 use Rattle.rules.specs.Tables.{Tables, Row}
@@ -45,12 +44,12 @@ abbrev pub sentence_number_of : Sentence → ℕ
 sentence_number_of s = s.heading.number
 
 abbrev pub meant_rows : Option (List Row) → Option (List Row)
-meant_rows none = none
-meant_rows (some rs) = some (map bare_row rs)
+meant_rows None = None
+meant_rows (Some rs) = Some (map bare_row rs)
 
 abbrev pub by_id : Option (List Row) → Option (List Row)
-by_id none = none
-by_id (some rs) = some (sorted row_id rs)
+by_id None = None
+by_id (Some rs) = Some (sorted row_id rs)
 
 -- the seven tables in their order: origin and editor rows by id, tag rows as they stand
 abbrev pub meant_tables : Tables → Tables

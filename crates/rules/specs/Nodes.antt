@@ -1,7 +1,6 @@
 -- Document 01, "The file from top to bottom", and document 02, request 1: words, phrases and their secondary edges, line by
 -- line.
-use Rattle.std.specs.Prelude.{ℕ, suc, ◌+◌, Bool, not, ◌&&◌, length, drop, leb, ltb, eqb}
-use Rattle.std.proofs.Math.Option.{Option}
+use Rattle.std.specs.Prelude.{ℕ, suc, ◌+◌, Bool, not, ◌&&◌, length, drop, leb, ltb, eqb, Option}
 use mathlib.Core.List.{List, ◌∷◌, ◌++◌, map}
 use Rattle.rules.specs.Lists.{pick}
 use Rattle.rules.specs.Texts.{Text, no_text, reads, at_most, behind_hash}

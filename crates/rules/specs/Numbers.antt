@@ -1,7 +1,6 @@
 -- Document 01, "Lines and bytes": numbers are decimal, without plus or leading zeros; the only negative is -1; the
 -- limits belong to the kind of number they bound.
-use Rattle.std.specs.Prelude.{ℕ, suc, ◌+◌, ◌-◌, ◌*◌, Bool, true, false, not, ◌&&◌, List, [], ◌∷◌, eqb}
-use Rattle.std.proofs.Math.Option.{Option, none, some}
+use Rattle.std.specs.Prelude.{ℕ, suc, ◌+◌, ◌-◌, ◌*◌, Bool, true, false, not, ◌&&◌, List, [], ◌∷◌, eqb, Option, None, Some}
 use Rattle.rules.specs.Lists.{pick, bytes, between, every, same}
 use Rattle.rules.specs.Bytes.{digit}
 
@@ -62,36 +61,36 @@ plain (d ∷ e ∷ ds) = not (eqb d 48)
 
 unfoldable pub decimal : List ℕ → Option ℕ
 unfolding value_from
-decimal xs = pick (plain xs && every digit xs) (some (value_from 0 xs)) none
+decimal xs = pick (plain xs && every digit xs) (Some (value_from 0 xs)) None
 
 abbrev pub within : Kind → Option ℕ → Option ℕ
-within k none = none
-within k (some n) = pick (between k.lowest k.highest n) (some n) none
+within k None = None
+within k (Some n) = pick (between k.lowest k.highest n) (Some n) None
 
 -- a number of a kind
 abbrev pub number : Kind → List ℕ → Option ℕ
 number k xs = within k (decimal xs)
 
 abbrev pub plus_one : Option ℕ → Option ℕ
-plus_one none = none
-plus_one (some n) = some (suc n)
+plus_one None = None
+plus_one (Some n) = Some (suc n)
 
 -- one more than an id that may be -1
 abbrev pub signed_id : List ℕ → Option ℕ
-signed_id xs = within id_plus_one (pick (same xs (bytes "-1")) (some 0) (plus_one (decimal xs)))
+signed_id xs = within id_plus_one (pick (same xs (bytes "-1")) (Some 0) (plus_one (decimal xs)))
 
 -- a parent is 0 or a phrase's number
 abbrev pub zero_or : Kind → Option ℕ → Option ℕ
-zero_or k none = none
-zero_or k (some n) = pick (eqb n 0) (some 0) (within k (some n))
+zero_or k None = None
+zero_or k (Some n) = pick (eqb n 0) (Some 0) (within k (Some n))
 
 abbrev pub parent_number : List ℕ → Option ℕ
 parent_number xs = zero_or phrase_number (decimal xs)
 
 abbrev pub good : Option ℕ → Bool
-good none = false
-good (some n) = true
+good None = false
+good (Some n) = true
 
 abbrev pub value : Option ℕ → ℕ
-value none = 0
-value (some n) = n
+value None = 0
+value (Some n) = n

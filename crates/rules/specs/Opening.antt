@@ -1,7 +1,6 @@
 -- Document 01, "The numbers of refusal": an opening gives a sentence handed out, else 24 with sentence sheet and edge
 -- list zero; it fills the table sheet and the seen set as a survey does.
-use Rattle.std.specs.Prelude.{ℕ, Bool, ◌&&◌, List, [], ◌∷◌, length, replicate, eqb}
-use Rattle.std.proofs.Math.Option.{Option, none, some}
+use Rattle.std.specs.Prelude.{ℕ, Bool, ◌&&◌, List, [], ◌∷◌, length, replicate, eqb, Option, None, Some}
 use Rattle.rules.specs.Lists.{pick}
 use Rattle.rules.specs.Numbers.{edge_limit}
 use Rattle.rules.specs.Sentences.{Sentence}
@@ -12,10 +11,10 @@ use Rattle.rules.specs.SentenceFrom.{sentence_from}
 
 -- the sentence of a number among those handed out
 abbrev pub sentence_of : ℕ → List Handed → Option Sentence
-sentence_of n [] = none
+sentence_of n [] = None
 sentence_of n (h ∷ hs) =
     let later = sentence_of n hs in
-    pick (eqb n h.sentence.heading.number) (some h.sentence) later
+    pick (eqb n h.sentence.heading.number) (Some h.sentence) later
 
 pub record Opened : Type 0 where
   pub answer : ℕ
@@ -39,9 +38,9 @@ abbrev pub all_fit : List ℕ → List ℕ → List ℕ → List EdgeRecord → 
 all_fit tables seen sheet edges = sheets_fit tables seen && eqb (length sheet) sentence_sheet_size && eqb (length edges) edge_limit
 
 abbrev pub opened : Survey → Option Sentence → Opened
-opened read_as none =
+opened read_as None =
     record { answer = 24; tables = table_sheet read_as.tables; seen = seen_set (numbers read_as.handed); sheet = no_sheet; edges = no_edges }
-opened read_as (some s) =
+opened read_as (Some s) =
     record {
       answer = 0;
       tables = table_sheet read_as.tables;
@@ -66,8 +65,8 @@ pub record OpenedAt : Type 0 where
   pub edges : List EdgeRecord
 
 abbrev pub opened_as : Option Sentence → OpenedAt
-opened_as none = record { answer = 24; sheet = no_sheet; edges = no_edges }
-opened_as (some s) = record { answer = 0; sheet = sentence_sheet s; edges = edge_list s }
+opened_as None = record { answer = 24; sheet = no_sheet; edges = no_edges }
+opened_as (Some s) = record { answer = 0; sheet = sentence_sheet s; edges = edge_list s }
 
 unfoldable pub after_opening_at : List ℕ → ℕ → List ℕ → List EdgeRecord → OpenedAt
 after_opening_at file at sheet edges =

@@ -1,7 +1,6 @@
 -- The converse of `BeginsThere`, of any file, whatever stands in front of the place: lines that stand there and are those of a
 -- sentence, with whatever tables it fits, open it. Document 01, "The file from top to bottom".
-use Rattle.std.specs.Prelude.{ℕ, ◌≡◌, List, [], ◌∷◌, ◌++◌, length}
-use Rattle.std.proofs.Math.Option.{some}
+use Rattle.std.specs.Prelude.{ℕ, ◌≡◌, List, [], ◌∷◌, ◌++◌, length, Some}
 use Rattle.rules.specs.Lists.{Each}
 use Rattle.rules.specs.Sentences.{Sentence}
 use Rattle.rules.specs.Places.{StartsLine}
@@ -31,6 +30,6 @@ pub record SentenceStands (file : List ℕ) (at : ℕ) (s : SentenceLines) : Typ
 -- the sentence that begins there says what the lines say
 pub record OpensThere (file : List ℕ) (at : ℕ) (s : SentenceLines) : Type 0 where
   pub sentence : Sentence
-  pub found : sentence_from file at ≡ some sentence
+  pub found : sentence_from file at ≡ Some sentence
   pub place : sentence.start ≡ at
   pub says : sentence_read sentence ≡ sentence_says s

@@ -1,7 +1,6 @@
 -- Document 01, "The file from top to bottom", and document 02, request 1: in a node's line, any number of pairs of secondary
 -- label and secondary parent.
-use Rattle.std.specs.Prelude.{ℕ, Bool, true, false, not, List, [], ◌∷◌, eqb}
-use Rattle.std.proofs.Math.Option.{Option}
+use Rattle.std.specs.Prelude.{ℕ, Bool, true, false, not, List, [], ◌∷◌, eqb, Option}
 use Rattle.rules.specs.Texts.{Text}
 use Rattle.rules.specs.Numbers.{phrase_number, number, value}
 use Rattle.rules.specs.Sentences.{Edge}

@@ -1,6 +1,5 @@
 -- Where in the file what is read from it stands: the bytes of each text, the first line of each sentence, and its end.
-use Rattle.std.specs.Prelude.{ℕ, suc, ◌≡◌, ◌⊎◌, List, [], ◌∷◌, length, take, drop}
-use Rattle.std.proofs.Math.Option.{Option}
+use Rattle.std.specs.Prelude.{ℕ, suc, ◌≡◌, ◌⊎◌, List, [], ◌∷◌, length, take, drop, Option}
 use Rattle.rules.specs.Lists.{bytes, Each}
 use Rattle.rules.specs.Texts.{Text}
 use Rattle.rules.specs.Tables.{Row, rows_of}

@@ -1,7 +1,6 @@
 -- Document 01, "The numbers of refusal": a file is read byte by byte, and each line that ends takes one step; the first
 -- faulty line decides.
-use Rattle.std.specs.Prelude.{ℕ, suc, List, [], ◌∷◌, ◌++◌, map, reverse, eqb}
-use Rattle.std.proofs.Math.Option.{Option, none, some}
+use Rattle.std.specs.Prelude.{ℕ, suc, List, [], ◌∷◌, ◌++◌, map, reverse, eqb, Option, None, Some}
 use Rattle.rules.specs.Lists.{pick}
 use Rattle.rules.specs.Bytes.{newline}
 use Rattle.rules.specs.Texts.{Text}
@@ -25,7 +24,7 @@ pub record Reading : Type 0 where
   pub fault : Option Fault
 
 abbrev pub begin : Reading
-begin = record { at = 0; line_start = 0; part = []; phase = start; handed = []; fault = none }
+begin = record { at = 0; line_start = 0; part = []; phase = start; handed = []; fault = None }
 
 abbrev pub line : Reading → Text
 line r = record { start = r.line_start; bytes = reverse r.part }
@@ -42,10 +41,10 @@ ended r (refuse q) =
       part = r.part;
       phase = r.phase;
       handed = r.handed;
-      fault = some (fault_of q);
+      fault = Some (fault_of q);
     }
 ended r (go p) =
-    record { at = suc r.at; line_start = suc r.at; part = []; phase = p; handed = r.handed; fault = none }
+    record { at = suc r.at; line_start = suc r.at; part = []; phase = p; handed = r.handed; fault = None }
 ended r (hand p s) =
     record {
       at = suc r.at;
@@ -53,23 +52,23 @@ ended r (hand p s) =
       part = [];
       phase = behind_sentence p;
       handed = r.handed ++ (record { end = suc r.at; sentence = s } ∷ []);
-      fault = none;
+      fault = None;
     }
 
 abbrev pub with_byte : Reading → ℕ → Reading
 with_byte r b =
-    record { at = suc r.at; line_start = r.line_start; part = b ∷ r.part; phase = r.phase; handed = r.handed; fault = none }
+    record { at = suc r.at; line_start = r.line_start; part = b ∷ r.part; phase = r.phase; handed = r.handed; fault = None }
 
 abbrev pub later : Reading → Fault → Reading
 later r f =
-    record { at = suc r.at; line_start = r.line_start; part = r.part; phase = r.phase; handed = r.handed; fault = some f }
+    record { at = suc r.at; line_start = r.line_start; part = r.part; phase = r.phase; handed = r.handed; fault = Some f }
 
 abbrev pub sound : Reading → ℕ → Reading
 sound r b = pick (eqb b newline) (ended r (step r.phase (numbers r.handed) (line r))) (with_byte r b)
 
 abbrev pub byte_unless : Option Fault → Reading → ℕ → Reading
-byte_unless none r b = sound r b
-byte_unless (some f) r b = later r f
+byte_unless None r b = sound r b
+byte_unless (Some f) r b = later r f
 
 abbrev pub byte : Reading → ℕ → Reading
 byte r b = byte_unless r.fault r b
@@ -86,8 +85,8 @@ closing r [] = record { number = at_end r.phase; place = r.at }
 closing r (b ∷ bs) = record { number = 3; place = r.line_start }
 
 abbrev pub closing_unless : Option Fault → Reading → Fault
-closing_unless none r = closing r r.part
-closing_unless (some f) r = f
+closing_unless None r = closing r r.part
+closing_unless (Some f) r = f
 
 -- refusal (0 if accepted) and place (the file length if accepted)
 abbrev pub verdict : Reading → Fault

@@ -1,7 +1,6 @@
 -- Demand 1, of the file alone: which bytes are refused by which number, and at which place. A front is what stands before the
 -- line in question: bytes whose own survey finds no fault in any line, so that it is refused by nothing but its end.
-use Rattle.std.specs.Prelude.{ℕ, ◌+◌, ◌≤◌, ◌<◌, ◌≡◌, ◌⊎◌, ◌↔◌, List, [], ◌∷◌, ◌++◌, length}
-use Rattle.std.proofs.Math.Option.{none}
+use Rattle.std.specs.Prelude.{ℕ, ◌+◌, ◌≤◌, ◌<◌, ◌≡◌, ◌⊎◌, ◌↔◌, List, [], ◌∷◌, ◌++◌, length, None}
 use Rattle.rules.specs.Lists.{bytes, Each}
 use Rattle.rules.specs.Bytes.{percents}
 use Rattle.rules.specs.Tables.{table}
@@ -114,7 +113,7 @@ AtItsEnd n = (n ≡ 0) ⊎ (n ≡ 9) ⊎ (n ≡ 13) ⊎ (n ≡ 23)
 
 -- ORIGIN or EDITOR isn't there
 abbrev pub Lacking : List ℕ → Type 0
-Lacking file = (table 0 (survey_of file).tables ≡ none) ⊎ (table 1 (survey_of file).tables ≡ none)
+Lacking file = (table 0 (survey_of file).tables ≡ None) ⊎ (table 1 (survey_of file).tables ≡ None)
 
 pub record EndRule (front : List ℕ) : Type 0 where
   -- it is empty or ends with byte 10

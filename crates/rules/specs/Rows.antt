@@ -1,7 +1,6 @@
 -- Document 01, "The file from top to bottom": the rows of the tables, line by line; rs are the rows in front of the
 -- line in its table.
-use Rattle.std.specs.Prelude.{ℕ, suc, Bool, not, ◌&&◌, ◌||◌, List, [], ◌∷◌, length, leb, ltb, eqb}
-use Rattle.std.proofs.Math.Option.{Option, none, some}
+use Rattle.std.specs.Prelude.{ℕ, suc, Bool, not, ◌&&◌, ◌||◌, List, [], ◌∷◌, length, leb, ltb, eqb, Option, None, Some}
 use Rattle.rules.specs.Lists.{pick, bytes}
 use Rattle.rules.specs.Bytes.{percents}
 use Rattle.rules.specs.Texts.{Text, given, reads, at_most, trim, in_front, behind}
@@ -50,14 +49,14 @@ editor_row rs line =
     (record { id1 = value id; first = login.text; second = name; flag = 0 })
 
 abbrev pub last_id : List Row → Option ℕ
-last_id [] = none
-last_id (r ∷ []) = some r.id1
+last_id [] = None
+last_id (r ∷ []) = Some r.id1
 last_id (r ∷ s ∷ rs) = last_id (s ∷ rs)
 
 -- ids in order: -1 if given, 0 if given, then 1, 2, 3 without a gap (each here with one added)
 abbrev pub follows : Option ℕ → ℕ → Bool
-follows none i = leb i 2
-follows (some l) i = eqb i (suc l) || (eqb l 0 && eqb i 2)
+follows None i = leb i 2
+follows (Some l) i = eqb i (suc l) || (eqb l 0 && eqb i 2)
 
 -- row -1 carries UNKNOWN, row 0 --; no other row carries either
 abbrev pub own_tag : ℕ → Text → Bool

@@ -1,7 +1,6 @@
 -- Document 01, "The numbers of refusal", and document 02, request 4: the first faulty line decides, within it the smallest
 -- number, and of the columns with this number the leftmost.
-use Rattle.std.specs.Prelude.{ℕ, Bool, List, [], ◌∷◌, leb}
-use Rattle.std.proofs.Math.Option.{Option, none, some}
+use Rattle.std.specs.Prelude.{ℕ, Bool, List, [], ◌∷◌, leb, Option, None, Some}
 use Rattle.rules.specs.Lists.{pick}
 use Rattle.rules.specs.Texts.{Text}
 
@@ -29,17 +28,17 @@ pub data Verdict (A : Type 0) : Type 0 where
 
 -- of two rules the one with the smaller number, the first if these are equal
 abbrev pub sooner : Rule → Option Rule → Rule
-sooner r none = r
-sooner r (some q) = pick (leb r.number q.number) r q
+sooner r None = r
+sooner r (Some q) = pick (leb r.number q.number) r q
 
 -- of the rules that don't hold the one with the smallest number, the leftmost of these
 unfoldable pub broken : List Rule → Option Rule
-broken [] = none
-broken (r ∷ rs) = let others = broken rs in pick r.holds others (some (sooner r others))
+broken [] = None
+broken (r ∷ rs) = let others = broken rs in pick r.holds others (Some (sooner r others))
 
 abbrev pub unless : {A : Type 0} → Option Rule → A → Verdict A
-unless none a = granted a
-unless (some r) a = refused r
+unless None a = granted a
+unless (Some r) a = refused r
 
 unfoldable pub checked : {A : Type 0} → List Rule → A → Verdict A
 unfolding broken

@@ -1,7 +1,6 @@
 -- Document 01, "Tidy text": when two files have the same tables and the same sentences. Said field by field of what two
 -- surveys hand out; places don't count.
-use Rattle.std.specs.Prelude.{ℕ, ◌≤◌, ◌≡◌, ◌⊎◌, ◌↔◌, List, [], ◌∷◌, length}
-use Rattle.std.proofs.Math.Option.{Option, none, some}
+use Rattle.std.specs.Prelude.{ℕ, ◌≤◌, ◌≡◌, ◌⊎◌, ◌↔◌, List, [], ◌∷◌, length, Option, None, Some}
 use Rattle.rules.specs.Lists.{Each}
 use Rattle.rules.specs.Texts.{Text}
 use Rattle.rules.specs.Tables.{Tables, Row, table, origins, editors, word_tags, sec_edge_tags}
@@ -12,9 +11,9 @@ use Rattle.rules.specs.Survey.{survey_of}
 -- ---- said of two lists
 
 -- one of the list is so
-abbrev pub Some : {A : Type 0} → (A → Type 0) → List A → Type 0
-Some P [] = ⊥
-Some P (x ∷ xs) = P x ⊎ Some P xs
+abbrev pub Any : {A : Type 0} → (A → Type 0) → List A → Type 0
+Any P [] = ⊥
+Any P (x ∷ xs) = P x ⊎ Any P xs
 
 abbrev pub InOrder : {A : Type 0} → (A → A → Type 0) → List A → List A → Type 0
 InOrder Alike [] [] = Unit
@@ -24,8 +23,8 @@ InOrder Alike (x ∷ xs) (y ∷ ys) = Alike x y × InOrder Alike xs ys
 
 -- each of one list has its like in the other and back, and they are as many
 pub record InAnyOrder {A : Type 0} (Alike : A → A → Type 0) (xs ys : List A) : Type 0 where
-  pub forth : Each (λ (x : A). Some (λ (y : A). Alike x y) ys) xs
-  pub back : Each (λ (y : A). Some (λ (x : A). Alike x y) xs) ys
+  pub forth : Each (λ (x : A). Any (λ (y : A). Alike x y) ys) xs
+  pub back : Each (λ (y : A). Any (λ (x : A). Alike x y) xs) ys
   pub as_many : length xs ≡ length ys
 
 -- ---- tables: rows with the same meaning have the same texts and numbers
@@ -41,10 +40,10 @@ pub record SameRow (r q : Row) : Type 0 where
 
 -- a table is present in both files, with such rows, or in neither
 abbrev pub Present : (List Row → List Row → Type 0) → Option (List Row) → Option (List Row) → Type 0
-Present Alike none none = Unit
-Present Alike none (some qs) = ⊥
-Present Alike (some rs) none = ⊥
-Present Alike (some rs) (some qs) = Alike rs qs
+Present Alike None None = Unit
+Present Alike None (Some qs) = ⊥
+Present Alike (Some rs) None = ⊥
+Present Alike (Some rs) (Some qs) = Alike rs qs
 
 -- the order of origin and editor rows doesn't count
 pub record TablesAgree (ts us : Tables) : Type 0 where
@@ -83,7 +82,7 @@ abbrev pub handed_number : Handed → ℕ
 handed_number h = h.sentence.heading.number
 
 abbrev pub Occurs : ℕ → List Handed → Type 0
-Occurs n hs = Some (λ (h : Handed). handed_number h ≡ n) hs
+Occurs n hs = Any (λ (h : Handed). handed_number h ≡ n) hs
 
 -- the same numbers occur and, for each, the sentences agree
 pub record SentencesAgree (hs gs : List Handed) : Type 0 where

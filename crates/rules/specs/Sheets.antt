@@ -1,6 +1,5 @@
 -- Document 01, "The sheets".
-use Rattle.std.specs.Prelude.{ℕ, suc, ◌+◌, ◌-◌, ◌*◌, ◌/◌, List, [], ◌∷◌, ◌++◌, map, length, replicate, eqb}
-use Rattle.std.proofs.Math.Option.{Option, none, some}
+use Rattle.std.specs.Prelude.{ℕ, suc, ◌+◌, ◌-◌, ◌*◌, ◌/◌, List, [], ◌∷◌, ◌++◌, map, length, replicate, eqb, Option, None, Some}
 use Rattle.rules.specs.Lists.{pick, member, counting, joined}
 use Rattle.rules.specs.Texts.{Text}
 use Rattle.rules.specs.Numbers.{row_limit, edge_limit, sentence_number}
@@ -37,8 +36,8 @@ table_sheet_size = row_place table_count 0
 
 -- 0 absent, else rows + 1
 abbrev pub count : Option (List Row) → ℕ
-count none = 0
-count (some rs) = suc (length rs)
+count None = 0
+count (Some rs) = suc (length rs)
 
 abbrev pub row_numbers : Row → List ℕ
 row_numbers r = r.id1 ∷ span r.first ++ span r.second ++ (r.flag ∷ [])

@@ -1,6 +1,5 @@
 -- Document 01, "The file from top to bottom": the seven tables, and which tags are known.
-use Rattle.std.specs.Prelude.{ℕ, suc, Bool, true, false, not, ◌||◌, List, [], ◌∷◌, get_or, set, replicate, eqb}
-use Rattle.std.proofs.Math.Option.{Option, none, some}
+use Rattle.std.specs.Prelude.{ℕ, suc, Bool, true, false, not, ◌||◌, List, [], ◌∷◌, get_or, set, replicate, eqb, Option, None, Some}
 use Rattle.rules.specs.Lists.{pick, bytes, any}
 use Rattle.rules.specs.Texts.{Text, reads, same_bytes}
 
@@ -34,8 +33,8 @@ table_names =
 
 -- the place of a name in a list of names, counted from n
 abbrev pub place_from : ℕ → Text → List (List ℕ) → Option ℕ
-place_from n t [] = none
-place_from n t (x ∷ xs) = let later = place_from (suc n) t xs in pick (reads x t) (some n) later
+place_from n t [] = None
+place_from n t (x ∷ xs) = let later = place_from (suc n) t xs in pick (reads x t) (Some n) later
 
 abbrev pub table_named : Text → Option ℕ
 table_named t = place_from 0 t table_names
@@ -54,24 +53,24 @@ abbrev pub Tables : Type 0
 Tables = List (Option (List Row))
 
 abbrev pub no_tables : Tables
-no_tables = replicate 7 none
+no_tables = replicate 7 None
 
 abbrev pub table : ℕ → Tables → Option (List Row)
-table n ts = get_or ts n none
+table n ts = get_or ts n None
 
 abbrev pub there : Option (List Row) → Bool
-there none = false
-there (some rs) = true
+there None = false
+there (Some rs) = true
 
 abbrev pub present : ℕ → Tables → Bool
 present n ts = there (table n ts)
 
 abbrev pub closed : ℕ → List Row → Tables → Tables
-closed n rs ts = set ts n (some rs)
+closed n rs ts = set ts n (Some rs)
 
 abbrev pub rows_of : Option (List Row) → List Row
-rows_of none = []
-rows_of (some rs) = rs
+rows_of None = []
+rows_of (Some rs) = rs
 
 unfoldable pub has_id : ℕ → List Row → Bool
 has_id i rs = any (λ (r : Row). eqb i r.id1) rs

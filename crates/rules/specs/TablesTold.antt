@@ -1,7 +1,6 @@
 -- Document 01, "The numbers of refusal": the table sheet holds the tables closed before the fault. Of the file alone: a line that
 -- is refused, and an unended rest, leave the tables of the lines in front, and of these each table that stands there is told.
-use Rattle.std.specs.Prelude.{ℕ, ◌<◌, ◌≡◌, List, [], ◌∷◌, ◌++◌}
-use Rattle.std.proofs.Math.Option.{some}
+use Rattle.std.specs.Prelude.{ℕ, ◌<◌, ◌≡◌, List, [], ◌∷◌, ◌++◌, Some}
 use Rattle.rules.specs.Lists.{bytes, Each}
 use Rattle.rules.specs.Tables.{Row, table}
 use Rattle.rules.specs.Survey.{survey_of}
@@ -29,7 +28,7 @@ pub record TableStands (file : List ℕ) (n : ℕ) (rows : List (List ℕ)) : Ty
 -- the n-th table is told, with a row for each of these lines, in order, and what the line says
 pub record TableTold (file : List ℕ) (n : ℕ) (rows : List (List ℕ)) : Type 0 where
   pub told : List Row
-  pub there : table n (survey_of file).tables ≡ some told
+  pub there : table n (survey_of file).tables ≡ Some told
   pub each_row : EachWith (TableRowSaid n) told rows
 
 -- of a front without a fault

@@ -1,6 +1,5 @@
 -- Document 01, "Tidy text".
-use Rattle.std.specs.Prelude.{ℕ, zero, suc, ◌+◌, ◌/◌, ◌%◌, List, [], ◌∷◌, ◌++◌, map, get_or, ltb, eqb}
-use Rattle.std.proofs.Math.Option.{Option, none, some}
+use Rattle.std.specs.Prelude.{ℕ, zero, suc, ◌+◌, ◌/◌, ◌%◌, List, [], ◌∷◌, ◌++◌, map, get_or, ltb, eqb, Option, None, Some}
 use Rattle.rules.specs.Lists.{pick, bytes, joined}
 use Rattle.rules.specs.Bytes.{newline, percents}
 use Rattle.rules.specs.Texts.{Text, given}
@@ -68,8 +67,8 @@ abbrev pub table_name : ℕ → List ℕ
 table_name n = get_or table_names n []
 
 abbrev pub table_text : ℕ → Option (List Row) → List ℕ
-table_text n none = []
-table_text n (some rs) =
+table_text n None = []
+table_text n (Some rs) =
     keyword_line (bytes "#BOT" ∷ table_name n ∷ []) ++ joined (map (row_line n) rs) ++ keyword_line (bytes "#EOT" ∷ table_name n ∷ [])
 
 -- the tables from the n-th on

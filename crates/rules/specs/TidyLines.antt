@@ -2,8 +2,7 @@
 -- between columns, rows and node lines one tab; a comment is tab, %%, tab, text, on #BOS with spaces instead. Of a content whose
 -- parts stand in the order of the tidy text.
 use Prim.Native.String.{String}
-use Rattle.std.specs.Prelude.{ℕ, suc, ◌≡◌, ◌⊎◌, List, [], ◌∷◌, ◌++◌, map, get_or, eqb}
-use Rattle.std.proofs.Math.Option.{Option, none, some}
+use Rattle.std.specs.Prelude.{ℕ, suc, ◌≡◌, ◌⊎◌, List, [], ◌∷◌, ◌++◌, map, get_or, eqb, Option, None, Some}
 use Rattle.rules.specs.Lists.{pick, bytes, joined}
 use Rattle.rules.specs.GrammarNumbers.{Numeral}
 use Rattle.rules.specs.GrammarNames.{end_of_line, comment_sign, titles, of_origin, of_wordtag}
@@ -68,8 +67,8 @@ abbrev pub with_title : String → ℕ → TidyLine
 with_title keyword which = spaced (the_text (bytes keyword) ∷ the_text (get_or titles which []) ∷ [])
 
 abbrev pub tidy_table : ℕ → Option (List RowContent) → List TidyLine
-tidy_table which none = []
-tidy_table which (some rs) = with_title "#BOT" which ∷ map (tidy_row which) rs ++ (with_title "#EOT" which ∷ [])
+tidy_table which None = []
+tidy_table which (Some rs) = with_title "#BOT" which ∷ map (tidy_row which) rs ++ (with_title "#EOT" which ∷ [])
 
 -- of the tables from one on
 abbrev pub tidy_tables : ℕ → List (Option (List RowContent)) → List TidyLine

@@ -1,7 +1,6 @@
 -- What the tidy text of a content is. Document 01, "Tidy text": the tables present in their order, origin and editor rows by
 -- id; sentences by number; phrases by number; ignored lines vanish.
-use Rattle.std.specs.Prelude.{ℕ, suc, ◌<◌, ◌≡◌, ◌↔◌, List, [], ◌∷◌, leb}
-use Rattle.std.proofs.Math.Option.{Option, none, some}
+use Rattle.std.specs.Prelude.{ℕ, suc, ◌<◌, ◌≡◌, ◌↔◌, List, [], ◌∷◌, leb, Option, None, Some}
 use Rattle.rules.specs.Lists.{pick}
 use Rattle.rules.specs.GrammarNames.{of_editor}
 use Rattle.rules.specs.GrammarContent.{RowContent, NodeContent, SentenceContent, Content}
@@ -23,10 +22,10 @@ pub record ByRising {A : Type 0} (key : A → ℕ) (xs ys : List A) : Type 0 whe
 
 -- origin and editor rows by id, tag rows as they stand
 abbrev pub TableOrdered : ℕ → Option (List RowContent) → Option (List RowContent) → Type 0
-TableOrdered which none none = Unit
-TableOrdered which none (some qs) = ⊥
-TableOrdered which (some rs) none = ⊥
-TableOrdered which (some rs) (some qs) = pick (leb which of_editor) (ByRising (λ (r : RowContent). r.id1) rs qs) (qs ≡ rs)
+TableOrdered which None None = Unit
+TableOrdered which None (Some qs) = ⊥
+TableOrdered which (Some rs) None = ⊥
+TableOrdered which (Some rs) (Some qs) = pick (leb which of_editor) (ByRising (λ (r : RowContent). r.id1) rs qs) (qs ≡ rs)
 
 abbrev pub TablesOrdered : ℕ → List (Option (List RowContent)) → List (Option (List RowContent)) → Type 0
 TablesOrdered which [] [] = Unit

@@ -3,7 +3,7 @@ use Prim.Native.Nat.{ℕ, suc, ◌+◌, ◌-◌, ◌≤◌, ◌<◌}
 use native.Mathlib.Omega.{arith}
 use mathlib.Core.Path.{◌≡◌, refl, sym, ap, ◌∙◌}
 use mathlib.Core.Bool.{Bool, true, false, ◌||◌, and-false}
-use mathlib.Core.Option.{Option, none, some}
+use Rattle.std.specs.Prelude.{Option, None, Some, Result, Ok, Err}
 use mathlib.Core.List.{List, [], ◌∷◌}
 use lib.Dec.{leb}
 use lib.ListN.{length, drop, get_or, get_or-eq_default}
@@ -20,8 +20,9 @@ use Rattle.rules.specs.Lines.{taken_as, sentence_begins}
 use Rattle.rules.specs.SentenceFrom.{starts_line, put_in_front, ended_line, heading_alone}
 use Rattle.rules.proofs.RuleLaws.{holds_of, granted_holds, passes}
 use Rattle.lines.specs.LineEnds.{ends, has_end, first_line, line_end}
-use Rattle.lines.specs.declared.LineEnd.{LineEnd}
-use Rattle.lines.specs.declared.LineEnd.TheVariants.{At, Unended, Illegal, TooLong}
+use Rattle.lines.specs.declared.Unreadable.{Unreadable}
+use Rattle.lines.specs.declared.Unreadable.TheVariants.{Unended, Illegal, TooLong}
+use Rattle.steps.specs.declared.Fault.{Fault}
 use Rattle.lines.proofs.Lines.{at_ended, at_legal, at_short, at_place, at_below, at_take, unended_none, illegal_ended, illegal_marred, long_ended, long_over}
 use Rattle.columns.specs.Listing.{text_between}
 use Rattle.columns.specs.Splices.{splice}
@@ -52,17 +53,17 @@ start_inside file place e = by (leb place (length file)) refl
 
 -- ---- the bytes up to the first newline
 
-first_line_lem : (bs : List ℕ) → ended_line bs ≡ pick (has_end bs) (some (first_line bs)) none
+first_line_lem : (bs : List ℕ) → ended_line bs ≡ pick (has_end bs) (Some (first_line bs)) None
 unfolding ended_line first_line
 first_line_lem [] = refl
 first_line_lem (b ∷ bs) = by (ends b) (first_line_lem bs)
   where
-    behind : (t : Bool) (l : List ℕ) → put_in_front b (pick t (some l) none) ≡ pick t (some (b ∷ l)) none
+    behind : (t : Bool) (l : List ℕ) → put_in_front b (pick t (Some l) None) ≡ pick t (Some (b ∷ l)) None
     behind true l = refl
     behind false l = refl
 
-    by : (t : Bool) → ended_line bs ≡ pick (has_end bs) (some (first_line bs)) none
-        → pick t (some []) (put_in_front b (ended_line bs)) ≡ pick (t || has_end bs) (some (pick t [] (b ∷ first_line bs))) none
+    by : (t : Bool) → ended_line bs ≡ pick (has_end bs) (Some (first_line bs)) None
+        → pick t (Some []) (put_in_front b (ended_line bs)) ≡ pick (t || has_end bs) (Some (pick t [] (b ∷ first_line bs))) None
     by true e = refl
     by false e = ap (put_in_front b) e ∙ behind (has_end bs) (first_line bs)
 
@@ -73,28 +74,27 @@ module _ (file : List ℕ) (place : ℕ) where
   begun_ended : has_end (drop place file) ≡ true → opened_at file place ≡ opened_if (suc (place + length here)) (heading_alone (record { start = place; bytes = here }))
   begun_ended h = rw (first_line_lem (drop place file), h)
 
-  begun_unended : has_end (drop place file) ≡ false → opened_at file place ≡ none
+  begun_unended : has_end (drop place file) ≡ false → opened_at file place ≡ None
   begun_unended h = rw (first_line_lem (drop place file), h)
 
-  not_granted : (next : ℕ) (rs : List Rule) (h : Heading) → every holds_of rs ≡ false → opened_if next (checked rs h) ≡ none
+  not_granted : (next : ℕ) (rs : List Rule) (h : Heading) → every holds_of rs ≡ false → opened_if next (checked rs h) ≡ None
   not_granted next rs h e = by (checked rs h) refl
     where
-      by : (v : Verdict Heading) → checked rs h ≡ v → opened_if next v ≡ none
+      by : (v : Verdict Heading) → checked rs h ≡ v → opened_if next v ≡ None
       by (refused r) q = refl
       by (granted a) q = absurd (let z : ◌≡◌ {A = ℕ} 0 1 = cc (e, (granted_holds rs h a q).0) in omega arith)
 
-  pub begun_unread : (found : LineEnd) → line_end file place ≡ found → ((e : ℕ) → found ≡ At e → ⊥) → opened_at file place ≡ none
+  pub begun_unread : (why : Unreadable) → line_end file place ≡ Err why → opened_at file place ≡ None
   unfolding heading_alone
-  begun_unread (At e) q n = absurd (n e refl)
-  begun_unread Unended q n = begun_unended (unended_none file place q)
-  begun_unread Illegal q n = begun_ended (illegal_ended file place q) ∙ not_granted _ _ _ (rw (illegal_marred file place q))
-  begun_unread TooLong q n =
+  begun_unread Unended q = begun_unended (unended_none file place q)
+  begun_unread Illegal q = begun_ended (illegal_ended file place q) ∙ not_granted _ _ _ (rw (illegal_marred file place q))
+  begun_unread TooLong q =
       begun_ended (long_ended file place q)
       ∙ not_granted _ _ _ (rw (lt-leb (length here) line_limit (long_over file place q)) (and-false (every legal here)))
 
   -- ---- a line that is read
 
-  module _ (e : ℕ) (q : line_end file place ≡ At e) where
+  module _ (e : ℕ) (q : line_end file place ≡ Ok e) where
     abbrev line : Text
     line = text_between file place e
 
@@ -116,7 +116,7 @@ module _ (file : List ℕ) (place : ℕ) where
       reads_it : {t : Bool} → b ≡ t → reads (bytes "#BOS") (first_column line) ≡ t
       reads_it h = sym (ap (λ (l : List ℕ). same l (bytes "#BOS")) is) ∙ sym so ∙ h
 
-      pub begun_other : b ≡ false → opened_at file place ≡ none
+      pub begun_other : b ≡ false → opened_at file place ≡ None
       unfolding heading_alone
       begun_other h = begun_line ∙ not_granted _ _ _ (rw (line_legal, line_short, reads_it h))
 
@@ -136,20 +136,20 @@ module _ (file : List ℕ) (place : ℕ) where
         begun_written : opened_at file place ≡ opened_if (e + 1) written_so
         begun_written = begun_line ∙ ap (opened_if (e + 1)) as_written
 
-        module _ (y : Step) (told : y ≡ step_of (taken_as sentence_begins written_so)) where
-          pub begun_refused : ((said : HeadingSaid) → y ≡ SentenceBegins said → ⊥) → opened_at file place ≡ none
+        module _ (y : Result Step Fault) (told : y ≡ step_of (taken_as sentence_begins written_so)) where
+          pub begun_refused : ((said : HeadingSaid) → y ≡ Ok (SentenceBegins said) → ⊥) → opened_at file place ≡ None
           begun_refused o = begun_written ∙ by written_so told
             where
-              by : (v : Verdict Heading) → y ≡ step_of (taken_as sentence_begins v) → opened_if (e + 1) v ≡ none
+              by : (v : Verdict Heading) → y ≡ step_of (taken_as sentence_begins v) → opened_if (e + 1) v ≡ None
               by (refused r) w = refl
               by (granted a) w = absurd (o _ w)
 
-          pub begun_headed : (said : HeadingSaid) → y ≡ SentenceBegins said → (t : Tally) → t ≡ first_tally place said.number → (lent sheet : List ℕ)
+          pub begun_headed : (said : HeadingSaid) → y ≡ Ok (SentenceBegins said) → (t : Tally) → t ≡ first_tally place said.number → (lent sheet : List ℕ)
               → sheet ≡ splice 0 (said.number ∷ said.editor1 ∷ said.date ∷ said.origin ∷ said.comment.start ∷ said.comment.len ∷ []) lent
               → Headed file place (e + 1) t lent sheet
           begun_headed said s t first lent sheet put = by written_so refl (sym s ∙ told)
             where
-              by : (v : Verdict Heading) → written_so ≡ v → SentenceBegins said ≡ step_of (taken_as sentence_begins v) → Headed file place (e + 1) t lent sheet
+              by : (v : Verdict Heading) → written_so ≡ v → Ok (SentenceBegins said) ≡ step_of (taken_as sentence_begins v) → Headed file place (e + 1) t lent sheet
               by (refused r) w u = absurd (let z : ◌≡◌ {A = ℕ} 0 1 = cc in omega arith)
               by (granted a) w u =
                   let i : said ≡ heading_said a = cc in

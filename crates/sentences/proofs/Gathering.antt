@@ -4,7 +4,7 @@ use Prim.Native.Nat.{ℕ, suc, ◌+◌, ◌*◌, ◌≤◌}
 use native.Mathlib.Omega.{arith}
 use mathlib.Core.Path.{◌≡◌, refl, sym, ap, ap₂, ◌∙◌, subst}
 use mathlib.Core.Bool.{true, false}
-use mathlib.Core.Option.{Option, none, some}
+use Rattle.std.specs.Prelude.{Option, None, Some}
 use mathlib.Core.List.{List, [], ◌∷◌}
 use lib.ListN.{length, drop, replicate, length-replicate, drop_of_length-le}
 use Rattle.rules.specs.Numbers.{file_limit, edge_limit}
@@ -18,9 +18,9 @@ use Rattle.rules.specs.SentenceFrom.{ended_line, heading_alone, first_handed, he
 use Rattle.rules.proofs.ReadLines.{read_part, read_fault}
 use Rattle.columns.specs.Splices.{splice}
 use Rattle.lines.specs.LineEnds.{first_line, line_end}
-use Rattle.lines.specs.NextLines.{line_end_of}
-use Rattle.lines.specs.declared.NextLine.{NextLine}
-use Rattle.lines.specs.declared.NextLine.TheVariants.{Line, Unended, Illegal, TooLong}
+use Rattle.std.specs.Prelude.{Err}
+use Rattle.lines.specs.declared.Unreadable.{Unreadable}
+use Rattle.lines.specs.declared.Unreadable.TheVariants.{Unended, Illegal, TooLong}
 use Rattle.lines.proofs.Lines.{unended_none}
 use Rattle.lines.proofs.LineSteps.{line_read, illegal_step, long_step}
 use Rattle.table_sheet.proofs.OpenSheets.{none_have_room}
@@ -42,7 +42,7 @@ use Rattle.sentences.proofs.NodeTakings.{bare}
 
 -- a reading that has come to a place between two lines of a sentence
 abbrev pub reading_at : ℕ → Sentence → Reading
-reading_at at s = record { at = at; line_start = at; part = []; phase = in_sentence bare s; handed = []; fault = none }
+reading_at at s = record { at = at; line_start = at; part = []; phase = in_sentence bare s; handed = []; fault = None }
 
 -- with the marks of so many sentences in front
 pub record Gathering (file : List ℕ) (sought : Option Sentence) (handed at : ℕ) (k : Stored) : Type 0 where
@@ -64,8 +64,8 @@ pub record Gathering (file : List ℕ) (sought : Option Sentence) (handed at : �
 
 -- the lines behind a heading decide
 abbrev pub gone_on : List ℕ → ℕ → Option FoundHeading → Option Sentence
-gone_on file place none = none
-gone_on file place (some o) = first_handed (read (reading_at o.next (begun place o.heading)) (drop o.next file)).handed
+gone_on file place None = None
+gone_on file place (Some o) = first_handed (read (reading_at o.next (begun place o.heading)) (drop o.next file)).handed
 
 pub begun_on : (file : List ℕ) (place : ℕ) → begun_at file place ≡ gone_on file place (opened_at file place)
 begun_on file place = by (ended_line (drop place file))
@@ -75,8 +75,8 @@ begun_on file place = by (ended_line (drop place file))
     then next (granted h) = refl
 
     by : (o : Option (List ℕ)) → begun_by file place o ≡ gone_on file place (opened_by place o)
-    by none = refl
-    by (some l) = then (suc (place + length l)) (heading_alone (record { start = place; bytes = l }))
+    by None = refl
+    by (Some l) = then (suc (place + length l)) (heading_alone (record { start = place; bytes = l }))
 
 pub gathering_start : (file : List ℕ) (place from handed : ℕ) (t : Tally) (sheet edges marks : List ℕ) → Headed file place from t (replicate sentence_sheet_size 0) sheet
     → length sheet ≡ sentence_sheet_size → edges ≡ replicate (edge_limit * edge_width) 0 → MarkedUpTo handed marks
@@ -100,7 +100,7 @@ gathering_start file place from handed t sheet edges marks h size zeros m =
 
 -- ---- no line can be taken
 
-pub none_gathered : {sought : Option Sentence} (sheet edges : List ℕ) → sought ≡ none → Gathered sought false sheet edges
+pub none_gathered : {sought : Option Sentence} (sheet edges : List ℕ) → sought ≡ None → Gathered sought false sheet edges
 none_gathered sheet edges e = subst (λ (o : Option Sentence). Gathered o false sheet edges) (sym e) refl
 
 module _ (file : List ℕ) (sought : Option Sentence) (handed at : ℕ) (k : Stored) (g : Gathering file sought handed at k) where
@@ -110,22 +110,21 @@ module _ (file : List ℕ) (sought : Option Sentence) (handed at : ℕ) (k : Sto
   abbrev first : Reading → Option Sentence
   first x = first_handed x.handed
 
-  pub none_at_end : length file ≤ at → sought ≡ none
+  pub none_at_end : length file ≤ at → sought ≡ None
   none_at_end h = sym g.rest ∙ ap (λ (l : List ℕ). first (read r l)) (drop_of_length-le file h)
 
   -- a line that is refused ends the reading
-  pub none_refused : (l rest : List ℕ) (b : Rule) → read r (drop at file) ≡ read (ended (line_read r l) (refuse b)) rest → sought ≡ none
+  pub none_refused : (l rest : List ℕ) (b : Rule) → read r (drop at file) ≡ read (ended (line_read r l) (refuse b)) rest → sought ≡ None
   none_refused l rest b e = sym g.rest ∙ ap first (e ∙ read_fault (ended (line_read r l) (refuse b)) _ rest refl)
 
   abbrev bytes_here : List ℕ
   bytes_here = first_line (drop at file)
 
-  pub none_unread : (found : NextLine) → line_end file at ≡ line_end_of found → ((l : _) → found ≡ Line l → ⊥) → sought ≡ none
-  none_unread (Line l) q n = absurd (n l refl)
-  none_unread Unended q n = sym g.rest ∙ ap first (read_part r (drop at file) refl (unended_none file at q))
-  none_unread Illegal q n =
+  pub none_unread : (why : Unreadable) → line_end file at ≡ Err why → sought ≡ None
+  none_unread Unended q = sym g.rest ∙ ap first (read_part r (drop at file) refl (unended_none file at q))
+  none_unread Illegal q =
       none_refused bytes_here (drop (at + length bytes_here + 1) file) (rule 4 (record { start = at; bytes = bytes_here }) false) (illegal_step file at r refl refl q)
-  none_unread TooLong q n =
+  none_unread TooLong q =
       none_refused bytes_here (drop (at + length bytes_here + 1) file) (rule 5 (record { start = at; bytes = bytes_here }) false) (long_step file at r refl refl q)
 
   -- ---- a line is asked for, and the sentence's last line
@@ -138,7 +137,7 @@ module _ (file : List ℕ) (sought : Option Sentence) (handed at : ℕ) (k : Sto
       rw g.tally_is
       (record { edges = g.known.edges; phrases = omega (arith, g.phrases, g.in_file, short); stamp = few })
 
-  pub all_gathered : sought ≡ some g.sentence → (sheet : List ℕ)
+  pub all_gathered : sought ≡ Some g.sentence → (sheet : List ℕ)
       → sheet ≡ splice counts_place (k.tally.words ∷ k.tally.phrases ∷ k.tally.edges ∷ []) k.sheet → Gathered sought true sheet k.edges
   all_gathered h sheet e =
       subst (λ (o : Option Sentence). Gathered o true sheet k.edges) (sym h)

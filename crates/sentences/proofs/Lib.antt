@@ -1,4 +1,5 @@
 pub mod PairEdges
+pub mod NotOk
 pub mod Growing
 pub mod NodeTakings
 pub mod Gathering

@@ -7,14 +7,14 @@ use lib.ListN.{length}
 use Rattle.rules.specs.Numbers.{line_limit, file_limit}
 use Rattle.rules.specs.Columns.{columns}
 use Rattle.lines.specs.LineEnds.{line_end}
-use Rattle.lines.specs.declared.LineEnd.TheVariants.{At}
+use Rattle.std.specs.Prelude.{Ok}
 use Rattle.lines.proofs.Lines.{at_behind, at_below, at_place, at_short}
 use Rattle.columns.specs.Listing.{text_between, places_of, Listed}
 use Rattle.columns.specs.Splices.{splice}
 use Rattle.columns.specs.declared.listing.Line.{Line}
 use Rattle.columns.proofs.ListedColumns.{now_listed}
 
-module _ (file : List ℕ) (at e : ℕ) (q : line_end file at ≡ At e) (short : length file ≤ file_limit) where
+module _ (file : List ℕ) (at e : ℕ) (q : line_end file at ≡ Ok e) (short : length file ≤ file_limit) where
   pub order : at ≤ e
   order = at_behind file at e q
 

@@ -24,8 +24,8 @@ use Rattle.rules.proofs.RuleLaws.{granted_holds}
 use Rattle.table_sheet.proofs.OpenSheets.{none_have_room}
 use Rattle.table_sheet.proofs.ReadBack.{tables_read}
 use Rattle.table_sheet.proofs.Standing.{none_stand}
-use Rattle.columns.specs.Listing.{line_of, Listed}
-use Rattle.columns.specs.declared.listing.Line.{Line}
+use Rattle.columns.specs.Lines.{text_in}
+use Rattle.columns.specs.declared.listed.ListedLine.{ListedLine}
 use Rattle.nodes.specs.NodeLines.{fields_of, Whole}
 use Rattle.nodes.proofs.ListedFields.{whole, half_pairs, even_paired}
 use Rattle.judging.specs.States.{tally_of}
@@ -82,13 +82,13 @@ module _ (s : Sentence) (line : Text) where
 
 -- ---- the fields of a node's line
 
-pub record NodeHere (file : List ℕ) (line : Line) (places : List ℕ) (n : Node) : Type 0 where
-  pub whole : Whole file line places (5 + 2 * length n.secondary)
-  pub secondary : map as_edge (its_pairs 3 (fields_of file line)) ≡ n.secondary
+pub record NodeHere (fs : List Text) (n : Node) : Type 0 where
+  pub whole : Whole fs (5 + 2 * length n.secondary)
+  pub secondary : map as_edge (its_pairs 3 fs) ≡ n.secondary
 
-module _ {file : List ℕ} {line : Line} {places : List ℕ} (l : Listed file line places) (s : Sentence) (n : Node) where
+module _ (line : ListedLine) (s : Sentence) (n : Node) where
   abbrev fs : List Text
-  fs = fields_of file line
+  fs = fields_of line
 
   pairs_counted : shaped 3 fs ≡ true → 5 + 2 * length (pairs (drop 5 fs)) ≡ length fs
   pairs_counted h =
@@ -97,12 +97,12 @@ module _ {file : List ℕ} {line : Line} {places : List ℕ} (l : Listed file li
       let half : (length fs - 5) / 2 ≡ length (pairs (drop 5 fs)) = half_pairs fs (length fs) refl in
       omega arith
 
-  node_here : shaped 3 fs ≡ true → map as_edge (its_pairs 3 fs) ≡ n.secondary → NodeHere file line places n
+  node_here : shaped 3 fs ≡ true → map as_edge (its_pairs 3 fs) ≡ n.secondary → NodeHere fs n
   node_here h e =
       let count : length n.secondary ≡ length (pairs (drop 5 fs)) = ap length (sym e) ∙ length-map (its_pairs 3 fs) as_edge in
-      record { whole = whole 3 l (omega (arith, count, pairs_counted h)) h; secondary = e }
+      record { whole = whole line 3 (omega (arith, count, pairs_counted h)) h; secondary = e }
 
-  pub word_here : word_of 3 no_tables (so_far s) (line_of file line) ≡ granted n → NodeHere file line places n × (n.number ≡ length s.words)
+  pub word_here : word_of 3 no_tables (so_far s) (text_in line) ≡ granted n → NodeHere fs n × (n.number ≡ length s.words)
   unfolding word_of
   word_here e =
       let g = granted_holds _ _ n e in (
@@ -110,6 +110,6 @@ module _ {file : List ℕ} {line : Line} {places : List ℕ} (l : Listed file li
         sym (ap (λ (m : Node). m.number) g.1),
       )
 
-  pub phrase_here : phrase_of 3 no_tables (so_far s) (line_of file line) ≡ granted n → NodeHere file line places n
+  pub phrase_here : phrase_of 3 no_tables (so_far s) (text_in line) ≡ granted n → NodeHere fs n
   unfolding phrase_of
   phrase_here e = let g = granted_holds _ _ n e in node_here (and_left (shaped 3 fs) _ g.0) (ap (λ (m : Node). m.secondary) g.1)

@@ -12,21 +12,23 @@ use Rattle.rules.specs.Keywords.{first_column}
 use Rattle.rules.specs.Lines.{among_nodes}
 use Rattle.table_sheet.specs.SheetRows.{tables_in}
 use Rattle.citations.proofs.NoTables.{no_tables_lem}
+use Rattle.std.specs.Prelude.{Result, Ok}
+use Rattle.steps.specs.declared.Fault.{Fault}
 use Rattle.steps.specs.Steps.{step_of}
 use Rattle.steps.specs.declared.Step.{Step}
-use Rattle.steps.specs.declared.Step.TheVariants.{Ignored, Format, TableBegins, Row, TableEnds, SentenceBegins, Word, Phrase, SentenceEnds, Refused}
+use Rattle.steps.specs.declared.Step.TheVariants.{Ignored, Format, TableBegins, Row, TableEnds, SentenceBegins, Word, Phrase, SentenceEnds}
 use Rattle.steps.specs.declared.NodeSaid.{NodeSaid}
 use Rattle.judging.specs.Judging.{so_far_by}
 use Rattle.judging.specs.declared.state.Tally.{Tally}
 use Rattle.sentences.specs.Keeping.{taken_by, Stored, stored_by}
 
 module _ (file : List ℕ) (line : Text) (t : Tally) (marks : List ℕ) (stamp : ℕ) where
-  pub taken_ignored : ignored line.bytes ≡ true → Ignored ≡ step_of (taken_by line t marks stamp)
+  pub taken_ignored : ignored line.bytes ≡ true → Ok Ignored ≡ step_of (taken_by line t marks stamp)
   unfolding taken_by
   taken_ignored e = rw e
 
   -- y is the step that the judge of a sentence's lines answered, who was lent seven zeros
-  pub judged_node : ignored line.bytes ≡ false → {y : Step} → y ≡ step_of (among_nodes line (first_column line) 3 (tables_in file (replicate table_count 0)) (so_far_by t marks stamp))
+  pub judged_node : ignored line.bytes ≡ false → {y : Result Step Fault} → y ≡ step_of (among_nodes line (first_column line) 3 (tables_in file (replicate table_count 0)) (so_far_by t marks stamp))
       → y ≡ step_of (taken_by line t marks stamp)
   unfolding taken_by
   judged_node e w = rw e (w ∙ ap (λ (ts : Tables). step_of (among_nodes line (first_column line) 3 ts (so_far_by t marks stamp))) (no_tables_lem file).1)
@@ -43,4 +45,3 @@ others_keep stamp fs (SentenceBegins h) k o p = refl
 others_keep stamp fs (Word n) k o p = absurd (o n refl)
 others_keep stamp fs (Phrase n) k o p = absurd (p n refl)
 others_keep stamp fs SentenceEnds k o p = refl
-others_keep stamp fs (Refused f) k o p = refl

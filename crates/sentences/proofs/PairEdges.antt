@@ -14,11 +14,10 @@ use Rattle.rules.specs.Numbers.{edge_limit, value}
 use Rattle.rules.specs.Pairs.{Pair, as_edge}
 use Rattle.columns.specs.Splices.{splice}
 use Rattle.columns.specs.Listing.{span_of}
-use Rattle.columns.specs.declared.listing.Line.{Line}
 use Rattle.columns.specs.declared.listing.Span.{Span}
 use Rattle.columns.proofs.Splices.{splice_seam, splice_none}
 use Rattle.sentence_sheet.specs.FlatEdges.{edge_width, edge_numbers}
-use Rattle.nodes.specs.NodeLines.{fields_of, phrase_in, FieldAt, Whole}
+use Rattle.nodes.specs.NodeLines.{phrase_in, Whole}
 use Rattle.nodes.proofs.ListedFields.{field_of}
 use Rattle.nodes.proofs.PairWalks.{pair_at, pairs_more, pairs_end}
 use Rattle.sentences.specs.LineEdges.{pair_edges}
@@ -66,11 +65,7 @@ pub putting_start : (fs : List Text) (child from : ℕ) (lent : List ℕ) → le
 putting_start fs child from lent r =
     record { room = r; rest = ap (λ (n : ℕ). splice (edge_width * n) (joined (pair_edges fs child 5)) lent) (add-zero from) }
 
-module _ {file : List ℕ} {line : Line} {places : List ℕ} (count : ℕ) (w : Whole file line places (5 + 2 * count)) {child from j : ℕ} {lent edges : List ℕ}
-    (p : Putting (fields_of file line) child from lent j edges) where
-  abbrev fs : List Text
-  fs = fields_of file line
-
+module _ {fs : List Text} (count : ℕ) (w : Whole fs (5 + 2 * count)) {child from j : ℕ} {lent edges : List ℕ} (p : Putting fs child from lent j edges) where
   abbrev k : ℕ
   k = 5 + 2 * j
 
@@ -81,10 +76,10 @@ module _ {file : List ℕ} {line : Line} {places : List ℕ} (count : ℕ) (w : 
       ∙ p.rest
 
   module _ (h : j < count) where
-    pub label_at : FieldAt file line places k
+    pub label_at : k < length fs
     label_at = field_of w k (omega arith)
 
-    pub parent_at : FieldAt file line places (k + 1)
+    pub parent_at : k + 1 < length fs
     parent_at = field_of w (k + 1) (omega arith)
 
     pub putting_more : from + count ≤ edge_limit → (label : Span) (parent : ℕ) (more : List ℕ) → label ≡ span_of (text fs k) → parent ≡ value (phrase_in (text fs (k + 1)))

@@ -5,7 +5,9 @@ use native.Mathlib.Numerals.{add-one}
 use native.Mathlib.Omega.{arith}
 use mathlib.Core.Path.{◌≡◌, refl, sym, ap, ap₂, ◌∙◌, subst}
 use mathlib.Core.Bool.{true, false}
-use mathlib.Core.Option.{Option, none, some}
+use Rattle.columns.specs.Lines.{line_in, text_in}
+use Rattle.columns.specs.declared.listed.ListedLine.{ListedLine}
+use Rattle.std.specs.Prelude.{Option, None, Some}
 use mathlib.Core.List.{List, [], ◌∷◌, ◌++◌, map}
 use lib.ListN.{length, drop, set, length-set}
 use borrow.Author.Tests.{ne_eqb}
@@ -23,7 +25,10 @@ use Rattle.rules.specs.Reading.{Reading, ended, read}
 use Rattle.rules.specs.SentenceFrom.{first_handed}
 use Rattle.rules.proofs.Cut.{grow}
 use Rattle.lines.specs.LineEnds.{first_line, line_end}
-use Rattle.lines.specs.declared.LineEnd.TheVariants.{At}
+use Rattle.std.specs.Prelude.{Result, Ok}
+use Rattle.lines.specs.NextLines.{line_end_of, ListedBy}
+use Rattle.lines.specs.declared.Unreadable.{Unreadable}
+use Rattle.lines.proofs.FoundLines.{told_end, told_start}
 use Rattle.lines.proofs.Lines.{at_below, at_place, at_take}
 use Rattle.lines.proofs.LineSteps.{line_read, line_here, taken_step}
 use Rattle.columns.specs.Listing as listing
@@ -52,14 +57,25 @@ none_listed [] m e = refl
 none_listed (p ∷ ps) m e = cc
 
 -- what is known where a line is listed
-pub record LineHere (file : List ℕ) (sought : Option Sentence) (handed at : ℕ) (k : Stored) (e : ℕ) (l : Line) (places : List ℕ) : Type 0 where
+pub record LineHere (file : List ℕ) (sought : Option Sentence) (handed at : ℕ) (k : Stored) (e : ℕ) (l : ListedLine) : Type 0 where
   pub going : Gathering file sought handed at k
   pub short : length file ≤ file_limit
-  pub ends : line_end file at ≡ At e
-  pub is : listing.line_of file l ≡ listing.text_between file at e
-  pub listed : listing.Listed file l places
+  pub ends : line_end file at ≡ Ok e
+  pub is : text_in l ≡ listing.text_between file at e
 
-module _ {file : List ℕ} {sought : Option Sentence} {handed at : ℕ} {k : Stored} {e : ℕ} {l : Line} {places : List ℕ} (t : LineHere file sought handed at k e l places) where
+pub here_found : {file : List ℕ} {sought : Option Sentence} {handed at : ℕ} {k : Stored} → Gathering file sought handed at k → length file ≤ file_limit
+    → {found : Result Line Unreadable} (places : List ℕ) → (line_end_of found ≡ line_end file at) × ListedBy file at found places
+    → {x : Line} → found ≡ Ok x → (l : ListedLine) → (l.file.now ≡ file) × (line_in l ≡ x) → LineHere file sought handed at k l.end l
+here_found {file} {sought} {handed} {at} g m {found} places told {x} is l so =
+    let begins : l.start ≡ at = ap (λ (y : Line). y.start) so.1 ∙ told_start file at found places told x is in
+    record {
+      going = g;
+      short = m;
+      ends = told_end file at found places told x is ∙ ap (λ (y : Line). Ok y.end) (sym so.1);
+      is = ap₂ (λ (bs : List ℕ) (n : ℕ). listing.text_between bs n l.end) so.0 begins;
+    }
+
+module _ {file : List ℕ} {sought : Option Sentence} {handed at : ℕ} {k : Stored} {e : ℕ} {l : ListedLine} (t : LineHere file sought handed at k e l) where
   abbrev g : Gathering file sought handed at k
   g = t.going
 
@@ -102,20 +118,20 @@ module _ {file : List ℕ} {sought : Option Sentence} {handed at : ℕ} {k : Sto
   rest_of s⁺ w = ap (λ (m : ℕ). first (read (reading_at m s⁺) later)) (sym behind) ∙ sym (ap first w) ∙ g.rest
 
   -- or it is handed out
-  pub found_here : taken ph [] line ≡ granted sentence_ends → sought ≡ some s
+  pub found_here : taken ph [] line ≡ granted sentence_ends → sought ≡ Some s
   unfolding after
   found_here h =
       sym g.rest ∙ ap first (answered (granted sentence_ends) h) ∙ ap first_handed (grow (ended (line_read r bytes_here) (hand bare s)) later).handed
 
   -- or the line is refused
-  pub refused_here : (b : Rule) → taken ph [] line ≡ refused b → sought ≡ none
+  pub refused_here : (b : Rule) → taken ph [] line ≡ refused b → sought ≡ None
   refused_here b h = none_refused file sought handed at k g bytes_here later b (answered (refused b) h)
 
   inside : e + 1 ≤ length file
   inside = omega (arith, at_below file at e t.ends)
 
   abbrev fs : List Text
-  fs = fields_of file l
+  fs = fields_of l
 
   pub ignored_on : taken ph [] line ≡ granted ignored_line → Gathering file sought handed (e + 1) k
   unfolding after
@@ -138,8 +154,8 @@ module _ {file : List ℕ} {sought : Option Sentence} {handed at : ℕ} {k : Sto
 
   -- ---- one node more
 
-  module _ (n : Node) (x : NodeHere file l places n) where
-    fits : n.number < node_room → edges_of s + length n.secondary ≤ edge_limit → NodeStorable file l places (node_said n) k.tally k.sheet k.edges
+  module _ (n : Node) (x : NodeHere fs n) where
+    fits : n.number < node_room → edges_of s + length n.secondary ≤ edge_limit → NodeStorable fs (node_said n) k.tally k.sheet k.edges
     fits low few =
         record { whole = x.whole; number = low; few = rw g.tally_is few; sheet_size = g.sheet_size; edges_size = g.edges_size }
 
@@ -152,19 +168,19 @@ module _ {file : List ℕ} {sought : Option Sentence} {handed at : ℕ} {k : Sto
         ∙ ap₂ (λ (es : List Edge) (l : List ℕ). splice (edge_width * edges_of s) (joined (map (edge_numbers n.number) es)) l) x.secondary g.edges_are
         ∙ flat_node s n
 
-  module _ (n : Node) (h : taken ph [] line ≡ granted (word_line n)) (granted_so : word_of 3 no_tables (so_far s) (listing.line_of file l) ≡ granted n) where
+  module _ (n : Node) (h : taken ph [] line ≡ granted (word_line n)) (granted_so : word_of 3 no_tables (so_far s) (text_in l) ≡ granted n) where
     abbrev y : Step
     y = steps.Word (node_said n)
 
     its_number : n.number ≡ length s.words
-    its_number = (word_here t.listed s n granted_so).1
+    its_number = (word_here l s n granted_so).1
 
     low : n.number < node_room
     low = omega (arith, its_number, g.known.words)
 
-    pub word_applies : Storable file l places y k
+    pub word_applies : Storable fs y k
     word_applies = (
-      fits n (word_here t.listed s n granted_so).0 low (word_granted 3 no_tables (so_far s) (listing.line_of file l) n granted_so).few,
+      fits n (word_here l s n granted_so).0 low (word_granted 3 no_tables (so_far s) (text_in l) n granted_so).few,
       rw g.tally_is (omega (arith, g.known.words)),
     )
 
@@ -174,7 +190,7 @@ module _ {file : List ℕ} {sought : Option Sentence} {handed at : ℕ} {k : Sto
         listed_apart s.words (n ∷ []) m (g.above m (omega arith)) (rw (ne_eqb m n.number (λ z. omega (arith, z, its_number))))
 
     words_first : empty s.phrases ≡ true
-    words_first = (word_granted 3 no_tables (so_far s) (listing.line_of file l) n granted_so).first
+    words_first = (word_granted 3 no_tables (so_far s) (text_in l) n granted_so).first
 
     new_word : listed (nodes s) n.number ≡ false
     new_word = listed_apart s.words s.phrases n.number (g.above n.number (omega (arith, its_number))) (none_listed s.phrases n.number words_first)
@@ -186,7 +202,7 @@ module _ {file : List ℕ} {sought : Option Sentence} {handed at : ℕ} {k : Sto
           sentence = with_word s n;
           in_file = inside;
           rest = rest_of (with_word s n) (answered (granted (word_line n)) h);
-          known = kept_with_word file [] 3 no_tables s g.known (listing.line_of file l) n granted_so;
+          known = kept_with_word file [] 3 no_tables s g.known (text_in l) n granted_so;
           above = above⁺;
           phrases = omega (arith, g.phrases, behind);
           telling = subst (λ (ms : List ℕ). Telling ms handed (with_word s n)) (sym (ap (λ (z : Stored). z.marks) is)) (record { stamped = g.telling.stamped; tell = g.telling.tell });
@@ -194,25 +210,25 @@ module _ {file : List ℕ} {sought : Option Sentence} {handed at : ℕ} {k : Sto
           tally_is =
               ap (λ (z : Stored). z.tally) is ∙ ap (λ (y : Tally). states.counted_word y (node_said n)) g.tally_is ∙ tally_with_word s n words_first;
           sheet_is =
-              ap (λ (z : Stored). z.sheet) is ∙ with_record_lem n (word_here t.listed s n granted_so).0 low new_word
+              ap (λ (z : Stored). z.sheet) is ∙ with_record_lem n (word_here l s n granted_so).0 low new_word
               ∙ ap (open_sentence s.heading) (sym (nodes_with_word s n words_first));
           sheet_size = a ∙ g.sheet_size;
           edges_are =
-              ap (λ (z : Stored). z.edges) is ∙ with_edges_lem n (word_here t.listed s n granted_so).0
+              ap (λ (z : Stored). z.edges) is ∙ with_edges_lem n (word_here l s n granted_so).0
               ∙ ap (λ (ns : List Node). flat_edges (edges_among ns)) (sym (nodes_with_word s n words_first));
           edges_size = b ∙ g.edges_size;
         }
 
-  module _ (n : Node) (h : taken ph [] line ≡ granted (phrase_line n)) (granted_so : phrase_of 3 no_tables (so_far s) (listing.line_of file l) ≡ granted n) where
+  module _ (n : Node) (h : taken ph [] line ≡ granted (phrase_line n)) (granted_so : phrase_of 3 no_tables (so_far s) (text_in l) ≡ granted n) where
     abbrev z : Step
     z = steps.Phrase (node_said n)
 
     told : PhraseGranted (so_far s) n
-    told = phrase_granted 3 no_tables (so_far s) (listing.line_of file l) n granted_so
+    told = phrase_granted 3 no_tables (so_far s) (text_in l) n granted_so
 
-    pub phrase_applies : Storable file l places z k
+    pub phrase_applies : Storable fs z k
     phrase_applies = (
-      fits n (phrase_here t.listed s n granted_so) (omega (arith, told.high)) told.few,
+      fits n (phrase_here l s n granted_so) (omega (arith, told.high)) told.few,
       rw g.tally_is (omega (arith, g.phrases, g.in_file, t.short)),
       told.low,
     )
@@ -227,7 +243,7 @@ module _ {file : List ℕ} {sought : Option Sentence} {handed at : ℕ} {k : Sto
           sentence = with_phrase s n;
           in_file = inside;
           rest = rest_of (with_phrase s n) (answered (granted (phrase_line n)) h);
-          known = kept_with_phrase file [] 3 no_tables s g.known (listing.line_of file l) n granted_so;
+          known = kept_with_phrase file [] 3 no_tables s g.known (text_in l) n granted_so;
           above = g.above;
           phrases = omega (arith, g.phrases, behind, one_more s.phrases n);
           telling =
@@ -237,11 +253,11 @@ module _ {file : List ℕ} {sought : Option Sentence} {handed at : ℕ} {k : Sto
           tally_is =
               ap (λ (z : Stored). z.tally) is ∙ ap (λ (y : Tally). states.counted_phrase y (node_said n)) g.tally_is ∙ tally_with_phrase s n told.low;
           sheet_is =
-              ap (λ (z : Stored). z.sheet) is ∙ with_record_lem n (phrase_here t.listed s n granted_so) (omega (arith, told.high)) new_phrase
+              ap (λ (z : Stored). z.sheet) is ∙ with_record_lem n (phrase_here l s n granted_so) (omega (arith, told.high)) new_phrase
               ∙ ap (open_sentence s.heading) (sym (nodes_with_phrase s n));
           sheet_size = a ∙ g.sheet_size;
           edges_are =
-              ap (λ (z : Stored). z.edges) is ∙ with_edges_lem n (phrase_here t.listed s n granted_so)
+              ap (λ (z : Stored). z.edges) is ∙ with_edges_lem n (phrase_here l s n granted_so)
               ∙ ap (λ (ns : List Node). flat_edges (edges_among ns)) (sym (nodes_with_phrase s n));
           edges_size = b ∙ g.edges_size;
         }

@@ -1,6 +1,5 @@
 -- Where a sentence begins: the heading that stands at a place, as it is written, and what is kept of it.
-use Rattle.std.specs.Prelude.{ℕ, suc, ◌+◌, ◌≤◌, ◌≡◌, List, length, drop}
-use Rattle.std.proofs.Math.Option.{Option, none, some}
+use Rattle.std.specs.Prelude.{ℕ, suc, ◌+◌, ◌≤◌, ◌≡◌, List, length, drop, Option, None, Some}
 use Rattle.rules.specs.Numbers.{sentence_number}
 use Rattle.rules.specs.Rules.{Verdict, refused, granted}
 use Rattle.rules.specs.Sentences.{Heading, Sentence}
@@ -10,7 +9,6 @@ use Rattle.sentence_sheet.specs.OpenSentences.{heading_numbers}
 use Rattle.judging.specs.States.{first_tally}
 use Rattle.judging.specs.declared.state.Tally.{Tally}
 use Rattle.sentences.specs.declared.beginning.Begun.{Begun}
-use Rattle.sentences.specs.declared.beginning.Begun.TheVariants.{Behind, Nowhere}
 
 -- the sentence whose first line starts at a place
 abbrev pub begun_at : List ℕ → ℕ → Option Sentence
@@ -22,12 +20,12 @@ pub record FoundHeading : Type 0 where
   pub next : ℕ
 
 abbrev pub opened_if : ℕ → Verdict Heading → Option FoundHeading
-opened_if next (refused r) = none
-opened_if next (granted h) = some (record { heading = h; next = next })
+opened_if next (refused r) = None
+opened_if next (granted h) = Some (record { heading = h; next = next })
 
 abbrev pub opened_by : ℕ → Option (List ℕ) → Option FoundHeading
-opened_by place none = none
-opened_by place (some l) = opened_if (suc (place + length l)) (heading_alone (record { start = place; bytes = l }))
+opened_by place None = None
+opened_by place (Some l) = opened_if (suc (place + length l)) (heading_alone (record { start = place; bytes = l }))
 
 -- the heading that stands at a place
 abbrev pub opened_at : List ℕ → ℕ → Option FoundHeading
@@ -35,12 +33,12 @@ opened_at file place = opened_by place (ended_line (drop place file))
 
 pub record Headed (file : List ℕ) (place next : ℕ) (t : Tally) (lent sheet : List ℕ) : Type 0 where
   pub heading : Heading
-  pub opened : opened_at file place ≡ some (record { heading = heading; next = next })
+  pub opened : opened_at file place ≡ Some (record { heading = heading; next = next })
   pub in_file : next ≤ length file
   pub number : heading.number ≤ sentence_number.highest
   pub tally_is : t ≡ first_tally place heading.number
   pub sheet_is : sheet ≡ splice 0 (heading_numbers heading) lent
 
-abbrev pub BegunAs : List ℕ → ℕ → Begun → List ℕ → List ℕ → Type 0
-BegunAs file place (Behind next t) lent sheet = Headed file place next t lent sheet
-BegunAs file place Nowhere lent sheet = (opened_at file place ≡ none) × (sheet ≡ lent)
+abbrev pub BegunAs : List ℕ → ℕ → Option Begun → List ℕ → List ℕ → Type 0
+BegunAs file place (Some b) lent sheet = Headed file place b.next b.tally lent sheet
+BegunAs file place None lent sheet = (opened_at file place ≡ None) × (sheet ≡ lent)

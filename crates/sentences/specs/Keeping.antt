@@ -9,13 +9,12 @@ use Rattle.rules.specs.Tables.{no_tables}
 use Rattle.rules.specs.Lines.{Taking}
 use Rattle.rules.specs.Sheets.{node_room, field_place, sentence_sheet_size}
 use Rattle.columns.specs.Splices.{splice}
-use Rattle.columns.specs.declared.listing.Line.{Line}
 use Rattle.sentence_sheet.specs.FlatEdges.{edge_width}
 use Rattle.sentence_sheet.specs.NodeRecords.{record_numbers}
 use Rattle.sentence_sheet.specs.declared.NodeRecord.{NodeRecord}
 use Rattle.steps.specs.declared.NodeSaid.{NodeSaid}
 use Rattle.steps.specs.declared.Step.{Step}
-use Rattle.steps.specs.declared.Step.TheVariants.{Ignored, Format, TableBegins, Row, TableEnds, SentenceBegins, Word, Phrase, SentenceEnds, Refused}
+use Rattle.steps.specs.declared.Step.TheVariants.{Ignored, Format, TableBegins, Row, TableEnds, SentenceBegins, Word, Phrase, SentenceEnds}
 use Rattle.nodes.specs.NodeLines.{Whole}
 use Rattle.judging.specs.States.{counted_word, counted_phrase}
 use Rattle.judging.specs.Judging.{so_far_by}
@@ -79,18 +78,17 @@ stored_by stamp fs (Word n) k =
 stored_by stamp fs (Phrase n) k =
     stored (counted_phrase k.tally n) (with_record n k.sheet) (with_edges fs n k.tally k.edges) (set k.marks (n.number - 500) stamp)
 stored_by stamp fs SentenceEnds k = k
-stored_by stamp fs (Refused f) k = k
 
--- ---- what a step needs
+-- ---- what a step needs; the fields are the line's
 
-pub record NodeStorable (file : List ℕ) (line : Line) (places : List ℕ) (n : NodeSaid) (t : Tally) (sheet edges : List ℕ) : Type 0 where
-  pub whole : Whole file line places (5 + 2 * n.edges)
+pub record NodeStorable (fs : List Text) (n : NodeSaid) (t : Tally) (sheet edges : List ℕ) : Type 0 where
+  pub whole : Whole fs (5 + 2 * n.edges)
   pub number : n.number < node_room
   pub few : t.edges + n.edges ≤ edge_limit
   pub sheet_size : length sheet ≡ sentence_sheet_size
   pub edges_size : length edges ≡ edge_limit * edge_width
 
-module _ (file : List ℕ) (line : Line) (places : List ℕ) where
+module _ (fs : List Text) where
   abbrev pub Storable : Step → Stored → Type 0
   Storable Ignored k = Unit {0}
   Storable (Format n) k = Unit {0}
@@ -98,8 +96,7 @@ module _ (file : List ℕ) (line : Line) (places : List ℕ) where
   Storable (Row r) k = Unit {0}
   Storable TableEnds k = Unit {0}
   Storable (SentenceBegins h) k = Unit {0}
-  Storable (Word n) k = NodeStorable file line places n k.tally k.sheet k.edges × (k.tally.words ≤ file_limit)
+  Storable (Word n) k = NodeStorable fs n k.tally k.sheet k.edges × (k.tally.words ≤ file_limit)
   Storable (Phrase n) k =
-      NodeStorable file line places n k.tally k.sheet k.edges × (k.tally.phrases ≤ file_limit) × (500 ≤ n.number)
+      NodeStorable fs n k.tally k.sheet k.edges × (k.tally.phrases ≤ file_limit) × (500 ≤ n.number)
   Storable SentenceEnds k = Unit {0}
-  Storable (Refused f) k = Unit {0}

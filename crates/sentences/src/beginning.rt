@@ -1,26 +1,23 @@
 // The first line of the sentence: #BOS, read as it is written.
 ghost use Rattle.std.specs.Prelude.{◌≡◌, ◌≤◌, length};
-ghost use Rattle.rules.specs.Bytes.{class_table};
 ghost use Rattle.rules.specs.Numbers.{file_limit};
 ghost use Rattle.rules.specs.Sheets.{sentence_sheet_size};
 ghost use Rattle.rules.specs.SentenceFrom.{starts_line};
 ghost use Rattle.sentences.specs.Beginnings.{BegunAs};
 
+use columns::listed::ListedLine;
 use columns::listing;
 use columns::listing::Places;
 use judging::state;
 use judging::state::Tally;
-use lines::LineEnd;
 use steps::Step;
 use texts::same_text;
 
-const NEWLINE: u8 = 10;
-
 // The place behind the heading's line, and the counts of a sentence without nodes.
 #[derive(Clone, Copy)]
-pub enum Begun {
-    Behind(usize, Tally),
-    Nowhere,
+pub struct Begun {
+    pub next: usize,
+    pub tally: Tally,
 }
 
 pub fn starts_line(file: &[u8], place: usize) -> bool
@@ -32,31 +29,26 @@ pub fn starts_line(file: &[u8], place: usize) -> bool
     if file.len() < place {
         return false;
     }
-    file[place - 1] == NEWLINE
+    file[place - 1] == b'\n'
 }
 
 // The heading goes into the sheet.
-pub fn begin(
-    file: &[u8],
-    place: usize,
-    sheet: &mut [u32],
-    places: &mut Places,
-    classes: &[u8; 256],
-) -> Begun
-    requires { (classes.now ≡ class_table) × (length file.now ≤ file_limit) × (place ≤ length file.now) × (length sheet.old ≡ sentence_sheet_size) }
+pub fn begin(file: &[u8], place: usize, sheet: &mut [u32], places: &mut Places) -> Option<Begun>
+    requires { (length file.now ≤ file_limit) × (place ≤ length file.now) × (length sheet.old ≡ sentence_sheet_size) }
     ensures { BegunAs file.now place result sheet.old sheet.new }
 {
-    let found = lines::line_end(file, place, classes);
-    let LineEnd::At(end) = found else {
-        return Begun::Nowhere;
+    let Ok(end) = lines::line_end(file, place) else {
+        return None;
     };
-    let line = listing::read_line(file, place, end, classes, places);
-    if !same_text(listing::first_column(file, line, places), b"#BOS") {
-        return Begun::Nowhere;
+    let line = ListedLine::new(file, listing::read_line(file, place, end, places), places);
+    if !same_text(line.first_column(), b"#BOS") {
+        return None;
     }
-    let step = headings::heading_alone(file, line, places, classes);
+    let Ok(step) = headings::heading_alone(&line) else {
+        return None;
+    };
     let Step::SentenceBegins(h) = step else {
-        return Begun::Nowhere;
+        return None;
     };
     let comment = h.comment;
     sentence_sheet::put_heading(
@@ -68,5 +60,9 @@ pub fn begin(
         comment.start,
         comment.len,
     );
-    Begun::Behind(end + 1, state::first_tally(place as u32, h.number))
+    let tally = state::first_tally(place as u32, h.number);
+    Some(Begun {
+        next: end + 1,
+        tally,
+    })
 }

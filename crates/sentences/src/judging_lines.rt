@@ -1,26 +1,25 @@
 // What a line behind the heading is taken for. There are no tables. An ordinary line takes the quick way.
-ghost use Rattle.std.specs.Prelude.{◌≡◌, List, ℕ, ◌+◌, ◌≤◌};
-ghost use Rattle.rules.specs.Bytes.{class_table};
-ghost use Rattle.columns.specs.Listing.{line_of, columns_of, Listed};
+ghost use Rattle.std.specs.Prelude.{◌≡◌, ◌+◌, ◌≤◌};
+ghost use Rattle.columns.specs.Lines.{text_in, columns_in};
 ghost use Rattle.steps.specs.Steps.{step_of};
 ghost use Rattle.nodes.specs.PlainNodes.{plain_said};
 ghost use Rattle.judging.specs.Judging.{Countable};
 ghost use Rattle.sentences.specs.Keeping.{taken_by};
 
-use columns::listing;
-use columns::listing::{Line, Places, Span};
+use columns::listed::ListedLine;
+use columns::listing::{ORDINARY, Span};
 use judging::plain::{Plain, plain_node};
 use judging::state::{MARKS, Tally};
-use steps::{NodeSaid, Step};
+use steps::{Fault, NodeSaid, Step};
 
 // What an ordinary line says of its node: no secondary edges, no comment.
-fn plain_said(line: Line, places: &Places, word: Span, number: u32, parent: u32) -> NodeSaid
-    requires { (4 ≤ line.columns) × ((file : List ℕ) × Listed file line places.now) }
-    ensures { (file : List ℕ) → Listed file line places.now → result ≡ plain_said (columns_of file line) word number parent }
+fn plain_said(line: &ListedLine, word: Span, number: u32, parent: u32) -> NodeSaid
+    requires { 4 ≤ line.now.columns }
+    ensures { result ≡ plain_said (columns_in line.now) word number parent }
 {
-    let tag = listing::column_span(line, places, 1);
-    let morphology = listing::column_span(line, places, 2);
-    let edge = listing::column_span(line, places, 3);
+    let tag = line.column_span(1);
+    let morphology = line.column_span(2);
+    let edge = line.column_span(3);
     NodeSaid {
         word,
         tag,
@@ -36,56 +35,47 @@ fn plain_said(line: Line, places: &Places, word: Span, number: u32, parent: u32)
 
 // Any line, by all the rules.
 fn judge_fully(
-    file: &[u8],
-    line: Line,
-    places: &Places,
+    line: &ListedLine,
     t: Tally,
     handed: u32,
     hints: &[u8; table_sheet::HINTS],
     marks: &[u32; MARKS],
-    classes: &[u8; 256],
-) -> Step
-    requires { (classes.now ≡ class_table) × Listed file.now line places.now × Countable t handed }
-    ensures { result ≡ step_of (taken_by (line_of file.now line) t marks.now (handed + 1)) }
+) -> Result<Step, Fault>
+    requires { Countable t handed }
+    ensures { result ≡ step_of (taken_by (text_in line.now) t marks.now (handed + 1)) }
 {
-    if listing::is_ignored(file, line) {
-        return Step::Ignored;
+    if line.is_ignored() {
+        return Ok(Step::Ignored);
     }
-    let first = listing::first_column(file, line, places);
+    let first = line.first_column();
     let tables = [0u32; table_sheet::TABLE_COUNT];
-    judging::among_nodes(
-        file, line, places, first, t, handed, &tables, hints, marks, classes,
-    )
+    judging::among_nodes(line, first, t, handed, &tables, hints, marks)
 }
 
 // An ordinary line has five columns.
 pub fn judge(
-    file: &[u8],
-    line: Line,
-    places: &Places,
+    line: &ListedLine,
     t: Tally,
     handed: u32,
     hints: &[u8; table_sheet::HINTS],
     marks: &[u32; MARKS],
-    classes: &[u8; 256],
-) -> Step
-    requires { (classes.now ≡ class_table) × Listed file.now line places.now × Countable t handed }
-    ensures { result ≡ step_of (taken_by (line_of file.now line) t marks.now (handed + 1)) }
+) -> Result<Step, Fault>
+    requires { Countable t handed }
+    ensures { result ≡ step_of (taken_by (text_in line.now) t marks.now (handed + 1)) }
 {
-    if line.columns != listing::ORDINARY {
-        return judge_fully(file, line, places, t, handed, hints, marks, classes);
+    if line.columns != ORDINARY {
+        return judge_fully(line, t, handed, hints, marks);
     }
     let tables = [0u32; table_sheet::TABLE_COUNT];
-    let plain = plain_node(file, line, places, t, handed, &tables, hints, marks);
-    match plain {
-        Plain::Word(parent) => {
-            let word = listing::column_span(line, places, 0);
-            Step::Word(plain_said(line, places, word, t.words, parent))
+    match plain_node(line, t, handed, &tables, hints, marks) {
+        Some(Plain::Word(parent)) => {
+            let word = line.column_span(0);
+            Ok(Step::Word(plain_said(line, word, t.words, parent)))
         }
-        Plain::Phrase(number, parent) => {
+        Some(Plain::Phrase(number, parent)) => {
             let word = Span { start: 0, len: 0 };
-            Step::Phrase(plain_said(line, places, word, number, parent))
+            Ok(Step::Phrase(plain_said(line, word, number, parent)))
         }
-        Plain::Other => judge_fully(file, line, places, t, handed, hints, marks, classes),
+        None => judge_fully(line, t, handed, hints, marks),
     }
 }

@@ -1,12 +1,11 @@
 // What the step of a line does to all that is kept of a sentence: its counts, its sheet, its edges, the marks of its phrases.
-ghost use Rattle.std.specs.Prelude.{◌≡◌, ◌+◌, ◌-◌, ◌≤◌, set};
-ghost use Rattle.rules.specs.Bytes.{class_table};
+ghost use Rattle.std.specs.Prelude.{◌≡◌, ◌+◌, ◌-◌, ◌≤◌};
 ghost use Rattle.rules.specs.Numbers.{file_limit};
 ghost use Rattle.nodes.specs.NodeLines.{fields_of};
 ghost use Rattle.sentences.specs.Keeping.{stored, record_said, with_record, with_edges, NodeStorable, Storable, stored_by};
 
 use crate::pairs::put_pairs;
-use columns::listing::{Line, Places};
+use columns::listed::ListedLine;
 use judging::state;
 use judging::state::{MARKS, Tally};
 use sentence_sheet::NodeRecord;
@@ -35,56 +34,36 @@ fn record_said(node: NodeSaid) -> NodeRecord
     }
 }
 
-fn mark(number: u32, stamp: u32, marks: &mut [u32; MARKS])
-    requires { (500 ≤ number) × (number ≤ 999) }
-    ensures { marks.new ≡ set marks.old (number - 500) stamp }
-{
-    let place = (number - 500) as usize;
-    marks[place] = stamp;
-}
-
 // The node's record stands at its number, its secondary edges behind those that `t` counts.
-fn put_node(
-    file: &[u8],
-    line: Line,
-    places: &Places,
-    node: NodeSaid,
-    t: Tally,
-    sheet: &mut [u32],
-    edges: &mut [u32],
-    classes: &[u8; 256],
-)
-    requires { (classes.now ≡ class_table) × NodeStorable file.now line places.now node t sheet.old edges.old }
-    ensures { (sheet.new ≡ with_record node sheet.old) × (edges.new ≡ with_edges (fields_of file.now line) node t edges.old) }
+fn put_node(line: &ListedLine, node: NodeSaid, t: Tally, sheet: &mut [u32], edges: &mut [u32])
+    requires { NodeStorable (fields_of line.now) node t sheet.old edges.old }
+    ensures { (sheet.new ≡ with_record node sheet.old) × (edges.new ≡ with_edges (fields_of line.now) node t edges.old) }
 {
     sentence_sheet::put_node(sheet, node.number as usize, record_said(node));
-    put_pairs(file, line, places, node, t.edges, edges, classes);
+    put_pairs(line, node, t.edges, edges);
 }
 
 // A phrase is marked with a stamp, one more than the sentences handed out in front.
 pub fn keep(
     step: Step,
-    file: &[u8],
-    line: Line,
-    places: &Places,
+    line: &ListedLine,
     t: Tally,
     handed: u32,
     sheet: &mut [u32],
     edges: &mut [u32],
     marks: &mut [u32; MARKS],
-    classes: &[u8; 256],
 ) -> Tally
-    requires { (classes.now ≡ class_table) × (handed ≤ file_limit) × Storable file.now line places.now step (stored t sheet.old edges.old marks.old) }
-    ensures { stored result sheet.new edges.new marks.new ≡ stored_by (handed + 1) (fields_of file.now line) step (stored t sheet.old edges.old marks.old) }
+    requires { (handed ≤ file_limit) × Storable (fields_of line.now) step (stored t sheet.old edges.old marks.old) }
+    ensures { stored result sheet.new edges.new marks.new ≡ stored_by (handed + 1) (fields_of line.now) step (stored t sheet.old edges.old marks.old) }
 {
     match step {
         Step::Word(node) => {
-            put_node(file, line, places, node, t, sheet, edges, classes);
+            put_node(line, node, t, sheet, edges);
             state::with_word(t, node)
         }
         Step::Phrase(node) => {
-            put_node(file, line, places, node, t, sheet, edges, classes);
-            mark(node.number, handed + 1, marks);
+            put_node(line, node, t, sheet, edges);
+            state::mark(node.number, handed + 1, marks);
             state::with_phrase(t, node)
         }
         _ => t,

@@ -8,7 +8,6 @@ mod keeping;
 mod pairs;
 
 ghost use Rattle.std.specs.Prelude.{◌≡◌, ◌+◌, ◌*◌, ◌≤◌, length, replicate};
-ghost use Rattle.rules.specs.Bytes.{class_table};
 ghost use Rattle.rules.specs.Numbers.{file_limit, edge_limit};
 ghost use Rattle.rules.specs.Sheets.{sentence_sheet_size};
 ghost use Rattle.rules.specs.SentenceFrom.{sentence_from};
@@ -17,10 +16,9 @@ ghost use Rattle.sentences.specs.Keeping.{MarkedUpTo};
 ghost use Rattle.sentences.specs.Beginnings.{begun_at, Headed};
 ghost use Rattle.sentences.specs.SentenceRead.{Gathered, SentenceRead};
 
-use beginning::Begun;
+use columns::listed::ListedLine;
 use columns::listing::Places;
 use judging::state::{MARKS, Tally};
-use lines::NextLine;
 use steps::Step;
 
 // The lines behind the heading, up to #EOS; false if one of them is refused, or if there is none.
@@ -34,29 +32,25 @@ fn take_nodes(
     marks: &mut [u32; MARKS],
     places: &mut Places,
     hints: &[u8; table_sheet::HINTS],
-    classes: &[u8; 256],
 ) -> bool
-    requires { (classes.now ≡ class_table) × (length file.now ≤ file_limit) × Headed file.now first.start from first (replicate sentence_sheet_size 0) sheet.old × (length sheet.old ≡ sentence_sheet_size) × (edges.old ≡ replicate (edge_limit * edge_width) 0) × (handed ≤ file_limit) × MarkedUpTo handed marks.old }
+    requires { (length file.now ≤ file_limit) × Headed file.now first.start from first (replicate sentence_sheet_size 0) sheet.old × (length sheet.old ≡ sentence_sheet_size) × (edges.old ≡ replicate (edge_limit * edge_width) 0) × (handed ≤ file_limit) × MarkedUpTo handed marks.old }
     ensures { Gathered (begun_at file.now first.start) result sheet.new edges.new × MarkedUpTo (handed + 1) marks.new }
 {
     let mut t = first;
     let mut at = from;
     while at < file.len() {
-        let found = lines::next_of_sentence(file, at, classes, places);
-        let NextLine::Line(line) = found else {
+        let Ok(found) = lines::next_of_sentence(file, at, places) else {
             return false;
         };
-        let step = judging_lines::judge(file, line, places, t, handed, hints, marks, classes);
-        if let Step::Refused(_) = step {
+        let line = ListedLine::new(file, found, places);
+        let Ok(step) = judging_lines::judge(&line, t, handed, hints, marks) else {
             return false;
-        }
+        };
         if let Step::SentenceEnds = step {
             sentence_sheet::put_counts(sheet, t.words, t.phrases, t.edges);
             return true;
         }
-        t = keeping::keep(
-            step, file, line, places, t, handed, sheet, edges, marks, classes,
-        );
+        t = keeping::keep(step, &line, t, handed, sheet, edges, marks);
         at = line.end + 1;
     }
     false
@@ -74,22 +68,27 @@ pub fn read_into(
     marks: &mut [u32; MARKS],
     places: &mut Places,
     hints: &[u8; table_sheet::HINTS],
-    classes: &[u8; 256],
 ) -> bool
-    requires { (classes.now ≡ class_table) × (length file.now ≤ file_limit) × (sheet.old ≡ replicate sentence_sheet_size 0) × (edges.old ≡ replicate (edge_limit * edge_width) 0) × (handed ≤ file_limit) × MarkedUpTo handed marks.old }
+    requires { (length file.now ≤ file_limit) × (sheet.old ≡ replicate sentence_sheet_size 0) × (edges.old ≡ replicate (edge_limit * edge_width) 0) × (handed ≤ file_limit) × MarkedUpTo handed marks.old }
     ensures { SentenceRead (sentence_from file.now place) result sheet.new edges.new × MarkedUpTo (handed + 1) marks.new }
 {
     if !beginning::starts_line(file, place) {
         return false;
     }
-    let begun = beginning::begin(file, place, sheet, places, classes);
-    let Begun::Behind(next, tally) = begun else {
+    let Some(begun) = beginning::begin(file, place, sheet, places) else {
         return false;
     };
-    let whole = take_nodes(
-        file, next, tally, handed, sheet, edges, marks, places, hints, classes,
-    );
-    if whole {
+    if take_nodes(
+        file,
+        begun.next,
+        begun.tally,
+        handed,
+        sheet,
+        edges,
+        marks,
+        places,
+        hints,
+    ) {
         return true;
     }
     table_sheet::clear(sheet);
@@ -107,7 +106,6 @@ pub fn read_sentence(file: &[u8], place: usize, sheet: &mut [u32], edges: &mut [
     let mut marks = [0u32; MARKS];
     let mut places = [0u32; 4096];
     let hints = [0u8; table_sheet::HINTS];
-    let classes = classes::byte_classes();
     read_into(
         file,
         place,
@@ -117,6 +115,5 @@ pub fn read_sentence(file: &[u8], place: usize, sheet: &mut [u32], edges: &mut [
         &mut marks,
         &mut places,
         &hints,
-        &classes,
     )
 }

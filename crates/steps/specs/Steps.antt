@@ -1,5 +1,5 @@
 -- A line's taking (rules/Lines) as a step: the numbers and places of what the line says, or the rule that refuses it.
-use Rattle.std.specs.Prelude.{length}
+use Rattle.std.specs.Prelude.{length, Result, Ok, Err}
 use Rattle.rules.specs.Rules.{Verdict, refused, granted}
 use Rattle.rules.specs.Tables as rules
 use Rattle.rules.specs.Sentences.{Node, Heading}
@@ -10,6 +10,7 @@ use Rattle.steps.specs.Faults.{broken_by}
 use Rattle.steps.specs.declared.RowSaid.{RowSaid}
 use Rattle.steps.specs.declared.HeadingSaid.{HeadingSaid}
 use Rattle.steps.specs.declared.NodeSaid.{NodeSaid}
+use Rattle.steps.specs.declared.Fault.{Fault}
 use Rattle.steps.specs.declared.Step.{Step}
 use Rattle.steps.specs.declared.Step.TheVariants as steps
 
@@ -43,6 +44,6 @@ step_for (word_line n) = steps.Word (node_said n)
 step_for (phrase_line n) = steps.Phrase (node_said n)
 step_for sentence_ends = steps.SentenceEnds
 
-abbrev pub step_of : Verdict Taking → Step
-step_of (refused r) = steps.Refused (broken_by r)
-step_of (granted t) = step_for t
+abbrev pub step_of : Verdict Taking → Result Step Fault
+step_of (refused r) = Err (broken_by r)
+step_of (granted t) = Ok (step_for t)

@@ -1,18 +1,17 @@
-// What a line is taken for, with all that it says, or the fault that refuses it. Every judge of a line answers a step.
+// What a line is taken for, with all that it says, or the fault that refuses it: every judge of a line answers a step or a fault.
 #![tactic(auto)]
 
 pub mod refusals;
 
-ghost use Rattle.std.specs.Prelude.{◌≡◌, List, ℕ, ◌≤◌, ◌<◌};
-ghost use Rattle.rules.specs.Numbers.{file_limit};
+ghost use Rattle.std.specs.Prelude.{◌≡◌, ◌<◌};
 ghost use Rattle.rules.specs.Columns.{written};
-ghost use Rattle.columns.specs.Listing.{columns_of, Listed};
-ghost use Rattle.steps.specs.Faults.{refusal};
+ghost use Rattle.columns.specs.Lines.{columns_in};
+ghost use Rattle.steps.specs.Faults.{fault};
 
-use columns::listing;
-use columns::listing::{Line, Places, Span};
+use columns::listed::ListedLine;
+use columns::listing::Span;
 
-// The number of a refusal and the place of what is at fault; the number 0 is no fault.
+// The number of a refusal and the place of what is at fault.
 #[derive(Clone, Copy)]
 pub struct Fault {
     pub number: u32,
@@ -63,31 +62,32 @@ pub enum Step {
     Word(NodeSaid),
     Phrase(NodeSaid),
     SentenceEnds,
-    Refused(Fault),
 }
 
-pub fn refused(number: u32, place: usize) -> Step
-    requires { place ≤ file_limit }
-    ensures { result ≡ refusal number place }
+// A rule is broken that is about the line.
+pub fn line_fault(number: u32, line: &ListedLine) -> Fault
+    ensures { result ≡ fault number line.now.start }
 {
-    let at = place as u32;
-    Step::Refused(Fault { number, place: at })
+    Fault {
+        number,
+        place: line.start as u32,
+    }
 }
 
 // A rule is broken that is about this text.
-pub fn refused_text(number: u32, text: Span) -> Step
-    ensures { result ≡ refusal number text.start }
+pub fn text_fault(number: u32, text: Span) -> Fault
+    ensures { result ≡ fault number text.start }
 {
-    Step::Refused(Fault {
+    Fault {
         number,
         place: text.start,
-    })
+    }
 }
 
 // A rule is broken that is about column k.
-pub fn refused_at(number: u32, line: Line, places: &Places, k: usize) -> Step
-    requires { (k < line.columns) × ((file : List ℕ) × Listed file line places.now) }
-    ensures { (file : List ℕ) → Listed file line places.now → result ≡ refusal number (written (columns_of file line) k).start }
+pub fn column_fault(number: u32, line: &ListedLine, k: usize) -> Fault
+    requires { k < line.now.columns }
+    ensures { result ≡ fault number (written (columns_in line.now) k).start }
 {
-    refused_text(number, listing::column_span(line, places, k))
+    text_fault(number, line.column_span(k))
 }

@@ -31,14 +31,16 @@ fn nothing_read(refusal: u32) -> Surveyed
     }
 }
 
-fn surveyed_as(read: Read) -> Surveyed
-    ensures { result ≡ surveyed_as read }
-{
-    Surveyed {
-        refusal: read.refusal,
-        place: read.place,
-        sentences: read.sentences,
-        sound_end: read.sound_end,
+impl From<Read> for Surveyed {
+    ghost from_gives = { λ read surveyed. surveyed ≡ surveyed_as read };
+
+    fn from(read: Read) -> Surveyed {
+        Surveyed {
+            refusal: read.refusal,
+            place: read.place,
+            sentences: read.sentences,
+            sound_end: read.sound_end,
+        }
     }
 }
 
@@ -62,7 +64,7 @@ pub fn survey(file: &[u8], sheet: &mut [u32], seen: &mut [u8]) -> Surveyed
         return nothing_read(refusals::FILE_TOO_LONG);
     }
     let mut begins = [0u32; 0];
-    surveyed_as(reading::read_file(file, sheet, seen, 0, &mut begins))
+    Surveyed::from(reading::read_file(file, sheet, seen, 0, &mut begins))
 }
 
 // How many sentence numbers there are.
@@ -82,5 +84,5 @@ pub fn index(file: &[u8], sheet: &mut [u32], seen: &mut [u8], places: &mut [u32]
     if FILE_LIMIT < file.len() {
         return nothing_read(refusals::FILE_TOO_LONG);
     }
-    surveyed_as(reading::read_file(file, sheet, seen, 0, places))
+    Surveyed::from(reading::read_file(file, sheet, seen, 0, places))
 }

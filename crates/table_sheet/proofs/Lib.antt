@@ -8,3 +8,4 @@ pub mod ReadBack
 pub mod NotedOutlines
 mod TagNumbers
 mod TagOrder
+pub mod Parts

@@ -17,14 +17,13 @@ use Rattle.rules.specs.Sheets.{row_width}
 use Rattle.rules.proofs.Conjunctions.{or_found}
 use Rattle.rules.proofs.Same.{eq_same, same_eq}
 use Rattle.table_sheet.specs.SheetRows.{row_at, rows_from}
-use Rattle.table_sheet.specs.LookUps.{is_found, id_from, id_found, FourWithout, tags_of, tag_among, TagFound, TagsDiffer}
-use Rattle.table_sheet.specs.declared.Found.{Found}
-use Rattle.table_sheet.specs.declared.Found.TheVariants as found
+use Rattle.table_sheet.specs.LookUps.{id_from, id_found, FourWithout, tags_of, tag_among, TagFound, TagsDiffer}
+use Rattle.std.specs.Prelude.{Option, None, Some, is_some}
 
 -- ---- by an id
 
 module _ (file sheet : List ℕ) (at row rows id1 : ℕ) where
-  pub id_hit : row < rows → get_or sheet at 0 ≡ id1 → id_from row id1 (rows_from file sheet at (rows - row)) ≡ found.Row row
+  pub id_hit : row < rows → get_or sheet at 0 ≡ id1 → id_from row id1 (rows_from file sheet at (rows - row)) ≡ Some row
   unfolding rows_from id_from
   id_hit h e =
       let m : rows - row ≡ suc (rows - (row + 1)) = omega arith in
@@ -37,7 +36,7 @@ module _ (file sheet : List ℕ) (at row rows id1 : ℕ) where
       let m : rows - row ≡ suc (rows - (row + 1)) = omega arith in
       sym (rw (m, ne_eqb id1 (get_or sheet at 0) (λ e. d (sym e)), ← add-one row))
 
-  pub id_end : rows ≤ row → id_from row id1 (rows_from file sheet at (rows - row)) ≡ found.Missing
+  pub id_end : rows ≤ row → id_from row id1 (rows_from file sheet at (rows - row)) ≡ None
   unfolding rows_from id_from
   id_end h =
       let m : rows - row ≡ 0 = omega arith in
@@ -52,18 +51,18 @@ ids_miss file sheet at row rows id1 h w =
     ∙ id_miss file sheet (at + row_width) (row + 1) rows id1 (omega arith) w.second
     ∙ id_miss file sheet at row rows id1 (omega arith) w.first
 
-found_from : (k i : ℕ) (rs : List Row) → is_found (id_from k i rs) ≡ has_id i rs
+found_from : (k i : ℕ) (rs : List Row) → is_some (id_from k i rs) ≡ has_id i rs
 unfolding id_from has_id
 found_from k i [] = refl
 found_from k i (r ∷ rs) = by (eqb i r.id1) (found_from (suc k) i rs)
   where
-    by : (t : Bool) → is_found (id_from (suc k) i rs) ≡ has_id i rs
-        → is_found (pick t (found.Row k) (id_from (suc k) i rs)) ≡ (t || has_id i rs)
+    by : (t : Bool) → is_some (id_from (suc k) i rs) ≡ has_id i rs
+        → is_some (pick t (Some k) (id_from (suc k) i rs)) ≡ (t || has_id i rs)
     by true e = refl
     by false e = e
 
 -- a row is found exactly if there is one
-pub id_found_lem : (i : ℕ) (rs : List Row) → is_found (id_found i rs) ≡ has_id i rs
+pub id_found_lem : (i : ℕ) (rs : List Row) → is_some (id_found i rs) ≡ has_id i rs
 id_found_lem i rs = found_from 0 i rs
 
 -- ---- by a tag
@@ -74,7 +73,7 @@ has tag r = same tag r.first.bytes
 module _ (tag : List ℕ) where
   -- a row that has the tag, wherever it stands
   pub tag_hit : (file sheet : List ℕ) (at k rows : ℕ) → k < rows → has tag (row_at file sheet (at + row_width * k)) ≡ true
-      → TagFound tag (rows_from file sheet at rows) (found.Row k)
+      → TagFound tag (rows_from file sheet at rows) (Some k)
   unfolding rows_from
   tag_hit file sheet at k zero h e = absurd (not-suc-le-zero h)
   tag_hit file sheet at zero (suc rows) h e =
@@ -105,16 +104,16 @@ module _ (tag : List ℕ) where
   among_at (r ∷ rs) (suc k) h e = or_found (has tag r) (any (has tag) rs) (among_at rs k (le_of_suc-le-suc h) e)
 
   -- a row is found exactly if there is one
-  pub tag_found : (rs : List Row) (r : Found) → TagFound tag rs r → is_found r ≡ tag_among tag rs
-  tag_found rs (found.Row k) f = sym (among_at rs k f.0 f.1)
-  tag_found rs found.Missing f = sym f
+  pub tag_found : (rs : List Row) (r : Option ℕ) → TagFound tag rs r → is_some r ≡ tag_among tag rs
+  tag_found rs (Some k) f = sym (among_at rs k f.0 f.1)
+  tag_found rs None f = sym f
 
   -- if the tags of the rows differ, no second answer will do
-  pub one_row : (rs : List Row) → TagsDiffer rs → (p q : Found) → TagFound tag rs p → TagFound tag rs q → p ≡ q
-  one_row rs d (found.Row j) (found.Row k) f g = ap found.Row (d j k f.0 g.0 (f.1 ∙ sym g.1))
-  one_row rs d (found.Row j) found.Missing f g = absurd (false≢true (sym g ∙ among_at rs j f.0 f.1))
-  one_row rs d found.Missing (found.Row k) f g = absurd (false≢true (sym f ∙ among_at rs k g.0 g.1))
-  one_row rs d found.Missing found.Missing f g = refl
+  pub one_row : (rs : List Row) → TagsDiffer rs → (p q : Option ℕ) → TagFound tag rs p → TagFound tag rs q → p ≡ q
+  one_row rs d (Some j) (Some k) f g = ap Some (d j k f.0 g.0 (f.1 ∙ sym g.1))
+  one_row rs d (Some j) None f g = absurd (false≢true (sym g ∙ among_at rs j f.0 f.1))
+  one_row rs d None (Some k) f g = absurd (false≢true (sym f ∙ among_at rs k g.0 g.1))
+  one_row rs d None None f g = refl
 
 -- a tag that is some bytes of the file: one row with as many bytes that are the same will do
 pub tag_among_lem : (file sheet : List ℕ) (at k rows start first len : ℕ) → k < rows
@@ -124,7 +123,7 @@ pub tag_among_lem : (file sheet : List ℕ) (at k rows start first len : ℕ) �
 tag_among_lem file sheet at k rows start first len h sized begun e =
     let tag = take len (drop start file) in
     let alike : tag ≡ (row_at file sheet (at + row_width * k)).first.bytes = e ∙ ap₂ (λ (n p : ℕ). take n (drop p file)) sized begun in
-    sym (tag_found tag (rows_from file sheet at rows) (found.Row k) (tag_hit tag file sheet at k rows h (eq_same tag _ alike)))
+    sym (tag_found tag (rows_from file sheet at rows) (Some k) (tag_hit tag file sheet at k rows h (eq_same tag _ alike)))
 
 -- a tag is looked up by its bytes alone
 pub tag_by_bytes : (t : Text) (rs : List Row) → has_tag t rs ≡ tag_among t.bytes rs

@@ -1,7 +1,7 @@
 -- The table sheet as it grows: a table is opened, gets rows, is closed or given up. Stated over the table's place and
 -- the list of tables.
 use mathlib.Core.Path.{◌≡◌, refl, sym, ap, ap₂, ◌∙◌}
-use mathlib.Core.Option.{Option, none, some}
+use Rattle.std.specs.Prelude.{Option, None, Some}
 use mathlib.Core.List.{List, [], ◌∷◌, ◌++◌, map, map-map}
 use Prim.Native.Nat.{ℕ, zero, suc, ◌+◌, ◌*◌, ◌≤◌, ◌<◌}
 use native.Mathlib.Nat.{mul-suc}
@@ -65,11 +65,11 @@ table_sheet_lem ts = ap (λ (l : List (List ℕ)). map count ts ++ joined l) (sy
 
 -- ---- no table
 
-no_counts : (n : ℕ) → map count (replicate n none) ≡ replicate n 0
+no_counts : (n : ℕ) → map count (replicate n None) ≡ replicate n 0
 no_counts zero = refl
 no_counts (suc n) = ap (λ (l : List ℕ). 0 ∷ l) (no_counts n)
 
-no_rooms : (n : ℕ) → joined (map rows_room (map rows_of (replicate n none))) ≡ replicate (table_room * n) 0
+no_rooms : (n : ℕ) → joined (map rows_room (map rows_of (replicate n None))) ≡ replicate (table_room * n) 0
 no_rooms zero = refl
 no_rooms (suc n) =
     let k : table_room + table_room * n ≡ table_room * suc n = omega (arith, mul-suc table_room n) in
@@ -88,7 +88,7 @@ pub none_have_room : TablesHaveRoom no_tables
 none_have_room =
     record {
       seven = refl;
-      room = each_replicate TableHasRoom table_count none (omega arith);
+      room = each_replicate TableHasRoom table_count None (omega arith);
     }
 
 -- ---- a table while it is read
@@ -121,8 +121,8 @@ module _ (ts : Tables) (fits : TablesHaveRoom ts) where
     pub closed_has_room : TablesHaveRoom (closed n rs ts)
     closed_has_room =
         record {
-          seven = length-set ts n (some rs) ∙ fits.seven;
-          room = each_set TableHasRoom ts n (some rs) fits.room room;
+          seven = length-set ts n (Some rs) ∙ fits.seven;
+          room = each_set TableHasRoom ts n (Some rs) fits.room room;
         }
 
     -- a splice inside the room of the open table
@@ -138,10 +138,10 @@ module _ (ts : Tables) (fits : TablesHaveRoom ts) where
         (ap (λ (l : List Row). splice at vs (rows_room l)) (get_or-set_same tables n rs [] (omega arith)) ∙ e)
         ∙ ap (sheet_of (map count ts)) (set-set tables n rs us)
 
-pub sheet_opened : (ts : Tables) (n : ℕ) → table n ts ≡ none → open_sheet ts n [] ≡ table_sheet ts
+pub sheet_opened : (ts : Tables) (n : ℕ) → table n ts ≡ None → open_sheet ts n [] ≡ table_sheet ts
 unfolding open_sheet
 sheet_opened ts n absent =
-    let e : get_or (map rows_of ts) n [] ≡ [] = get_or-map rows_of ts n none ∙ ap rows_of absent in
+    let e : get_or (map rows_of ts) n [] ≡ [] = get_or-map rows_of ts n None ∙ ap rows_of absent in
     ap (λ (rs : List Row). sheet_of (map count ts) (set (map rows_of ts) n rs)) (sym e)
     ∙ ap (sheet_of (map count ts)) (set-get_or (map rows_of ts) n [])
     ∙ sym (table_sheet_lem ts)
@@ -159,11 +159,11 @@ sheet_closed ts n h rs =
     let sized : length (map count ts) ≡ length ts = length-map ts count in
     set-append_left (map count ts) (joined (map rows_room (set (map rows_of ts) n rs))) n (suc (length rs)) (omega arith)
     ∙ ap₂ (λ (counts : List ℕ) (tables : List (List Row)). counts ++ joined (map rows_room tables))
-    (sym (set_map count ts n (some rs)))
-    (sym (set_map rows_of ts n (some rs)))
+    (sym (set_map count ts n (Some rs)))
+    (sym (set_map rows_of ts n (Some rs)))
     ∙ sym (table_sheet_lem (closed n rs ts))
 
-pub sheet_given_up : (ts : Tables) → TablesHaveRoom ts → (n : ℕ) → n < table_count → table n ts ≡ none
+pub sheet_given_up : (ts : Tables) → TablesHaveRoom ts → (n : ℕ) → n < table_count → table n ts ≡ None
     → (rs : List Row) → RowsHaveRoom rs
     → splice (row_place n 0) (replicate table_room 0) (open_sheet ts n rs) ≡ table_sheet ts
 sheet_given_up ts fits n h absent rs room =
@@ -178,4 +178,4 @@ unfolding table_sheet
 count_of_table ts k h =
     let sized : length (map count ts) ≡ length ts = length-map ts count in
     get_or-append (map count ts) (joined (map (λ (t : Option (List Row)). rows_room (rows_of t)) ts)) 0 k (omega arith)
-    ∙ map_at count ts k none 0 h
+    ∙ map_at count ts k None 0 h

@@ -1,7 +1,7 @@
 -- Rows and tables read back from a sheet are those that were put there, for texts that stand in the file; and what the
 -- sheet says of them lies inside the file.
 use mathlib.Core.Path.{◌≡◌, refl, sym, ap, ap₂, subst, ◌∙◌}
-use mathlib.Core.Option.{Option, none, some}
+use Rattle.std.specs.Prelude.{Option, None, Some}
 use mathlib.Core.List.{List, [], ◌∷◌, ◌++◌, map, append_assoc}
 use Prim.Native.Nat.{ℕ, zero, suc, ◌+◌, ◌-◌, ◌*◌, ◌<◌}
 use native.Mathlib.Nat.{add-zero, zero-add, mul-suc, not-suc-le-zero, le_of_suc-le-suc}
@@ -108,7 +108,7 @@ module _ (ts : Tables) (fits : TablesHaveRoom ts) where
       let counts : length (map count ts) ≡ length ts = length-map ts count in
       let tables : length (map rows_of ts) ≡ length ts = length-map ts rows_of in
       let seven : length ts ≡ table_count = fits.seven in
-      rw (table_sheet_lem ts, ← get_or-map rows_of ts k none)
+      rw (table_sheet_lem ts, ← get_or-map rows_of ts k None)
       (holds_of (map count ts) (map rows_of ts) (omega arith) (all_have_room ts fits) k (omega arith))
 
   -- the open table's rows
@@ -127,9 +127,9 @@ module _ (ts : Tables) (fits : TablesHaveRoom ts) where
 
 table_read_lem : (file sheet : List ℕ) (k : ℕ) (t : Option (List Row)) → get_or sheet k 0 ≡ count t → RowsStand file (rows_of t)
     → Holds sheet (row_place k 0) (rows_of t) → table_in file sheet k ≡ t
-table_read_lem file sheet k none e s h = ap (counted file sheet (row_place k 0)) e
-table_read_lem file sheet k (some us) e s h =
-    ap (counted file sheet (row_place k 0)) e ∙ ap some (rows_read file sheet (row_place k 0) us s h)
+table_read_lem file sheet k None e s h = ap (counted file sheet (row_place k 0)) e
+table_read_lem file sheet k (Some us) e s h =
+    ap (counted file sheet (row_place k 0)) e ∙ ap Some (rows_read file sheet (row_place k 0) us s h)
 
 pub tables_read : (file : List ℕ) (ts : Tables) → TablesHaveRoom ts → TablesStand file ts → tables_in file (table_sheet ts) ≡ ts
 unfolding tables_in
@@ -138,13 +138,13 @@ tables_read file ts fits stand =
     let read = map (table_in file sheet) (counting 0 table_count) in
     let sized : length read ≡ table_count = length-map (counting 0 table_count) (table_in file sheet) ∙ length_counting 0 table_count in
     let seven : length ts ≡ table_count = fits.seven in
-    ext_get_or none read ts (sized ∙ sym seven)
+    ext_get_or None read ts (sized ∙ sym seven)
     (λ k l.
     let h : k < table_count = omega arith in
-    at_counting (table_in file sheet) 0 table_count k none h
+    at_counting (table_in file sheet) 0 table_count k None h
     ∙ ap (table_in file sheet) (zero-add k)
     ∙ table_read_lem file sheet k (table k ts) (count_of_table ts k (omega arith))
-    (each_at (TableStands file) ts k none stand (omega arith))
+    (each_at (TableStands file) ts k None stand (omega arith))
     (table_holds ts fits k h))
 
 -- ---- look-ups: in a closed table, and in the open one
@@ -154,7 +154,7 @@ module _ (file : List ℕ) (ts : Tables) (fits : TablesHaveRoom ts) where
     rows_stand : RowsStand file (rows_of (table k ts))
     rows_stand =
         let seven : length ts ≡ table_count = fits.seven in
-        each_at (TableStands file) ts k none stand (omega arith)
+        each_at (TableStands file) ts k None stand (omega arith)
 
     pub table_rows_inside : Inside file (table_sheet ts) (row_place k 0) (length (rows_of (table k ts)))
     table_rows_inside = rows_inside file (table_sheet ts) (row_place k 0) (rows_of (table k ts)) rows_stand (table_holds ts fits k h)

@@ -1,6 +1,6 @@
 -- Texts that stand in the file, and rows and tables of them: one row more, one table more.
 use mathlib.Core.Path.{◌≡◌, refl, ap}
-use mathlib.Core.Option.{none, some}
+use Rattle.std.specs.Prelude.{None, Some}
 use mathlib.Core.List.{List, [], ◌∷◌, ◌++◌}
 use Prim.Native.Nat.{ℕ, ◌+◌, ◌-◌, ◌≤◌}
 use native.Mathlib.Omega.{arith}
@@ -30,8 +30,8 @@ module _ (file : List ℕ) where
   rows_stand_more rs r s one = each_more (RowStands file) rs r s one
 
   pub none_stand : TablesStand file no_tables
-  none_stand = each_replicate (TableStands file) table_count none tt
+  none_stand = each_replicate (TableStands file) table_count None tt
 
   pub tables_stand_closed : (ts : Tables) (n : ℕ) (rs : List Row) → TablesStand file ts → RowsStand file rs
       → TablesStand file (closed n rs ts)
-  tables_stand_closed ts n rs s more = each_set (TableStands file) ts n (some rs) s more
+  tables_stand_closed ts n rs s more = each_set (TableStands file) ts n (Some rs) s more

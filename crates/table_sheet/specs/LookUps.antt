@@ -1,23 +1,17 @@
 -- What a look-up along the rows of a table answers: by an id + 1 the first row that has it, by a tag a row that has it.
-use Rattle.std.specs.Prelude.{ℕ, suc, ◌+◌, ◌<◌, ◌≡◌, Bool, true, false, List, [], ◌∷◌, map, eqb, length, get_or}
+use Rattle.std.specs.Prelude.{ℕ, suc, ◌+◌, ◌<◌, ◌≡◌, Bool, false, List, [], ◌∷◌, map, eqb, length, get_or, Option, None, Some}
 use Rattle.rules.specs.Lists.{pick, any, same}
 use Rattle.rules.specs.Tables.{Row}
 use Rattle.rules.specs.Sheets.{row_width}
-use Rattle.table_sheet.specs.declared.Found.{Found}
-use Rattle.table_sheet.specs.declared.Found.TheVariants as found
-
-abbrev pub is_found : Found → Bool
-is_found (found.Row k) = true
-is_found found.Missing = false
 
 -- the first row with this id + 1, rows counted from k
-unfoldable pub id_from : ℕ → ℕ → List Row → Found
-id_from k i [] = found.Missing
+unfoldable pub id_from : ℕ → ℕ → List Row → Option ℕ
+id_from k i [] = None
 id_from k i (r ∷ rs) =
     let later = id_from (suc k) i rs in
-    pick (eqb i r.id1) (found.Row k) later
+    pick (eqb i r.id1) (Some k) later
 
-abbrev pub id_found : ℕ → List Row → Found
+abbrev pub id_found : ℕ → List Row → Option ℕ
 id_found i rs = id_from 0 i rs
 
 -- none of the four rows from a place on has it
@@ -36,9 +30,9 @@ unfoldable pub tag_among : List ℕ → List Row → Bool
 tag_among tag rs = any (λ (r : Row). same tag r.first.bytes) rs
 
 -- a row that is found has the tag, and if none is found no row has it
-abbrev pub TagFound : List ℕ → List Row → Found → Type 0
-TagFound tag rs (found.Row k) = (k < length rs) × (get_or (tags_of rs) k [] ≡ tag)
-TagFound tag rs found.Missing = tag_among tag rs ≡ false
+abbrev pub TagFound : List ℕ → List Row → Option ℕ → Type 0
+TagFound tag rs (Some k) = (k < length rs) × (get_or (tags_of rs) k [] ≡ tag)
+TagFound tag rs None = tag_among tag rs ≡ false
 
 abbrev pub TagsDiffer : List Row → Type 0
 TagsDiffer rs = (j k : ℕ) → j < length rs → k < length rs → get_or (tags_of rs) j [] ≡ get_or (tags_of rs) k [] → j ≡ k

@@ -1,7 +1,6 @@
 -- The table sheet read back. Document 01, "The sheets": seven counts (0 absent, else rows + 1), then for each table 256
 -- rows of 6: id + 1, start and length of the first text, of the second, flag.
-use Rattle.std.specs.Prelude.{ℕ, zero, suc, ◌+◌, List, [], ◌∷◌, map, take, drop, get_or}
-use Rattle.std.proofs.Math.Option.{Option, none, some}
+use Rattle.std.specs.Prelude.{ℕ, zero, suc, ◌+◌, List, [], ◌∷◌, map, take, drop, get_or, Option, None, Some}
 use Rattle.rules.specs.Lists.{counting}
 use Rattle.rules.specs.Texts.{Text}
 use Rattle.rules.specs.Tables.{Row, Tables}
@@ -28,8 +27,8 @@ rows_from file sheet at (suc count) = row_at file sheet at ∷ rows_from file sh
 
 -- the table that has this count and its rows from a place on
 abbrev pub counted : List ℕ → List ℕ → ℕ → ℕ → Option (List Row)
-counted file sheet at zero = none
-counted file sheet at (suc rows) = some (rows_from file sheet at rows)
+counted file sheet at zero = None
+counted file sheet at (suc rows) = Some (rows_from file sheet at rows)
 
 abbrev pub table_in : List ℕ → List ℕ → ℕ → Option (List Row)
 table_in file sheet n = counted file sheet (row_place n 0) (get_or sheet n 0)

@@ -29,14 +29,10 @@ pub fn pass_fours(sheet: &[u32], place: usize, rows: usize, id1: u32) -> usize
     requires { place + row_width * rows ≤ length sheet.now }
     ensures { (result ≤ rows) × ((file : List ℕ) → id_from result id1 (rows_from file sheet.now (place + row_width * result) (rows - result)) ≡ id_found id1 (rows_from file sheet.now place rows)) }
 {
-    let mut row = 0;
-    let mut at = place;
-    while row + 4 <= rows {
-        if !four_without(sheet, at, id1) {
-            return row;
+    for four in 0..rows / 4 {
+        if !four_without(sheet, place + 4 * crate::ROW_WIDTH * four, id1) {
+            return 4 * four;
         }
-        row += 4;
-        at += 4 * crate::ROW_WIDTH;
     }
-    row
+    rows / 4 * 4
 }

@@ -8,20 +8,14 @@ use texts::words;
 
 pub const FOR_TABLE: usize = 512;
 
-pub fn wide(b: u8) -> u64
-    ensures { (result ≡ b) × (result < 256) }
-{
-    b as u64
-}
-
 // Tags of up to 3 and of 4 to 7 bytes: what `words::front_at` gives where eight bytes are at hand.
 fn few_bytes(tag: &[u8]) -> u64
     requires { (0 < length tag.now) × (length tag.now < 4) }
     ensures { result ≡ few_bytes tag.now }
 {
     let n = tag.len();
-    let middle = wide(tag[n / 2]) << (64 - 8 * n + 8 * (n / 2));
-    (wide(tag[0]) << (64 - 8 * n)) | middle | (wide(tag[n - 1]) << 56)
+    let middle = u64::from(tag[n / 2]) << (64 - 8 * n + 8 * (n / 2));
+    (u64::from(tag[0]) << (64 - 8 * n)) | middle | (u64::from(tag[n - 1]) << 56)
 }
 
 fn some_bytes(tag: &[u8]) -> u64
@@ -29,8 +23,8 @@ fn some_bytes(tag: &[u8]) -> u64
     ensures { result ≡ some_bytes tag.now }
 {
     let n = tag.len();
-    let front = words::four_at(tag, 0) as u64;
-    let back = words::four_at(tag, n - 4) as u64;
+    let front = u64::from(words::four_at(tag, 0));
+    let back = u64::from(words::four_at(tag, n - 4));
     (front << (64 - 8 * n)) | (back << 32)
 }
 
@@ -74,5 +68,5 @@ pub fn row_near(hints: &[u8; crate::HINTS], table: usize, number: u64) -> usize
     requires { table < table_count }
     ensures { (result ≡ get_or hints.now (hint_place table number) 0) × (result < 256) }
 {
-    wide(hints[place_of(table, number)]) as usize
+    usize::from(hints[place_of(table, number)])
 }

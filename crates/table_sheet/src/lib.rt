@@ -13,7 +13,7 @@ ghost use Rattle.rules.specs.Numbers.{row_limit};
 ghost use Rattle.rules.specs.Sheets.{table_count, row_width, row_place};
 ghost use Rattle.columns.specs.Splices.{splice};
 ghost use Rattle.table_sheet.specs.SheetRows.{row_at, rows_from};
-ghost use Rattle.table_sheet.specs.LookUps.{is_found, id_found, TagFound};
+ghost use Rattle.table_sheet.specs.LookUps.{id_found, TagFound};
 ghost use Rattle.table_sheet.specs.Standing.{RowInside, Inside};
 
 // The places of the seven tables in the sheet.
@@ -55,37 +55,17 @@ pub fn row_place(table: usize, row: usize) -> usize
     TABLE_COUNT + TABLE_ROOM * table + ROW_WIDTH * row
 }
 
-// Which of some rows it is, counted from 0.
-#[derive(Clone, Copy)]
-pub enum Found {
-    Row(usize),
-    Missing,
-}
-
-pub fn is_row(found: Found) -> bool
-    ensures { result ≡ is_found found }
-{
-    match found {
-        Found::Row(_) => true,
-        Found::Missing => false,
-    }
-}
-
-// The first of the rows from a place on that has this id + 1.
-pub fn find_id(sheet: &[u32], place: usize, rows: usize, id1: u32) -> Found
+// The first of the rows from a place on that has this id + 1, counted from 0.
+pub fn find_id(sheet: &[u32], place: usize, rows: usize, id1: u32) -> Option<usize>
     requires { place + row_width * rows ≤ length sheet.now }
     ensures { (file : List ℕ) → result ≡ id_found id1 (rows_from file sheet.now place rows) }
 {
-    let mut row = fours::pass_fours(sheet, place, rows, id1);
-    let mut at = place + ROW_WIDTH * row;
-    while row < rows {
-        if sheet[at] == id1 {
-            return Found::Row(row);
+    for row in fours::pass_fours(sheet, place, rows, id1)..rows {
+        if sheet[place + ROW_WIDTH * row] == id1 {
+            return Some(row);
         }
-        row += 1;
-        at += ROW_WIDTH;
     }
-    Found::Missing
+    None
 }
 
 // Whether the first text of the row at a place is this tag. Texts of another length aren't compared.
@@ -101,21 +81,17 @@ fn tag_at(file: &[u8], sheet: &[u32], place: usize, tag: &[u8]) -> bool
     texts::same_text(tag, &file[start..start + len])
 }
 
-// One of the rows from a place on whose first text is this tag.
-pub fn seek_tag(file: &[u8], sheet: &[u32], place: usize, rows: usize, tag: &[u8]) -> Found
+// One of the rows from a place on whose first text is this tag, counted from 0.
+pub fn seek_tag(file: &[u8], sheet: &[u32], place: usize, rows: usize, tag: &[u8]) -> Option<usize>
     requires { (place + row_width * rows ≤ length sheet.now) × Inside file.now sheet.now place rows }
     ensures { TagFound tag.now (rows_from file.now sheet.now place rows) result }
 {
-    let mut k = 0;
-    let mut at = place;
-    while k < rows {
-        if tag_at(file, sheet, at, tag) {
-            return Found::Row(k);
+    for row in 0..rows {
+        if tag_at(file, sheet, place + ROW_WIDTH * row, tag) {
+            return Some(row);
         }
-        k += 1;
-        at += ROW_WIDTH;
     }
-    Found::Missing
+    None
 }
 
 // The same, where the row that the table's order names is looked at first.
@@ -127,14 +103,14 @@ fn find_by_halves(
     place: usize,
     rows: usize,
     tag: &[u8],
-) -> Found
+) -> Option<usize>
     requires { (table < table_count) × (place + row_width * rows ≤ length sheet.now) × Inside file.now sheet.now place rows }
     ensures { TagFound tag.now (rows_from file.now sheet.now place rows) result }
 {
     let row = order::row_by_halves(file, sheet, hints, table, place, rows, tag);
     if row < rows {
         if tag_at(file, sheet, place + ROW_WIDTH * row, tag) {
-            return Found::Row(row);
+            return Some(row);
         }
     }
     seek_tag(file, sheet, place, rows, tag)
@@ -149,14 +125,14 @@ pub fn find_tag(
     place: usize,
     rows: usize,
     tag: &[u8],
-) -> Found
+) -> Option<usize>
     requires { (table < table_count) × (place + row_width * rows ≤ length sheet.now) × Inside file.now sheet.now place rows }
     ensures { TagFound tag.now (rows_from file.now sheet.now place rows) result }
 {
     let hint = hints::row_near(hints, table, hints::number_of(tag));
     if hint < rows {
         if tag_at(file, sheet, place + ROW_WIDTH * hint, tag) {
-            return Found::Row(hint);
+            return Some(hint);
         }
     }
     find_by_halves(file, sheet, hints, table, place, rows, tag)
@@ -167,27 +143,18 @@ pub fn put(sheet: &mut [u32], place: usize, numbers: &[u32])
     requires { place + length numbers.now ≤ length sheet.old }
     ensures { sheet.new ≡ splice place numbers.now sheet.old }
 {
-    let mut i = 0;
-    while i < numbers.len() {
-        sheet[place + i] = numbers[i];
-        i += 1;
-    }
+    sheet[place..place + numbers.len()].copy_from_slice(numbers);
 }
 
 pub fn clear_rows(sheet: &mut [u32], place: usize, numbers: usize)
     requires { place + numbers ≤ length sheet.old }
     ensures { sheet.new ≡ splice place (replicate numbers 0) sheet.old }
 {
-    let mut i = 0;
-    while i < numbers {
-        sheet[place + i] = 0;
-        i += 1;
-    }
+    sheet[place..place + numbers].fill(0);
 }
 
 pub fn clear(sheet: &mut [u32])
     ensures { sheet.new ≡ replicate (length sheet.old) 0 }
 {
-    let numbers = sheet.len();
-    clear_rows(sheet, 0, numbers);
+    sheet.fill(0);
 }

@@ -15,10 +15,8 @@ fn outline_of(tag: &[u8]) -> usize
     ensures { (result ≡ outline_of tag.now) × (result < outline_count) }
 {
     let mut outline = 0;
-    let mut i = 0;
-    while i < tag.len() {
-        outline = (FACTOR * outline + tag[i] as usize) % FOR_TABLE;
-        i += 1;
+    for &b in tag {
+        outline = (FACTOR * outline + usize::from(b)) % FOR_TABLE;
     }
     outline
 }
@@ -54,5 +52,5 @@ pub fn is_new(
     if outlines[place_of(table, tag)] == 0 {
         return true;
     }
-    !crate::is_row(crate::seek_tag(file, sheet, place, rows, tag))
+    crate::seek_tag(file, sheet, place, rows, tag).is_none()
 }

@@ -3,5 +3,5 @@ pub mod BegunRows
 pub mod SpanTests
 pub mod NamedLines
 pub mod RowsSoFar
-pub mod OwnTags
 pub mod RowTexts
+pub mod TagRows

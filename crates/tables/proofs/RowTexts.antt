@@ -11,14 +11,15 @@ use Rattle.rules.specs.Lists.{pick}
 use Rattle.rules.specs.Texts.{given, trim, trim_from, front_bytes}
 use Rattle.rules.specs.Columns.{Column, column}
 use Rattle.rules.specs.Numbers.{file_limit}
-use Rattle.columns.specs.Listing.{columns_of, span_of, Listed}
-use Rattle.columns.specs.declared.listing.Line.{Line}
+use Rattle.columns.specs.Listing.{span_of}
+use Rattle.columns.specs.Lines.{line_in, columns_in}
+use Rattle.columns.specs.declared.listed.ListedLine.{ListedLine}
 use Rattle.columns.specs.declared.listing.Span.{Span}
 use Rattle.columns.proofs.Stands.{end_of}
 use Rattle.columns.proofs.ListedColumns.{standing, end_at}
 use Rattle.texts.proofs.Percents.{percents_inside, front_trimmed, behind_trimmed}
 use Rattle.tables.specs.RowTexts.{origin_texts}
-use Rattle.tables.specs.declared.tags.Flag.TheVariants.{Is, Wrong}
+use Rattle.std.specs.Prelude.{None, Some}
 
 pub behind_there : (cs : List Column) (k : ℕ) → given (trim (column cs k).after) ≡ true → k < length cs
 unfolding trim_from
@@ -32,10 +33,6 @@ pub description_behind : (flagged : Bool) (cs : List Column) → column cs (pick
 description_behind true cs = refl
 description_behind false cs = refl
 
-pub description_from : (flagged : Bool) → 1 ≤ pick flagged 3 2
-description_from true = omega arith
-description_from false = omega arith
-
 module _ (cs : List Column) where
   pub tag_there : (flagged : Bool) → given (trim (pick flagged (column cs 2) (column cs 1)).after) ≡ true → 1 < length cs
   tag_there true e = omega (arith, behind_there cs 2 e)
@@ -45,11 +42,11 @@ module _ (cs : List Column) where
   flag_there true e f = behind_there cs 2 e
   flag_there false e f = absurd (let z : ◌≡◌ {A = ℕ} 0 1 = cc in omega arith)
 
-pub flag_wrong : (right : Bool) (n : ℕ) → pick right (Is n) Wrong ≡ Wrong → right ≡ false
+pub flag_wrong : (right : Bool) (n : ℕ) → pick right (Some n) None ≡ None → right ≡ false
 flag_wrong true n e = cc
 flag_wrong false n e = refl
 
-pub flag_right : (right : Bool) (n m : ℕ) → pick right (Is n) Wrong ≡ Is m → (right ≡ true) × (n ≡ m)
+pub flag_right : (right : Bool) (n m : ℕ) → pick right (Some n) None ≡ Some m → (right ≡ true) × (n ≡ m)
 flag_right true n m e = (refl, (cc))
 flag_right false n m e = absurd (let z : ◌≡◌ {A = ℕ} 0 1 = cc in omega arith)
 
@@ -59,30 +56,30 @@ flagged_if_wrong false right e = cc
 
 -- ---- an origin's texts
 
-module _ (file : List ℕ) (l : Line) (places : List ℕ) (h : Listed file l places) (some : 0 < l.columns) (b : ℕ) (is : b ≡ get_or places 1 0) where
+module _ (l : ListedLine) (some : 0 < l.columns) (b : ℕ) (is : b ≡ get_or l.places.now 1 0) where
   abbrev whole : List ℕ
-  whole = take l.end file
+  whole = take l.end l.file.now
 
-  end_is : end_of (columns_of file l) 0 ≡ b
-  end_is = sym (end_at file l places h 0 some) ∙ sym is
+  end_is : end_of (columns_in l) 0 ≡ b
+  end_is = sym (end_at l.file.now (line_in l) l.places.now l.listed 0 some) ∙ sym is
 
-  behind_first : (column (columns_of file l) 0).after ≡ record { start = b; bytes = drop b whole }
+  behind_first : (column (columns_in l) 0).after ≡ record { start = b; bytes = drop b whole }
   behind_first =
-      ap (λ (c : Column). c.after) (standing file l places h 0 some).is
+      ap (λ (c : Column). c.after) (standing l.file.now (line_in l) l.places.now l.listed 0 some).is
       ∙ ap (λ (n : ℕ). record { start = n; bytes = drop n whole }) end_is
 
   pub whole_fits : length whole ≤ file_limit
-  whole_fits = omega (arith, length-take-le l.end file h.inside, h.inside, h.limited)
+  whole_fits = omega (arith, length-take-le l.end l.file.now l.listed.inside, l.listed.inside, l.listed.limited)
 
   pub first_inside : b ≤ length whole
-  first_inside = omega (arith, (standing file l places h 0 some).inside, end_is)
+  first_inside = omega (arith, (standing l.file.now (line_in l) l.places.now l.listed 0 some).inside, end_is)
 
   module _ (p : ℕ) (place : p ≡ b + length (front_bytes (drop b whole))) where
     pub signs_inside : p ≤ length whole
     signs_inside = percents_inside whole b p first_inside place
 
     pub origin_cut : (name note : Span) → name ≡ span_of (trim_from b (drop b (take p whole))) → note ≡ span_of (trim_from (p + 2) (drop (p + 2) whole))
-        → record { name = name; note = note } ≡ origin_texts (columns_of file l)
+        → record { name = name; note = note } ≡ origin_texts (columns_in l)
     unfolding origin_texts
     origin_cut name note is_name is_note =
         rw (behind_first, is_name, is_note, front_trimmed whole b p first_inside place, behind_trimmed whole b p first_inside place)

@@ -6,7 +6,7 @@ use native.Mathlib.Numerals.{add-one}
 use native.Mathlib.Omega.{arith}
 use mathlib.Core.Path.{◌≡◌, refl, sym, ap, ◌∙◌}
 use mathlib.Core.Bool.{true, false}
-use mathlib.Core.Option.{some}
+use Rattle.std.specs.Prelude.{Some}
 use mathlib.Core.List.{List}
 use borrow.Author.Tests.{eq-eqb, ne_eqb}
 use lib.Dec.{leb, eqb}
@@ -21,12 +21,12 @@ module _ (file sheet : List ℕ) where
   rows_counted at zero = refl
   rows_counted at (suc n) = ap suc (rows_counted (at + row_width) n)
 
-  last_some : (at n : ℕ) → last_id (rows_from file sheet at (suc n)) ≡ some (get_or sheet (at + row_width * n) 0)
+  last_some : (at n : ℕ) → last_id (rows_from file sheet at (suc n)) ≡ Some (get_or sheet (at + row_width * n) 0)
   unfolding rows_from
   last_some at zero = rw (mul-zero, add-zero)
   last_some at (suc n) =
       let e : at + row_width + row_width * n ≡ at + row_width * suc n = omega (arith, mul-suc row_width n) in
-      last_some (at + row_width) n ∙ ap (λ (k : ℕ). some (get_or sheet k 0)) e
+      last_some (at + row_width) n ∙ ap (λ (k : ℕ). Some (get_or sheet k 0)) e
 
   module _ (at rows : ℕ) where
     pub follows_none : rows ≡ 0 → (i : ℕ) → leb i 2 ≡ follows (last_id (rows_from file sheet at rows)) i
@@ -37,7 +37,7 @@ module _ (file sheet : List ℕ) where
       abbrev last : ℕ
       last = get_or sheet (at + row_width * (rows - 1)) 0
 
-      last_is : last_id (rows_from file sheet at rows) ≡ some last
+      last_is : last_id (rows_from file sheet at rows) ≡ Some last
       last_is =
           let e : rows ≡ suc (rows - 1) = omega (arith, some_rows) in
           ap (λ (n : ℕ). last_id (rows_from file sheet at n)) e ∙ last_some at (rows - 1)

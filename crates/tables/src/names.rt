@@ -1,79 +1,68 @@
 // The names of the tables, and the lines that name one.
-ghost use Rattle.std.specs.Prelude.{◌≡◌, true, false, List, ℕ, ◌≤◌};
-ghost use Rattle.rules.specs.Numbers.{file_limit};
+ghost use Rattle.std.specs.Prelude.{◌≡◌, true, false, ℕ, Err};
 ghost use Rattle.rules.specs.Columns.{written};
 ghost use Rattle.rules.specs.Tables.{table_named};
-ghost use Rattle.columns.specs.Listing.{line_of, columns_of, Listed};
-ghost use Rattle.tables.specs.Names.{name_answer, name_rules};
+ghost use Rattle.columns.specs.Lines.{text_in, columns_in};
+ghost use Rattle.tables.specs.Names.{name_rules};
 ghost use Rattle.tables.specs.RowRules.{asked};
 
-use columns::listing;
-use columns::listing::{Line, Places};
-use steps::{Step, refusals};
-
-#[derive(Clone, Copy)]
-pub enum TableName {
-    Known(u32),
-    Unknown,
-}
+use columns::listed::ListedLine;
+use steps::{Fault, Step, line_fault, refusals};
 
 // The place of a table's name in the order of the sheet.
-pub fn table_named(name: &[u8]) -> TableName
-    ensures { (start : ℕ) → result ≡ name_answer (table_named (record { start = start; bytes = name.now })) }
+pub fn table_named(name: &[u8]) -> Option<u32>
+    ensures { (start : ℕ) → result ≡ table_named (record { start = start; bytes = name.now }) }
 {
     if texts::same_text(name, b"ORIGIN") {
-        return TableName::Known(0);
+        return Some(0);
     }
     if texts::same_text(name, b"EDITOR") {
-        return TableName::Known(1);
+        return Some(1);
     }
     if texts::same_text(name, b"WORDTAG") {
-        return TableName::Known(2);
+        return Some(2);
     }
     if texts::same_text(name, b"MORPHTAG") {
-        return TableName::Known(3);
+        return Some(3);
     }
     if texts::same_text(name, b"NODETAG") {
-        return TableName::Known(4);
+        return Some(4);
     }
     if texts::same_text(name, b"EDGETAG") {
-        return TableName::Known(5);
+        return Some(5);
     }
     if texts::same_text(name, b"SECEDGETAG") {
-        return TableName::Known(6);
+        return Some(6);
     }
-    TableName::Unknown
+    None
 }
 
 // The table that a line names behind its keyword.
-pub fn table_on(file: &[u8], line: Line, places: &Places) -> TableName
-    requires { Listed file.now line places.now }
-    ensures { result ≡ name_answer (table_named (written (columns_of file.now line) 1)) }
+pub fn table_on(line: &ListedLine) -> Option<u32>
+    ensures { result ≡ table_named (written (columns_in line.now) 1) }
 {
     if line.columns < 2 {
-        return TableName::Unknown;
+        return None;
     }
-    table_named(listing::column_text(file, line, places, 1))
+    table_named(line.column_text(1))
 }
 
 // A name that can't stand there, or none: then a column is missing.
-pub fn wrong_name(line: Line) -> Step
-    requires { line.start ≤ file_limit }
-    ensures { (file : List ℕ) (s : Step) → result ≡ asked (name_rules (line_of file line) line.columns false) s }
+pub fn wrong_name(line: &ListedLine) -> Fault
+    ensures { (s : Step) → Err result ≡ asked (name_rules (text_in line.now) line.now.columns false) s }
 {
     if line.columns < 2 {
-        return steps::refused(refusals::WRONG_COLUMNS, line.start);
+        return line_fault(refusals::WRONG_COLUMNS, line);
     }
-    steps::refused(refusals::CANNOT_STAND, line.start)
+    line_fault(refusals::CANNOT_STAND, line)
 }
 
 // A name that may stand there: the step, if nothing else does.
-pub fn with_name(line: Line, step: Step) -> Step
-    requires { line.start ≤ file_limit }
-    ensures { (file : List ℕ) → result ≡ asked (name_rules (line_of file line) line.columns true) step }
+pub fn with_name(line: &ListedLine, step: Step) -> Result<Step, Fault>
+    ensures { result ≡ asked (name_rules (text_in line.now) line.now.columns true) step }
 {
     if line.columns != 2 {
-        return steps::refused(refusals::WRONG_COLUMNS, line.start);
+        return Err(line_fault(refusals::WRONG_COLUMNS, line));
     }
-    step
+    Ok(step)
 }

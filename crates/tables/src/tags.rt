@@ -1,13 +1,13 @@
 // The rows of the five tables of tags: an id, a tag, for WORDTAG a flag, and a description up to the line's end.
 ghost use Rattle.std.specs.Prelude.{◌≡◌, not, ◌&&◌, List, ℕ, ◌+◌, ◌*◌, ◌≤◌, ◌<◌, length, eqb};
-ghost use Rattle.rules.specs.Bytes.{class_table, percents};
+ghost use Rattle.rules.specs.Bytes.{percents};
 ghost use Rattle.rules.specs.Texts.{at_most, reads};
 ghost use Rattle.rules.specs.Tables.{word_tags, tag_limit};
 ghost use Rattle.rules.specs.Rows.{last_id, follows, own_tag, tag_row};
 ghost use Rattle.rules.specs.Columns.{written};
 ghost use Rattle.rules.specs.Sheets.{table_count, row_width};
 ghost use Rattle.rules.specs.Lines.{taken_as, row_line};
-ghost use Rattle.columns.specs.Listing.{line_of, columns_of, Listed};
+ghost use Rattle.columns.specs.Lines.{text_in, columns_in};
 ghost use Rattle.steps.specs.Steps.{step_of};
 ghost use Rattle.table_sheet.specs.SheetRows.{rows_from};
 ghost use Rattle.table_sheet.specs.Standing.{Inside};
@@ -16,10 +16,9 @@ ghost use Rattle.tables.specs.RowTexts.{description_column, flag_of};
 ghost use Rattle.tables.specs.RowRules.{tag_in_place};
 
 use crate::rows;
-use columns::listing;
-use columns::listing::{Line, Places};
-use numbers::{Number, RowId};
-use steps::{Step, refusals};
+use columns::listed::ListedLine;
+use numbers::RowId;
+use steps::{Fault, RowSaid, Step, column_fault, line_fault, refusals, text_fault};
 
 const DESCRIPTION_LIMIT: u32 = 80;
 
@@ -28,17 +27,12 @@ pub fn own_tag(id1: u32, tag: &[u8]) -> bool
     ensures { (start : ℕ) → result ≡ own_tag id1 (record { start = start; bytes = tag.now }) }
 {
     let is_unknown = texts::same_text(tag, b"UNKNOWN");
-    if id1 == 0 {
-        return is_unknown;
-    }
     let is_dashes = columns::is_twice(tag, b'-');
-    if id1 == 1 {
-        return is_dashes;
+    match id1 {
+        0 => is_unknown,
+        1 => is_dashes,
+        _ => !is_dashes && !is_unknown,
     }
-    if is_dashes {
-        return false;
-    }
-    !is_unknown
 }
 
 // The ids of tags stand in order: -1 if given, 0 if given, then 1, 2, 3 without a gap, each here with one added.
@@ -85,10 +79,7 @@ pub fn tag_in_place(
 pub fn is_tag(table: usize, tag: &[u8]) -> bool
     ensures { (start : ℕ) → result ≡ (at_most (tag_limit table) (record { start = start; bytes = tag.now }) && not (reads percents (record { start = start; bytes = tag.now }))) }
 {
-    if citations::tag_limit(table) < tag.len() {
-        return false;
-    }
-    !columns::is_twice(tag, b'%')
+    tag.len() <= citations::tag_limit(table) && !columns::is_twice(tag, b'%')
 }
 
 // The column where a row's description starts.
@@ -103,65 +94,60 @@ fn description_column(table: usize) -> usize
 }
 
 // The flag of a row, 1 for Y; 0 too if its table has none.
-#[derive(Clone, Copy)]
-pub enum Flag {
-    Is(u32),
-    Wrong,
-}
-
-fn read_flag(file: &[u8], line: Line, places: &Places, table: usize) -> Flag
-    requires { Listed file.now line places.now × (table ≡ word_tags → 2 < line.columns) }
-    ensures { result ≡ flag_of (eqb table word_tags) (written (columns_of file.now line) 2) }
+fn read_flag(line: &ListedLine, table: usize) -> Option<u32>
+    requires { table ≡ word_tags → 2 < line.now.columns }
+    ensures { result ≡ flag_of (eqb table word_tags) (written (columns_in line.now) 2) }
 {
     if table != table_sheet::WORD_TAGS {
-        return Flag::Is(0);
+        return Some(0);
     }
-    let text = listing::column_text(file, line, places, 2);
+    let text = line.column_text(2);
     if texts::same_text(text, b"Y") {
-        return Flag::Is(1);
+        return Some(1);
     }
     if texts::same_text(text, b"N") {
-        return Flag::Is(0);
+        return Some(0);
     }
-    Flag::Wrong
+    None
 }
 
 pub fn tag_row(
-    file: &[u8],
-    line: Line,
-    places: &Places,
+    line: &ListedLine,
     table: usize,
     sheet: &[u32],
     outlines: &[u8; table_sheet::OUTLINES],
     place: usize,
     rows: usize,
-    classes: &[u8; 256],
-) -> Step
-    requires { (classes.now ≡ class_table) × Listed file.now line places.now × (0 < line.columns) × (place + row_width * rows ≤ length sheet.now) × Inside file.now sheet.now place rows × (table < table_count) × Outlined outlines.now file.now sheet.now table place rows }
-    ensures { result ≡ step_of (taken_as row_line (tag_row table (rows_from file.now sheet.now place rows) (line_of file.now line))) }
+) -> Result<Step, Fault>
+    requires { (0 < line.now.columns) × (place + row_width * rows ≤ length sheet.now) × Inside line.now.file.now sheet.now place rows × (table < table_count) × Outlined outlines.now line.now.file.now sheet.now table place rows }
+    ensures { result ≡ step_of (taken_as row_line (tag_row table (rows_from line.now.file.now sheet.now place rows) (text_in line.now))) }
 {
-    let described = listing::text_from(line, places, description_column(table));
+    let described = line.text_from(description_column(table));
     if described.len == 0 {
-        return steps::refused(refusals::WRONG_COLUMNS, line.start);
+        return Err(line_fault(refusals::WRONG_COLUMNS, line));
     }
-    let read = RowId::read(listing::column_text(file, line, places, 0), classes);
-    let Number::Good(id1) = read else {
-        return steps::refused_at(refusals::BAD_NUMBER, line, places, 0);
+    let Some(id1) = RowId::read(line.column_text(0)) else {
+        return Err(column_fault(refusals::BAD_NUMBER, line, 0));
     };
-    let tag = listing::column_text(file, line, places, 1);
-    let first = listing::column_span(line, places, 1);
+    let tag = line.column_text(1);
+    let first = line.column_span(1);
     if !is_tag(table, tag) {
-        return steps::refused_text(refusals::BAD_TEXT, first);
+        return Err(text_fault(refusals::BAD_TEXT, first));
     }
-    let said = read_flag(file, line, places, table);
-    let Flag::Is(flag) = said else {
-        return steps::refused_at(refusals::BAD_TEXT, line, places, 2);
+    let Some(flag) = read_flag(line, table) else {
+        return Err(column_fault(refusals::BAD_TEXT, line, 2));
     };
-    if DESCRIPTION_LIMIT < described.len {
-        return steps::refused_text(refusals::BAD_TEXT, described);
+    if described.len > DESCRIPTION_LIMIT {
+        return Err(text_fault(refusals::BAD_TEXT, described));
     }
-    if !tag_in_place(file, sheet, outlines, table, place, rows, id1, tag) {
-        return steps::refused(refusals::ROW_OUT_OF_PLACE, line.start);
+    if !tag_in_place(line.file, sheet, outlines, table, place, rows, id1, tag) {
+        return Err(line_fault(refusals::ROW_OUT_OF_PLACE, line));
     }
-    rows::with_room(line, rows, id1, first, described, flag)
+    let said = RowSaid {
+        id1,
+        first,
+        second: described,
+        flag,
+    };
+    rows::with_room(line, rows, said)
 }

@@ -72,7 +72,14 @@ digits_joined bs i m lo hi below front back k h = ap (λ (x : ℕ). x / 2 ^ (8 *
 abbrev pub Bytes : List ℕ → Type 0
 Bytes bs = (i : ℕ) → get_or bs i 0 < 256
 
--- eight bytes, each with its weight
+-- four or eight bytes, each with its weight
+pub four_sum : (bs : List ℕ) (i : ℕ)
+    → get_or bs i 0 + 256 * get_or bs (i + 1) 0 + 65536 * get_or bs (i + 2) 0 + 16777216 * get_or bs (i + 3) 0 ≡ four_at bs i
+unfolding four_at two_at
+four_sum bs i =
+    let three : i + 2 + 1 ≡ i + 3 = omega arith in
+    rw three (omega arith)
+
 pub eight_sum : (bs : List ℕ) (i : ℕ)
     → get_or bs i 0 + 256 * get_or bs (i + 1) 0 + 65536 * get_or bs (i + 2) 0 + 16777216 * get_or bs (i + 3) 0 + 4294967296 * get_or bs (i + 4) 0
     + 1099511627776 * get_or bs (i + 5) 0 + 281474976710656 * get_or bs (i + 6) 0 + 72057594037927936 * get_or bs (i + 7) 0

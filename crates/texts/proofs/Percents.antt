@@ -4,14 +4,17 @@ use Prim.Native.Nat.{ℕ, suc, ◌+◌, ◌-◌, ◌≤◌, ◌<◌, suc-le-suc}
 use native.Mathlib.Nat.{add-zero, add-suc, suc-add, le_of_suc-le-suc, not-suc-le-zero}
 use native.Mathlib.Numerals.{add-one, add-two}
 use native.Mathlib.Omega.{arith}
-use mathlib.Core.Path.{◌≡◌, refl, sym, ap, ◌∙◌}
-use mathlib.Core.Bool.{Bool, true, false, and-false}
+use mathlib.Core.Path.{◌≡◌, refl, sym, ap, ap₂, ◌∙◌}
+use mathlib.Core.Bool.{Bool, true, false, ◌&&◌, and-false, false≢true}
 use mathlib.Core.List.{List, [], ◌∷◌}
-use borrow.Author.Tests.{eq-eqb, ne_eqb, ltb-true, ltb-false}
+use borrow.Author.Tests.{ltb-true, ltb-false}
 use lib.ListN.{length, take, drop, get_or, length-drop, take-append-drop, drop_of_length-le}
 use lib.Dec.{eqb, ltb}
-use lib.Seq.{drop-drop, drop-cons, drop-append-le, take_at, length-take-le}
+use lib.Seq.{drop-drop, drop-cons, drop-append-le, take_at, take_all, length-take-le}
+use Rattle.std.specs.List.{starts_with}
+use Rattle.std.specs.Cmp.{nat_eq_equiv}
 use Rattle.rules.specs.Lists.{pick}
+use Rattle.rules.specs.Bytes.{percents}
 use Rattle.rules.specs.Texts.{no_text, trim_from, trim, starts_comment, front_bytes, behind_from}
 
 -- ---- the place
@@ -26,32 +29,40 @@ short [] h = refl
 short (a ∷ []) h = refl
 short (a ∷ b ∷ bs) h = absurd (not-suc-le-zero (le_of_suc-le-suc h))
 
-module _ (s : List ℕ) (i : ℕ) (h : i + 1 < length s) where
-  tail : drop (i + 1) s ≡ get_or s (i + 1) 0 ∷ drop (suc (i + 1)) s
-  tail = drop-cons s (i + 1) 0 h
+abbrev signs : List ℕ → Bool
+signs xs = starts_with eqb xs percents
 
-  two : drop i s ≡ get_or s i 0 ∷ get_or s (i + 1) 0 ∷ drop (suc (i + 1)) s
-  two =
-      let k : i < length s = omega arith in
-      drop-cons s i 0 k ∙ ap (λ (l : List ℕ). get_or s i 0 ∷ l) (ap (λ (n : ℕ). drop n s) (sym (add-one i)) ∙ tail)
+signs_two : (a b : ℕ) (bs : List ℕ) → signs (a ∷ b ∷ bs) ≡ starts_comment a b
+signs_two a b bs = ap₂ (λ (x y : Bool). x && (y && true)) (nat_eq_equiv.symm 37 a) (nat_eq_equiv.symm 37 b)
 
-  pub front_stop : get_or s i 0 ≡ 37 → get_or s (i + 1) 0 ≡ 37 → i + length (front_bytes (drop i s)) ≡ i
+stop : (xs : List ℕ) → signs xs ≡ true → length (front_bytes xs) ≡ 0
+unfolding front_bytes
+stop [] e = refl
+stop (a ∷ []) e = absurd (false≢true (sym (and-false (eqb 37 a)) ∙ e))
+stop (a ∷ b ∷ bs) e = rw (sym (signs_two a b bs) ∙ e)
+
+later : (x : ℕ) (xs : List ℕ) → signs (x ∷ xs) ≡ false → length (front_bytes (x ∷ xs)) ≡ suc (length (front_bytes xs))
+unfolding front_bytes
+later a [] e = refl
+later a (b ∷ bs) e = more a b bs (sym (signs_two a b bs) ∙ e)
+
+module _ (s : List ℕ) (i : ℕ) where
+  rest : take (length s - i) (drop i s) ≡ drop i s
+  rest = take_all (length s - i) (drop i s) (omega (arith, length-drop i s))
+
+  pub front_stop : signs (take (length s - i) (drop i s)) ≡ true → i + length (front_bytes (drop i s)) ≡ i
+  front_stop e = omega (arith, stop (drop i s) (ap signs (sym rest) ∙ e))
+
+  pub front_more : i < length s → signs (take (length s - i) (drop i s)) ≡ false
+      → i + length (front_bytes (drop i s)) ≡ i + 1 + length (front_bytes (drop (i + 1) s))
+  front_more h e =
+      let here : drop i s ≡ get_or s i 0 ∷ drop (suc i) s = drop-cons s i 0 h in
+      let none : signs (get_or s i 0 ∷ drop (suc i) s) ≡ false = ap signs (sym here ∙ sym rest) ∙ e in
+      rw (here, add-one i) (omega (arith, later (get_or s i 0) (drop (suc i) s) none))
+
+  pub front_end : length s ≤ i → i ≤ length s → i + length (front_bytes (drop i s)) ≡ length s
   unfolding front_bytes
-  front_stop e f = rw (two, eq-eqb (get_or s i 0) 37 e, eq-eqb (get_or s (i + 1) 0) 37 f, add-zero)
-
-  goes_on : starts_comment (get_or s i 0) (get_or s (i + 1) 0) ≡ false → i + length (front_bytes (drop i s)) ≡ i + 1 + length (front_bytes (drop (i + 1) s))
-  goes_on e = rw (two, tail) (omega (arith, more (get_or s i 0) (get_or s (i + 1) 0) (drop (suc (i + 1)) s) e))
-
-  pub front_first : (get_or s i 0 ≡ 37 → ⊥) → i + length (front_bytes (drop i s)) ≡ i + 1 + length (front_bytes (drop (i + 1) s))
-  front_first d = goes_on (rw (ne_eqb (get_or s i 0) 37 d))
-
-  pub front_second : (get_or s (i + 1) 0 ≡ 37 → ⊥) → i + length (front_bytes (drop i s)) ≡ i + 1 + length (front_bytes (drop (i + 1) s))
-  front_second d = goes_on (rw (ne_eqb (get_or s (i + 1) 0) 37 d) (and-false (eqb (get_or s i 0) 37)))
-
-pub front_end : (s : List ℕ) (i : ℕ) → i ≤ length s → length s ≤ i + 1 → i + length (front_bytes (drop i s)) ≡ length s
-front_end s i h k =
-    let l : length (drop i s) ≡ length s - i = length-drop i s in
-    omega (arith, short (drop i s) (omega arith))
+  front_end h k = rw (drop_of_length-le s h) (omega arith)
 
 -- ---- what stands in front, and what behind
 

@@ -5,27 +5,11 @@ pub mod words;
 
 ghost use Rattle.std.specs.Prelude.{◌≡◌, ◌+◌, ◌≤◌, length, drop};
 ghost use Rattle.rules.specs.Lists.{same};
-ghost use Rattle.rules.specs.Bytes.{class_table};
 ghost use Rattle.rules.specs.Texts.{right_trim, trim_from, front_bytes};
 ghost use Rattle.rules.specs.Numbers.{file_limit};
 ghost use Rattle.columns.specs.Listing.{span_of};
 
 use columns::listing::Span;
-
-// Byte by byte, from the first.
-fn same_bytes(a: &[u8], b: &[u8]) -> bool
-    requires { length a.now ≡ length b.now }
-    ensures { result ≡ same a.now b.now }
-{
-    let mut i = 0;
-    while i < a.len() {
-        if a[i] != b[i] {
-            return false;
-        }
-        i += 1;
-    }
-    true
-}
 
 // Fewer than four bytes: the last one first.
 fn same_few(a: &[u8], b: &[u8]) -> bool
@@ -39,7 +23,7 @@ fn same_few(a: &[u8], b: &[u8]) -> bool
     if a[n - 1] != b[n - 1] {
         return false;
     }
-    same_bytes(a, b)
+    a == b
 }
 
 // The lengths are compared first, then what holds the last byte, then the rest. Tags are compared most often, and have 4 to 16
@@ -60,37 +44,32 @@ pub fn same_text(a: &[u8], b: &[u8]) -> bool
     if n <= 16 {
         return words::same_eights(a, b);
     }
-    if words::differ_early(a, b) {
-        return false;
-    }
-    same_bytes(a, b)
+    !words::differ_early(a, b) && a == b
 }
 
 // The place behind the last byte from `start` on that isn't white, or `start`.
-pub fn trimmed_end(head: &[u8], start: usize, classes: &[u8; 256]) -> usize
-    requires { (classes.now ≡ class_table) × (start ≤ length head.now) }
+pub fn trimmed_end(head: &[u8], start: usize) -> usize
+    requires { start ≤ length head.now }
     ensures { result ≡ start + length (right_trim (drop start head.now)) }
 {
-    let mut end = head.len();
-    while start < end {
-        if !columns::is_white(head[end - 1], classes) {
-            return end;
+    for last in (start..head.len()).rev() {
+        if !columns::is_white(head[last]) {
+            return last + 1;
         }
-        end -= 1;
     }
-    end
+    start
 }
 
 // The bytes from `at` on, without the white ones at both ends.
-pub fn trim(head: &[u8], at: usize, classes: &[u8; 256]) -> Span
-    requires { (classes.now ≡ class_table) × (length head.now ≤ file_limit) }
+pub fn trim(head: &[u8], at: usize) -> Span
+    requires { length head.now ≤ file_limit }
     ensures { result ≡ span_of (trim_from at (drop at head.now)) }
 {
-    let start = columns::skip_run(head, at, false, classes);
+    let start = columns::skip_run(head, at, false);
     if head.len() <= start {
         return Span { start: 0, len: 0 };
     }
-    let end = trimmed_end(head, start, classes);
+    let end = trimmed_end(head, start);
     Span {
         start: start as u32,
         len: (end - start) as u32,
@@ -102,14 +81,10 @@ pub fn percents_from(head: &[u8], at: usize) -> usize
     requires { at ≤ length head.now }
     ensures { result ≡ at + length (front_bytes (drop at head.now)) }
 {
-    let mut i = at;
-    while i + 1 < head.len() {
-        if head[i] == b'%' {
-            if head[i + 1] == b'%' {
-                return i;
-            }
+    for i in at..head.len() {
+        if head[i..].starts_with(b"%%") {
+            return i;
         }
-        i += 1;
     }
     head.len()
 }

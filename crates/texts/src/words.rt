@@ -1,51 +1,30 @@
 // Four or eight bytes as one number each: two texts are compared at their back, which holds their last byte, and at their front.
 ghost use Rattle.std.specs.Prelude.{◌≡◌, true, false, ◌+◌, ◌≤◌, ◌<◌, length, take, drop};
 ghost use Rattle.rules.specs.Lists.{same};
-ghost use Rattle.texts.specs.Words.{two_at, four_at, eight_at, front_at};
-
-fn wide(b: u8) -> u32
-    ensures { (result ≡ b) × (result < 256) }
-{
-    b as u32
-}
+ghost use Rattle.texts.specs.Words.{four_at, eight_at, front_at};
 
 // The first byte weighs 1, the next 256.
-fn two_at(text: &[u8], at: usize) -> u32
-    requires { at + 2 ≤ length text.now }
-    ensures { (result ≡ two_at text.now at) × (result < 65536) }
-{
-    let back = wide(text[at + 1]);
-    wide(text[at]) + 256 * back
-}
-
 pub fn four_at(text: &[u8], at: usize) -> u32
     requires { at + 4 ≤ length text.now }
     ensures { (result ≡ four_at text.now at) × (result < 4294967296) }
 {
-    let back = two_at(text, at + 2);
-    two_at(text, at) + 65536 * back
+    u32::from_le_bytes([text[at], text[at + 1], text[at + 2], text[at + 3]])
 }
 
-fn long(b: u8) -> u64
-    ensures { (result ≡ b) × (result < 256) }
-{
-    b as u64
-}
-
-// One sum, not two halves: so it is compiled to one load on Arm too.
 pub fn eight_at(text: &[u8], at: usize) -> u64
     requires { at + 8 ≤ length text.now }
     ensures { result ≡ eight_at text.now at }
 {
-    let front = long(text[at])
-        + 256 * long(text[at + 1])
-        + 65536 * long(text[at + 2])
-        + 16777216 * long(text[at + 3]);
-    front
-        + 4294967296 * long(text[at + 4])
-        + 1099511627776 * long(text[at + 5])
-        + 281474976710656 * long(text[at + 6])
-        + 72057594037927936 * long(text[at + 7])
+    u64::from_le_bytes([
+        text[at],
+        text[at + 1],
+        text[at + 2],
+        text[at + 3],
+        text[at + 4],
+        text[at + 5],
+        text[at + 6],
+        text[at + 7],
+    ])
 }
 
 // Texts of 4 to 8 bytes.

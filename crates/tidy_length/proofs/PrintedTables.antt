@@ -4,7 +4,7 @@ use Prim.Native.Nat.{ℕ, zero, suc, ◌+◌, ◌*◌, ◌≤◌}
 use native.Mathlib.Omega.{arith}
 use mathlib.Core.Path.{◌≡◌, refl, ap, ◌∙◌}
 use mathlib.Core.Bool.{Bool, true, false, not, false≢true}
-use mathlib.Core.Option.{Option, none, some}
+use Rattle.std.specs.Prelude.{Option, None, Some}
 use mathlib.Core.List.{List, [], ◌∷◌, ◌++◌, map}
 use lib.ListN.{length, length-append}
 use borrow.Author.Tests.{ne_eqb}
@@ -106,17 +106,17 @@ two_a_row r = by (given r.second)
 
 pub signs_few : (ts : Tables) → TablesKept 0 ts → signs_room (rows_of (table origins ts)) ≤ 2 * row_limit
 signs_few [] k = omega arith
-signs_few (none ∷ ts) k = omega arith
-signs_few (some rs ∷ ts) k = omega (arith, total_few row_id sign_room 2 two_a_row rs, rows_few 0 [] rs k.0 (omega arith))
+signs_few (None ∷ ts) k = omega arith
+signs_few (Some rs ∷ ts) k = omega (arith, total_few row_id sign_room 2 two_a_row rs, rows_few 0 [] rs k.0 (omega arith))
 
 -- ---- tables
 
-table_printed : (n : ℕ) (rs : List Row) → length (table_text n (some (map bare_row rs))) ≡ named_room (bytes "#BOT") n + rows_printed n rs + named_room (bytes "#EOT") n
+table_printed : (n : ℕ) (rs : List Row) → length (table_text n (Some (map bare_row rs))) ≡ named_room (bytes "#BOT") n + rows_printed n rs + named_room (bytes "#EOT") n
 table_printed n rs =
     let top = keyword_line (bytes "#BOT" ∷ table_name n ∷ []) in
     let rows = joined (map (row_line n) (map bare_row rs)) in
     let end = keyword_line (bytes "#EOT" ∷ table_name n ∷ []) in
-    let text : length (table_text n (some (map bare_row rs))) ≡ length ((top ++ rows) ++ end) = refl in
+    let text : length (table_text n (Some (map bare_row rs))) ≡ length ((top ++ rows) ++ end) = refl in
     omega (
       arith,
       length-append (top ++ rows) end,
@@ -129,20 +129,20 @@ sorted_printed : (n : ℕ) (rs : List Row) → rows_printed n (sorted row_id rs)
 sorted_printed n rs = total_sorted row_id (λ (r : Row). length (row_line n r)) rs
 
 origin_table : (t : Option (List Row)) → TableKept 0 t → length (table_text 0 (meant_rows (by_id t))) ≤ table_room 0 t + signs_room (rows_of t)
-origin_table none k = omega arith
-origin_table (some rs) k = omega (arith, table_printed 0 (sorted row_id rs), sorted_printed 0 rs, origins_printed rs k)
+origin_table None k = omega arith
+origin_table (Some rs) k = omega (arith, table_printed 0 (sorted row_id rs), sorted_printed 0 rs, origins_printed rs k)
 
 editor_table : (t : Option (List Row)) → TableKept 1 t → length (table_text 1 (meant_rows (by_id t))) ≤ table_room 1 t
-editor_table none k = omega arith
-editor_table (some rs) k = omega (arith, table_printed 1 (sorted row_id rs), sorted_printed 1 rs, others_printed 0 rs k)
+editor_table None k = omega arith
+editor_table (Some rs) k = omega (arith, table_printed 1 (sorted row_id rs), sorted_printed 1 rs, others_printed 0 rs k)
 
 tag_tables : (n : ℕ) (ts : Tables) → TablesKept (suc n) ts → length (tables_text (suc n) (map meant_rows ts)) ≤ tables_room (suc n) ts
 tag_tables n [] k = omega arith
-tag_tables n (none ∷ ts) k = omega (arith, tag_tables (suc n) ts k.1)
-tag_tables n (some rs ∷ ts) k =
+tag_tables n (None ∷ ts) k = omega (arith, tag_tables (suc n) ts k.1)
+tag_tables n (Some rs ∷ ts) k =
     omega (
       arith,
-      length-append (table_text (suc n) (some (map bare_row rs))) (tables_text (suc (suc n)) (map meant_rows ts)),
+      length-append (table_text (suc n) (Some (map bare_row rs))) (tables_text (suc (suc n)) (map meant_rows ts)),
       table_printed (suc n) rs,
       others_printed n rs k.0,
       tag_tables (suc n) ts k.1,

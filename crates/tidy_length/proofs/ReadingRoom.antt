@@ -4,7 +4,7 @@ use Prim.Native.Nat.{ℕ, suc, ◌+◌, ◌≤◌}
 use native.Mathlib.Omega.{arith}
 use mathlib.Core.Path.{◌≡◌, refl}
 use mathlib.Core.Bool.{Bool, true, false}
-use mathlib.Core.Option.{Option, none, some}
+use Rattle.std.specs.Prelude.{Option, None, Some}
 use mathlib.Core.List.{List, [], ◌∷◌, reverse}
 use lib.ListN.{length, length-reverse}
 use lib.Dec.{eqb}
@@ -19,7 +19,7 @@ use Rattle.tidy_length.proofs.StepsHaveRoom.{step_room}
 
 -- with so many bytes read
 abbrev pub Within : Reading → ℕ → Type 0
-Within r n = r.fault ≡ none → handed_room r.handed + phase_room r.phase + length r.part ≤ n
+Within r n = r.fault ≡ None → handed_room r.handed + phase_room r.phase + length r.part ≤ n
 
 module _ (r : Reading) (n : ℕ) (k : handed_room r.handed + phase_room r.phase + length r.part ≤ n) where
   ended_within : (a : Answer) → NoMore r.phase (reverse r.part) a → Within (ended r a) (suc n)
@@ -37,8 +37,8 @@ byte_within r b n k = by r.fault refl
     at_line false h = λ e. omega arith
 
     by : (o : Option Fault) → r.fault ≡ o → Within (byte_unless o r b) (suc n)
-    by none e = at_line (eqb b newline) (k e)
-    by (some f) e = λ q. absurd (never_some f q)
+    by None e = at_line (eqb b newline) (k e)
+    by (Some f) e = λ q. absurd (never_some f q)
 
 pub read_within : (r : Reading) (bs : List ℕ) (n : ℕ) → Within r n → Within (read r bs) (n + length bs)
 read_within r [] n k e = omega (arith, k e)

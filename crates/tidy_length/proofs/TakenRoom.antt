@@ -4,7 +4,7 @@ use Prim.Native.Nat.{ℕ, zero, suc, ◌+◌, ◌*◌, ◌≤◌}
 use native.Mathlib.Nat.{add-zero, add-suc, suc-add, mul-suc}
 use native.Mathlib.Omega.{arith}
 use mathlib.Core.Path.{◌≡◌, refl, sym, ◌∙◌, subst}
-use mathlib.Core.Option.{Option, none, some}
+use Rattle.std.specs.Prelude.{Option, None, Some}
 use mathlib.Core.List.{List, [], ◌∷◌, ◌++◌, map}
 use lib.ListN.{length, length-append, set}
 use Rattle.rules.specs.Lists.{bytes, joined, Each}
@@ -59,21 +59,21 @@ abbrev pub named_room : List ℕ → ℕ → ℕ
 named_room keyword n = length (keyword_line (keyword ∷ table_name n ∷ []))
 
 abbrev pub table_room : ℕ → Option (List Row) → ℕ
-table_room n none = 0
-table_room n (some rs) = named_room (bytes "#BOT") n + rows_room n rs + named_room (bytes "#EOT") n
+table_room n None = 0
+table_room n (Some rs) = named_room (bytes "#BOT") n + rows_room n rs + named_room (bytes "#EOT") n
 
 -- the tables from the n-th on
 abbrev pub tables_room : ℕ → Tables → ℕ
 tables_room n [] = 0
 tables_room n (t ∷ ts) = table_room n t + tables_room (suc n) ts
 
-pub closed_room : (k n : ℕ) (ts : Tables) (rs : List Row) → tables_room k (set ts n (some rs)) ≤ tables_room k ts + table_room (k + n) (some rs)
+pub closed_room : (k n : ℕ) (ts : Tables) (rs : List Row) → tables_room k (set ts n (Some rs)) ≤ tables_room k ts + table_room (k + n) (Some rs)
 closed_room k n [] rs = omega arith
 closed_room k zero (t ∷ ts) rs = rw add-zero (omega arith)
 closed_room k (suc n) (t ∷ ts) rs =
     let same_table : suc k + n ≡ k + suc n = suc-add k n ∙ sym (add-suc k n) in
-    let more : tables_room (suc k) (set ts n (some rs)) ≤ tables_room (suc k) ts + table_room (k + suc n) (some rs) =
-    subst (λ (i : ℕ). tables_room (suc k) (set ts n (some rs)) ≤ tables_room (suc k) ts + table_room i (some rs)) same_table (closed_room (suc k) n ts rs) in
+    let more : tables_room (suc k) (set ts n (Some rs)) ≤ tables_room (suc k) ts + table_room (k + suc n) (Some rs) =
+    subst (λ (i : ℕ). tables_room (suc k) (set ts n (Some rs)) ≤ tables_room (suc k) ts + table_room i (Some rs)) same_table (closed_room (suc k) n ts rs) in
     omega arith
 
 abbrev pub format_room : ℕ → ℕ

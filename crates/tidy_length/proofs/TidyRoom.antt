@@ -4,7 +4,7 @@ use Prim.Native.Nat.{ℕ, suc, ◌+◌, ◌*◌, ◌≤◌}
 use native.Mathlib.Omega.{arith}
 use mathlib.Core.Path.{◌≡◌, refl, sym, ap, ◌∙◌, subst}
 use mathlib.Core.Bool.{Bool, true, false}
-use mathlib.Core.Option.{Option, none, some}
+use Rattle.std.specs.Prelude.{Option, None, Some}
 use mathlib.Core.List.{List, [], ◌∷◌, ◌++◌, map}
 use lib.ListN.{length, length-append}
 use borrow.Author.Tests.{le-leb}
@@ -34,7 +34,7 @@ never_zero : (n : ℕ) → ◌≡◌ {A = ℕ} (suc n) 0 → ⊥
 never_zero n e = omega (arith, e)
 
 record Accepted (r : Reading) : Type 0 where
-  no_fault_lem : r.fault ≡ none
+  no_fault_lem : r.fault ≡ None
   ends : at_end r.phase ≡ 0
 
 accepted : (r : Reading) → ReadingKept r → (verdict r).number ≡ 0 → Accepted r
@@ -45,8 +45,8 @@ accepted r k e = by r.fault refl e
     whole (b ∷ bs) e = absurd (never_zero 2 e)
 
     by : (o : Option Fault) → r.fault ≡ o → (closing_unless o r).number ≡ 0 → Accepted r
-    by none q e = record { no_fault_lem = q; ends = whole r.part e }
-    by (some f) q e = absurd (omega (arith, k.fault f q))
+    by None q e = record { no_fault_lem = q; ends = whole r.part e }
+    by (Some f) q e = absurd (omega (arith, k.fault f q))
 
 -- it stands behind its tables or behind a sentence
 preamble_room : (phase : Phase) → at_end phase ≡ 0 → phase_room phase ≡ format_room (format_at phase) + tables_room 0 (tables_at phase)

@@ -5,7 +5,7 @@ use native.Mathlib.Omega.{arith}
 use mathlib.Core.Path.{◌≡◌, refl, sym, ap, ◌∙◌}
 use mathlib.Core.Logic.{◌⊎◌, inl, inr}
 use mathlib.Core.Bool.{Bool, true, false}
-use mathlib.Core.Option.{some}
+use Rattle.std.specs.Prelude.{Some}
 use mathlib.Core.List.{List, [], ◌∷◌, map}
 use lib.ListN.{length, get_or}
 use lib.Dec.{eqb}
@@ -99,7 +99,7 @@ module _ (file : List ℕ) (s : Sentence) (p : Printable file s) (laid : Sentenc
 -- ---- every sentence handed out
 
 abbrev There : List ℕ → Handed → Type 0
-There file h = sentence_from file h.sentence.start ≡ some h.sentence
+There file h = sentence_from file h.sentence.start ≡ Some h.sentence
 
 module _ (file : List ℕ) where
   abbrev handed : List Handed

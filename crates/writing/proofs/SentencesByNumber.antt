@@ -4,7 +4,7 @@ use Prim.Native.Nat.{ℕ, suc, ◌<◌}
 use native.Mathlib.Omega.{arith}
 use mathlib.Core.Path.{◌≡◌, refl, sym, ap, ap₂, ◌∙◌}
 use mathlib.Core.Bool.{Bool, true, false}
-use mathlib.Core.Option.{some}
+use Rattle.std.specs.Prelude.{Some}
 use mathlib.Core.List.{List, [], ◌∷◌, ◌++◌, map}
 use lib.Dec.{eqb}
 use Rattle.rules.specs.Lists.{pick, bytes, joined, counting, sorted, Each}
@@ -35,7 +35,7 @@ printed h = sentence_text (meant h)
 
 module _ (file : List ℕ) where
   -- what is printed of a number begins where the number's sentence does
-  numbered_from : (n : ℕ) (hs : List Handed) → Each (λ (h : Handed). sentence_from file h.sentence.start ≡ some h.sentence) hs
+  numbered_from : (n : ℕ) (hs : List Handed) → Each (λ (h : Handed). sentence_from file h.sentence.start ≡ Some h.sentence) hs
       → numbered handed_number printed hs n ≡ text_from file (beginning hs n)
   unfolding text_from found_text
   numbered_from n [] a = refl

@@ -2,7 +2,7 @@
 use Prim.Native.Nat.{ℕ, suc, ◌≤◌, ◌<◌}
 use native.Mathlib.Omega.{arith}
 use mathlib.Core.Path.{◌≡◌}
-use mathlib.Core.Option.{Option, none, some}
+use Rattle.std.specs.Prelude.{Option, None, Some}
 use mathlib.Core.List.{List}
 use lib.ListN.{get_or}
 use Rattle.rules.specs.Numbers.{row_limit}
@@ -18,8 +18,8 @@ use Rattle.table_text.specs.WholeSheets.{WholeSheet}
 -- ---- room
 
 count_bound : (t : Option (List Row)) → TableHasRoom t → count t ≤ suc row_limit
-count_bound none h = omega arith
-count_bound (some rs) h = omega (arith, h)
+count_bound None h = omega arith
+count_bound (Some rs) h = omega (arith, h)
 
 -- ---- any file
 
@@ -34,6 +34,6 @@ module _ (file : List ℕ) where
   tables_told =
       record {
         size = length_table_sheet ts (have_room file);
-        counts = λ n h. rw (count_is n h) (count_bound (table n ts) (each_at TableHasRoom ts n none (have_room file).room (omega (arith, (have_room file).seven))));
+        counts = λ n h. rw (count_is n h) (count_bound (table n ts) (each_at TableHasRoom ts n None (have_room file).room (omega (arith, (have_room file).seven))));
         inside = (sheet_tabled file).inside;
       }

@@ -1,6 +1,5 @@
 -- What is known of a sentence that the index finds, so that it can be read, printed and cleared.
-use Rattle.std.specs.Prelude.{ℕ, zero, suc, ◌≤◌, ◌≡◌, List, length}
-use Rattle.std.proofs.Math.Option.{some}
+use Rattle.std.specs.Prelude.{ℕ, zero, suc, ◌≤◌, ◌≡◌, List, length, Some}
 use Rattle.rules.specs.Sentences.{Sentence}
 use Rattle.rules.specs.SentenceFrom.{sentence_from}
 use Rattle.rules.specs.Sheets.{nodes, sentence_sheet}
@@ -18,7 +17,7 @@ pub record ReadyToPrint (file : List ℕ) (s : Sentence) : Type 0 where
 
 pub record Found (file : List ℕ) (place : ℕ) : Type 0 where
   pub sentence : Sentence
-  pub its : sentence_from file place ≡ some sentence
+  pub its : sentence_from file place ≡ Some sentence
   pub ready : ReadyToPrint file sentence
 
 -- by one more than the place where the sentence begins, or 0 for none

@@ -1,6 +1,5 @@
 -- Document 01, "Tidy text", by parts: the format line, the tables, and sentence by sentence from where each begins.
-use Rattle.std.specs.Prelude.{ℕ, zero, suc, ◌+◌, ◌*◌, length, List, [], ◌++◌, map}
-use Rattle.std.proofs.Math.Option.{Option, none, some}
+use Rattle.std.specs.Prelude.{ℕ, zero, suc, ◌+◌, ◌*◌, length, List, [], ◌++◌, map, Option, None, Some}
 use Rattle.rules.specs.Lists.{bytes, joined}
 use Rattle.rules.specs.Numbers.{line_limit}
 use Rattle.rules.specs.Sentences.{Sentence}
@@ -16,8 +15,8 @@ format_text = bytes "#FORMAT 3\n"
 
 -- nothing where there is no sentence
 unfoldable pub found_text : Option Sentence → List ℕ
-found_text none = []
-found_text (some s) = sentence_text (meant_sentence s)
+found_text None = []
+found_text (Some s) = sentence_text (meant_sentence s)
 
 -- by one more than the place where the sentence begins, or 0 for none
 unfoldable pub text_from : List ℕ → ℕ → List ℕ

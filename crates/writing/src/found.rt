@@ -1,7 +1,6 @@
 // The sentences of a file by their numbers, each read where an index says that it begins, printed and cleared.
 ghost use Rattle.std.specs.Prelude.{◌≡◌, ◌+◌, ◌*◌, ◌≤◌, length, replicate};
 ghost use Rattle.rules.specs.Lists.{Each};
-ghost use Rattle.rules.specs.Bytes.{class_table};
 ghost use Rattle.rules.specs.Numbers.{file_limit, edge_limit};
 ghost use Rattle.rules.specs.Index.{index_size};
 ghost use Rattle.rules.specs.SheetFields.{node_room};
@@ -29,20 +28,17 @@ fn print_begun(
     marks: &mut [u32; MARKS],
     places: &mut Places,
     hints: &[u8; table_sheet::HINTS],
-    classes: &[u8; 256],
     out: &mut [u8],
     at: usize,
 ) -> usize
-    requires { (classes.now ≡ class_table) × (length file.now ≤ file_limit) × Entry file.now begin × (sheet.old ≡ replicate sentence_sheet_size 0) × (edges.old ≡ replicate (edge_limit * edge_width) 0) × (firsts.old ≡ replicate node_room 0) × (at + sentence_most ≤ farthest) × (handed ≤ file_limit) × MarkedUpTo handed marks.old }
+    requires { (length file.now ≤ file_limit) × Entry file.now begin × (sheet.old ≡ replicate sentence_sheet_size 0) × (edges.old ≡ replicate (edge_limit * edge_width) 0) × (firsts.old ≡ replicate node_room 0) × (at + sentence_most ≤ farthest) × (handed ≤ file_limit) × MarkedUpTo handed marks.old }
     ensures { Put sentence_long (text_from file.now begin) at out.old result out.new × (sheet.new ≡ replicate sentence_sheet_size 0) × (edges.new ≡ replicate (edge_limit * edge_width) 0) × (firsts.new ≡ replicate node_room 0) × MarkedUpTo (handed + 1) marks.new }
 {
     if begin == 0 {
         return at;
     }
     let place = (begin - 1) as usize;
-    sentences::read_into(
-        file, place, handed, sheet, edges, marks, places, hints, classes,
-    );
+    sentences::read_into(file, place, handed, sheet, edges, marks, places, hints);
     let end = sentence_text::print_sentence(file, sheet, edges, firsts, out, at);
     sentences::clearing::clear_used(sheet, edges);
     end
@@ -59,7 +55,6 @@ pub fn print_sentences(
     requires { (length file.now ≤ file_limit) × Each (Entry file.now) begins.now × (length begins.now ≤ index_size) × (sheet.old ≡ replicate sentence_sheet_size 0) × (edges.old ≡ replicate (edge_limit * edge_width) 0) × (at + (sentences_most + sentence_most) ≤ farthest) }
     ensures { Put sentences_most (sentences_text file.now begins.now) at out.old result out.new × (sheet.new ≡ replicate sentence_sheet_size 0) × (edges.new ≡ replicate (edge_limit * edge_width) 0) }
 {
-    let classes = classes::byte_classes();
     let hints = [0u8; table_sheet::HINTS];
     let mut firsts = [0u32; sentence_sheet::NODE_ROOM];
     let mut marks = [0u32; MARKS];
@@ -78,7 +73,6 @@ pub fn print_sentences(
             &mut marks,
             &mut places,
             &hints,
-            &classes,
             out,
             end,
         );

@@ -1,11 +1,9 @@
 -- `citations::has_row` meets its contract: an absent table has no rows, and the rows of another are looked through.
-use mathlib.Core.Option.{Option}
+use Rattle.std.specs.Prelude.{Option, is_some}
 use Rattle.rules.specs.Tables.{Row, has_id, rows_of}
 use Rattle.table_sheet.specs.SheetRows.{rows_from}
-use Rattle.table_sheet.specs.LookUps.{is_found}
 use Rattle.table_sheet.proofs.LookUps.{id_found_lem}
 use Rattle.citations.proofs.TablesThere.{table_absent, table_there, rows_in_sheet}
-use native.Mathlib.Omega.{arith}
 use Prim.Native.Nat.{ℕ, ◌+◌, ◌-◌, ◌*◌, ◌≤◌}
 use mathlib.Core.Path.{◌≡◌, sym, ap, ◌∙◌}
 use mathlib.Core.Bool.{Bool}
@@ -17,9 +15,6 @@ use Rattle.citations.proofs.has_row.Goals as goal
 
 abbrev among : ℕ → Option (List Row) → Bool
 among id1 rows = has_id id1 (rows_of rows)
-
-pub overflow_cast-count : goal.overflow_cast-count
-overflow_cast-count c = omega (arith, c.shared_slice_known-2-1.given c.args.table)
 
 pub returns-then-count-eq0 : goal.returns-then-count-eq0
 unfolding has_id
@@ -40,8 +35,8 @@ returns c file =
     ap (λ (p : ℕ). has_id a.id1 (rows_from file a.sheet.now p rows)) c.row_place-place.ensures
     ∙ sym (ap (among a.id1) (table_there file a.sheet.now a.table c.requires.1 c.if-count-eq0.false)) in
     let a = c.args in
-    c.is_row.ensures
-    ∙ ap is_found (c.find_id-row.ensures file)
+    c.is_some.ensures
+    ∙ ap is_some (c.find_id.ensures file)
     ∙ id_found_lem a.id1 (rows_from file a.sheet.now c.row_place-place.result (get_or a.sheet.now a.table 0 - 1))
     ∙ in_table file
 
@@ -50,7 +45,7 @@ counts_up_to-requires c =
     let room : c.row_place-place.result + row_width * (get_or c.args.sheet.now c.args.table 0 - 1) ≤ length c.args.sheet.now = rw c.row_place-place.ensures (rows_in_sheet [] c.args.sheet.now c.args.table c.requires.1 c.requires.0 c.if-count-eq0.false) in
     room
 
-pub find_id-row-requires : goal.find_id-row-requires
-find_id-row-requires c =
+pub find_id-requires : goal.find_id-requires
+find_id-requires c =
     let room : c.row_place-place.result + row_width * (get_or c.args.sheet.now c.args.table 0 - 1) ≤ length c.args.sheet.now = rw c.row_place-place.ensures (rows_in_sheet [] c.args.sheet.now c.args.table c.requires.1 c.requires.0 c.if-count-eq0.false) in
     room

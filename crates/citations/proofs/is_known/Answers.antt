@@ -1,5 +1,4 @@
 -- `citations::is_known` meets its contract: -- and UNKNOWN are known, and any tag of an absent table; else a row has the tag.
-use native.Mathlib.Omega.{arith}
 use Prim.Native.Nat.{ℕ, ◌-◌}
 use mathlib.Core.Path.{sym, ap, subst, ◌∙◌}
 use lib.ListN.{get_or}
@@ -11,9 +10,6 @@ use Rattle.table_sheet.specs.Standing.{Inside}
 use Rattle.table_sheet.proofs.LookUps.{tag_found}
 use Rattle.citations.proofs.TablesThere.{table_absent, table_there, rows_in_sheet, known_dashes, known_unknown, known_absent, known_there}
 use Rattle.citations.proofs.is_known.Goals as goal
-
-pub overflow_cast-count : goal.overflow_cast-count
-overflow_cast-count c = omega (arith, c.shared_slice_known-4-1.given c.args.table)
 
 pub returns-then-count-eq0 : goal.returns-then-count-eq0
 returns-then-count-eq0 c start =
@@ -30,8 +26,8 @@ returns-then-is_unknown c start =
     let tag : ℕ → Text = λ start. record { start = start; bytes = c.args.tag.now } in
     sym (known_unknown (tables_in c.args.file.now c.args.sheet.now) c.args.table (tag start) (sym c.is_unknown.ensures ∙ c.if-is_unknown.true))
 
-pub find_tag-found-requires : goal.find_tag-found-requires
-find_tag-found-requires c =
+pub find_tag-requires : goal.find_tag-requires
+find_tag-requires c =
     let n = c.args.table in
     let room = rows_in_sheet c.args.file.now c.args.sheet.now n c.requires.1 c.requires.0.counted c.if-count-eq0.false in (
       c.requires.1,
@@ -45,8 +41,8 @@ returns c start =
     let n = c.args.table in
     let rows = get_or c.args.sheet.now n 0 - 1 in
     let bytes = c.args.tag.now in
-    c.is_row.ensures
-    ∙ tag_found bytes (rows_from c.args.file.now c.args.sheet.now c.row_place-place.result rows) c.find_tag-found.result c.find_tag-found.ensures
+    c.is_some.ensures
+    ∙ tag_found bytes (rows_from c.args.file.now c.args.sheet.now c.row_place-place.result rows) c.find_tag.result c.find_tag.ensures
     ∙ ap (λ (p : ℕ). tag_among bytes (rows_from c.args.file.now c.args.sheet.now p rows)) c.row_place-place.ensures
     ∙ sym (known_there (tables_in c.args.file.now c.args.sheet.now) n (tag start) (rows_from c.args.file.now c.args.sheet.now (row_place n 0) rows)
     (table_there c.args.file.now c.args.sheet.now n c.requires.1 c.if-count-eq0.false)

@@ -3,7 +3,6 @@
 use native.Mathlib.Omega.{arith}
 use Prim.Native.Nat.{ℕ, ◌-◌}
 use mathlib.Core.Path.{sym, ap, subst, ◌∙◌}
-use mathlib.Core.Bool.{false≢true}
 use lib.ListN.{get_or, take, drop}
 use Rattle.rules.specs.Texts.{Text}
 use Rattle.rules.specs.Sheets.{row_place}
@@ -13,16 +12,10 @@ use Rattle.table_sheet.specs.Standing.{Inside}
 use Rattle.citations.proofs.TablesThere.{table_absent, table_there, rows_in_sheet, known_dashes, known_absent, known_row}
 use Rattle.citations.proofs.is_surely_known.Goals as goal
 
-pub returns-then-file-start : goal.returns-then-file-start
-returns-then-file-start c e = absurd (false≢true e)
-
 pub returns-then-is_dashes : goal.returns-then-is_dashes
 returns-then-is_dashes c e at =
     let tag : ℕ → Text = λ at. record { start = at; bytes = take c.args.len (drop c.args.start c.args.file.now) } in
     known_dashes (tables_in c.args.file.now c.args.sheet.now) c.args.table (tag at) (c.is_dashes.ensures c.if-is_dashes.true)
-
-pub overflow_cast-count : goal.overflow_cast-count
-overflow_cast-count c = omega (arith, c.shared_slice_known-3-1.given c.args.table)
 
 pub returns-then-count-eq0 : goal.returns-then-count-eq0
 returns-then-count-eq0 c e at =

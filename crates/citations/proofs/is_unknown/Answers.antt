@@ -1,8 +1,10 @@
--- `citations::is_unknown` meets its contract: a text of another length is another; else it is compared with the reserved one.
+-- `citations::is_unknown` meets its contract: the tag is compared with the reserved word.
+use mathlib.Core.Path.{ap, ◌∙◌}
+use lib.Dec.{eqb}
+use lib.Pointwise.{pointwise}
 use Rattle.rules.specs.Tables.{unknown}
-use Rattle.rules.proofs.Same.{same_length_false}
-use mathlib.Core.Path.{sym}
+use Rattle.texts.proofs.SameSlices.{slices_same}
 use Rattle.citations.proofs.is_unknown.Goals as goal
 
-pub returns-then-tag-ne7 : goal.returns-then-tag-ne7
-returns-then-tag-ne7 c = sym (same_length_false c.args.tag.now unknown c.if-tag-ne7.true)
+pub returns : goal.returns
+returns c = c.eq.ensures ∙ ap (pointwise eqb c.args.tag.now) c.as_slice.ensures ∙ slices_same c.args.tag.now unknown

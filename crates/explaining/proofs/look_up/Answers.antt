@@ -2,7 +2,7 @@
 use native.Mathlib.Omega.{arith}
 use Prim.Native.Nat.{ℕ, ◌+◌, ◌-◌, ◌*◌, ◌≤◌, ◌<◌}
 use mathlib.Core.Path.{◌≡◌, sym, ap, ap₂, subst, ◌∙◌}
-use mathlib.Core.Option.{Option, some}
+use Rattle.std.specs.Prelude.{Option, Some}
 use mathlib.Core.List.{List}
 use lib.ListN.{length, get_or}
 use Rattle.rules.specs.Tables.{Row}
@@ -63,5 +63,5 @@ returns c =
     let there : tag_count c.args.sheet.now c.args.table ≡ 0 → ⊥ = λ z. c.if-count-eq0.false (count-is ∙ z) in
     c.describe.ensures
     ∙ ap (λ (o : Option (List Row)). as_explained (part_of c.args.of (described_in c.args.tag.now o)))
-    (ap₂ (λ (at rows : ℕ). some (rows_from c.args.file.now c.args.sheet.now at rows)) c.row_place-place.ensures (ap (λ (k : ℕ). k - 1) count-is)
+    (ap₂ (λ (at rows : ℕ). Some (rows_from c.args.file.now c.args.sheet.now at rows)) c.row_place-place.ensures (ap (λ (k : ℕ). k - 1) count-is)
     ∙ sym (its_rows c.args.file.now c.args.sheet.now c.args.table there))

@@ -1,6 +1,7 @@
 -- `judging::behind_one` meets its contract.
-use mathlib.Core.Path.{◌∙◌}
-use Rattle.columns.specs.Listing.{line_of}
+use Rattle.columns.specs.Lines.{text_in}
+use Rattle.std.specs.Prelude.{Err}
+use mathlib.Core.Path.{ap, ◌∙◌}
 use Rattle.seen.specs.Bits.{bit_at}
 use Rattle.table_sheet.specs.SheetRows.{tables_in}
 use Rattle.judging.proofs.FirstColumns.{behind_heading, behind_none}
@@ -9,11 +10,11 @@ use Rattle.judging.proofs.behind_one.Goals as goal
 pub returns-then-same_text : goal.returns-then-same_text
 returns-then-same_text c =
     c.heading_line.ensures
-    ∙ behind_heading (line_of c.args.file.now c.args.line) c.args.first.now c.requires.1.is
-    (tables_in c.args.file.now c.args.sheet.now) (bit_at c.args.seen.now) c.same_text.ensures c.if-same_text.true
+    ∙ behind_heading (text_in c.args.line.now) c.args.first.now c.requires.0
+    (tables_in c.args.line.now.file.now c.args.sheet.now) (bit_at c.args.seen.now) c.same_text.ensures c.if-same_text.true
 
 pub returns : goal.returns
 returns c =
-    c.refused.ensures
-    ∙ behind_none (line_of c.args.file.now c.args.line) c.args.first.now c.requires.1.is
-    (tables_in c.args.file.now c.args.sheet.now) (bit_at c.args.seen.now) c.same_text.ensures c.if-same_text.false
+    ap Err c.line_fault.ensures
+    ∙ behind_none (text_in c.args.line.now) c.args.first.now c.requires.0
+    (tables_in c.args.line.now.file.now c.args.sheet.now) (bit_at c.args.seen.now) c.same_text.ensures c.if-same_text.false

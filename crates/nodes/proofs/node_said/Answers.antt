@@ -9,29 +9,26 @@ use Rattle.nodes.proofs.ListedFields.{at_column, at_field, first_of, half_pairs}
 use Rattle.nodes.proofs.node_said.Goals as goal
 
 pub column_span-tag-requires : goal.column_span-tag-requires
-column_span-tag-requires c = (at_column (first_of c.requires.1 1 (omega arith)), (_, c.requires.1.listed))
+column_span-tag-requires c = at_column c.args.node.now.line (first_of c.args.node.now.whole 1 (omega arith))
 
 pub column_span-morphology-requires : goal.column_span-morphology-requires
-column_span-morphology-requires c = let w = c.requires.1 in (at_column (first_of w 2 (omega arith)), (_, w.listed))
+column_span-morphology-requires c = at_column c.args.node.now.line (first_of c.args.node.now.whole 2 (omega arith))
 
 pub column_span-edge-requires : goal.column_span-edge-requires
-column_span-edge-requires c = let w = c.requires.1 in (at_column (first_of w 3 (omega arith)), (_, w.listed))
+column_span-edge-requires c = at_column c.args.node.now.line (first_of c.args.node.now.whole 3 (omega arith))
 
-pub comment_of-comment-requires : goal.comment_of-comment-requires
-comment_of-comment-requires c = let w = c.requires.1 in (_, w.listed, w.counted)
-
-pub count_pairs-edges-requires : goal.count_pairs-edges-requires
-count_pairs-edges-requires c = let w = c.requires.1 in (w.five, w.few)
+pub comment-comment-requires : goal.comment-comment-requires
+comment-comment-requires c = c.args.node.now.whole.counted
 
 pub returns : goal.returns
-returns c file format t w a b h =
-    let fs = fields_of file c.args.line in
+returns c format t a b h =
+    let fs = fields_of c.args.node.now.line in
     rw (
-      c.column_span-tag.ensures file w.listed ∙ ap span_of (at_field (first_of w 1 (omega arith))),
-      c.column_span-morphology.ensures file w.listed ∙ ap span_of (at_field (first_of w 2 (omega arith))),
-      c.column_span-edge.ensures file w.listed ∙ ap span_of (at_field (first_of w 3 (omega arith))),
-      c.comment_of-comment.ensures file w.listed w.counted,
-      c.count_pairs-edges.ensures ∙ half_pairs fs _ (sym w.counted) ∙ sym (length-map (its_pairs format fs) as_edge),
+      c.column_span-tag.ensures ∙ ap span_of (at_field c.args.node.now.line (first_of c.args.node.now.whole 1 (omega arith))),
+      c.column_span-morphology.ensures ∙ ap span_of (at_field c.args.node.now.line (first_of c.args.node.now.whole 2 (omega arith))),
+      c.column_span-edge.ensures ∙ ap span_of (at_field c.args.node.now.line (first_of c.args.node.now.whole 3 (omega arith))),
+      c.comment-comment.ensures,
+      c.count_pairs-edges.ensures ∙ half_pairs fs _ (sym c.args.node.now.whole.counted) ∙ sym (length-map (its_pairs format fs) as_edge),
       a,
       b,
       h,

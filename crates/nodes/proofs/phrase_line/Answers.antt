@@ -1,5 +1,5 @@
-use borrow.Author.Rules.{rules}
-use native.Mathlib.Omega.{arith}
+use Rattle.columns.specs.Lines.{text_in}
+use Rattle.std.proofs.lemmas.Result.{err_from_is_err_and}
 use mathlib.Core.Path.{◌≡◌, refl, sym, ap, ◌∙◌}
 use Prim.Native.Nat.{ℕ, ◌+◌, ◌-◌, ◌/◌}
 use lib.Dec.{leb}
@@ -8,118 +8,90 @@ use Rattle.rules.specs.Lists.{pick}
 use mathlib.Core.Bool.{true, not}
 use Rattle.rules.specs.Texts.{no_text, behind_hash}
 use Rattle.rules.specs.Columns.{text}
-use Rattle.rules.specs.Numbers.{edge_limit, phrase_number, value}
+use Rattle.rules.specs.Numbers.{edge_limit, phrase_number, value, good}
 use Rattle.rules.specs.Tables.{node_tags}
 use Rattle.rules.specs.Nodes.{its_parent, shaped}
-use Rattle.columns.specs.Listing.{line_of}
 use Rattle.table_sheet.specs.SheetRows.{tables_in}
-use Rattle.numbers.specs.Answers.{as_number}
-use Rattle.numbers.specs.declared.Number.TheVariants.{Good}
-use Rattle.numbers.proofs.Told.{good_tells, good_is_good, good_value, bad_is_not_good, number_tells}
-use Rattle.steps.specs.Faults.{no_fault}
+use Rattle.numbers.proofs.Told.{number_tells}
+use Rattle.std.specs.Prelude.{Result, Ok, Err, Some}
+use Rattle.steps.specs.Faults.{fault}
+use Rattle.steps.specs.declared.NodeSaid.{NodeSaid}
+use Rattle.nodes.specs.declared.pairs.Parents.{Parents}
 use Rattle.steps.specs.declared.Fault.{Fault}
-use Rattle.steps.specs.declared.Step.TheVariants.{Phrase, Refused}
-use Rattle.nodes.specs.NodeLines.{fields_of, phrase_in, first_fault, highest_in, marked, unless_faulty, Whole}
-use Rattle.nodes.proofs.ListedFields.{whole, first_of, phrase_read}
-use Rattle.nodes.proofs.Judgements.{fine_tells}
+use Rattle.steps.specs.declared.Step.TheVariants.{Phrase}
+use Rattle.nodes.specs.NodeLines.{fields_of, phrase_in, first_fault, highest_in, marked, unless_faulty}
+use Rattle.nodes.proofs.ListedFields.{phrase_read}
+use Rattle.nodes.proofs.Judgements.{none_broken}
 use Rattle.nodes.proofs.NodeSteps.{phrase_stepped, refused_by_lem, taken_as_lem}
 use Rattle.nodes.proofs.phrase_line.Goals as goal
 
-pub returns-then-not-is_shaped : goal.returns-then-not-is_shaped
-returns-then-not-is_shaped c format s e g =
-    let shape : (format : ℕ) → shaped format (fields_of c.args.file.now c.args.line) ≡ c.is_shaped.result = λ format. sym (c.is_shaped.ensures format (fields_of c.args.file.now c.args.line) (sym c.count_fields-count.ensures)) in
-    c.refused.ensures
-    ∙ sym ((phrase_stepped format (tables_in c.args.file.now c.args.sheet.now) s (line_of c.args.file.now c.args.line) (length (fields_of c.args.file.now c.args.line)) _ refl e _ _ refl refl).first (shape format ∙ c.if-not-is_shaped.true))
+pub returns-in_default : goal.returns-in_default
+returns-in_default c format s e g =
+    ap Err c.line_fault.ensures
+    ∙ sym ((phrase_stepped format (tables_in c.args.line.now.file.now c.args.sheet.now) s (text_in c.args.line.now) (length (fields_of c.args.line.now)) _ refl e _ _ refl refl).first (sym (c.in_default.ensures.shaped format)))
 
 -- ---- the number
 
-pub returns-in_default : goal.returns-in_default
-returns-in_default c format s e g =
-    let shape : (format : ℕ) → shaped format (fields_of c.args.file.now c.args.line) ≡ c.is_shaped.result = λ format. sym (c.is_shaped.ensures format (fields_of c.args.file.now c.args.line) (sym c.count_fields-count.ensures)) in
-    let has-shape : (format : ℕ) → shaped format (fields_of c.args.file.now c.args.line) ≡ true = λ format. shape format ∙ c.if-not-is_shaped.false in
-    let lined : Whole c.args.file.now c.args.line c.args.places.now c.count_fields-count.result = whole 0 c.requires.1 c.count_fields-count.ensures (has-shape 0) in
-    let read : as_number (phrase_in (behind_hash (text (fields_of c.args.file.now c.args.line) 0))) ≡ c.read-read.result = sym (phrase_read (behind_hash (text (fields_of c.args.file.now c.args.line) 0)) c.behind_hash-digits.ensures c.read-read.ensures) in
-    ap Refused (c.fault_at.ensures _ _ (first_of lined 0 (omega arith)))
+pub returns-in_default-read : goal.returns-in_default-read
+returns-in_default-read c format s e g =
+    let same : c.in-Some.node.line ≡ c.args.line.now = c.in-Some.ensures.kept in
+    let shape : shaped format (fields_of c.in-Some.node.line) ≡ true = rw same (sym (c.in-Some.ensures.shaped format)) in
+    let read : (phrase_in (behind_hash (text (fields_of c.in-Some.node.line) 0))) ≡ c.read-read.result = sym (phrase_read (behind_hash (text (fields_of c.in-Some.node.line) 0)) c.behind_hash-digits.ensures c.read-read.ensures) in
+    rw (← same) (
+    ap Err (c.field_fault.ensures)
     ∙ sym
-    ((phrase_stepped format (tables_in c.args.file.now c.args.sheet.now) s (line_of c.args.file.now c.args.line) (length (fields_of c.args.file.now c.args.line)) _ refl e _ _ refl refl
-    ).second (has-shape format) (bad_is_not_good (phrase_in (behind_hash (text (fields_of c.args.file.now c.args.line) 0))) (read ∙ c.in_default.is)))
+    ((phrase_stepped format (tables_in c.in-Some.node.line.file.now c.args.sheet.now) s (text_in c.in-Some.node.line) (length (fields_of c.in-Some.node.line)) _ refl e _ _ refl refl
+    ).second shape (ap good (read ∙ c.in_default-read.is)))
+    )
 
 pub phrase_limits-limits-requires : goal.phrase_limits-limits-requires
 phrase_limits-limits-requires c =
-    let shape : (format : ℕ) → shaped format (fields_of c.args.file.now c.args.line) ≡ c.is_shaped.result = λ format. sym (c.is_shaped.ensures format (fields_of c.args.file.now c.args.line) (sym c.count_fields-count.ensures)) in
-    let has-shape : (format : ℕ) → shaped format (fields_of c.args.file.now c.args.line) ≡ true = λ format. shape format ∙ c.if-not-is_shaped.false in
-    let lined : Whole c.args.file.now c.args.line c.args.places.now c.count_fields-count.result = whole 0 c.requires.1 c.count_fields-count.ensures (has-shape 0) in
-    let read : as_number (phrase_in (behind_hash (text (fields_of c.args.file.now c.args.line) 0))) ≡ c.read-read.result = sym (phrase_read (behind_hash (text (fields_of c.args.file.now c.args.line) 0)) c.behind_hash-digits.ensures c.read-read.ensures) in
-    let l = lined in
-    let w = number_tells phrase_number (behind_hash (text (fields_of c.args.file.now c.args.line) 0)).bytes c.in-Good.number (good_tells (phrase_in (behind_hash (text (fields_of c.args.file.now c.args.line) 0))) c.in-Good.number (read ∙ c.in-Good.is)) in
-    (search rules, c.requires.3, l.five, l.few, w.lowest, w.highest, c.requires.4)
+    let read : (phrase_in (behind_hash (text (fields_of c.in-Some.node.line) 0))) ≡ c.read-read.result = sym (phrase_read (behind_hash (text (fields_of c.in-Some.node.line) 0)) c.behind_hash-digits.ensures c.read-read.ensures) in
+    let w = number_tells phrase_number (behind_hash (text (fields_of c.in-Some.node.line) 0)).bytes c.in-Some-read.number ((read ∙ c.in-Some-read.is)) in
+    (c.requires.1, w.lowest, w.highest, c.requires.2)
 
 -- ---- the rules of the fields
 
-pub returns-in-Faulty : goal.returns-in-Faulty
-returns-in-Faulty c format s e g =
-    let shape : (format : ℕ) → shaped format (fields_of c.args.file.now c.args.line) ≡ c.is_shaped.result = λ format. sym (c.is_shaped.ensures format (fields_of c.args.file.now c.args.line) (sym c.count_fields-count.ensures)) in
-    let has-shape : (format : ℕ) → shaped format (fields_of c.args.file.now c.args.line) ≡ true = λ format. shape format ∙ c.if-not-is_shaped.false in
-    let read : as_number (phrase_in (behind_hash (text (fields_of c.args.file.now c.args.line) 0))) ≡ c.read-read.result = sym (phrase_read (behind_hash (text (fields_of c.args.file.now c.args.line) 0)) c.behind_hash-digits.ensures c.read-read.ensures) in
-    let fault : ℕ → Fault → Fault = λ format limits. first_fault format (fields_of c.args.file.now c.args.line) (tables_in c.args.file.now c.args.sheet.now) node_tags c.in-Good.number limits in
-    let limits : Fault = let a = c.args in
-    pick (leb (a.edges + (c.count_fields-count.result - 5) / 2) edge_limit)
-    (pick (not (marked a.marks.now a.stamp c.in-Good.number)) no_fault (record { number = 17; place = a.line.start }))
-    (record { number = 16; place = a.line.start }) in
-    let parent : ℕ → ℕ = λ format. value (its_parent format (fields_of c.args.file.now c.args.line)) in
-    let highest : ℕ → ℕ = λ format. highest_in format (fields_of c.args.file.now c.args.line) in
-    let judged : (format : ℕ) → unless_faulty (fault format limits) (parent format) (highest format) ≡ c.judge-judged.result = λ format. sym (c.judge-judged.ensures format ∙ ap (λ (l : Fault). unless_faulty (fault format l) (parent format) (highest format)) c.phrase_limits-limits.ensures) in
-    let numbered : as_number (phrase_in (behind_hash (text (fields_of c.args.file.now c.args.line) 0))) ≡ Good c.in-Good.number = read ∙ c.in-Good.is in
-    let o = (phrase_in (behind_hash (text (fields_of c.args.file.now c.args.line) 0))) in
+pub returns-in_err-parents : goal.returns-in_err-parents
+returns-in_err-parents c format s e g =
+    let same : c.in-Some.node.line ≡ c.args.line.now = c.in-Some.ensures.kept in
+    let shape : shaped format (fields_of c.in-Some.node.line) ≡ true = rw same (sym (c.in-Some.ensures.shaped format)) in
+    let read : (phrase_in (behind_hash (text (fields_of c.in-Some.node.line) 0))) ≡ c.read-read.result = sym (phrase_read (behind_hash (text (fields_of c.in-Some.node.line) 0)) c.behind_hash-digits.ensures c.read-read.ensures) in
+    let faults : ℕ → Result Unit Fault → Result Unit Fault = λ format limits. first_fault format (fields_of c.in-Some.node.line) (tables_in c.in-Some.node.line.file.now c.args.sheet.now) node_tags c.in-Some-read.number limits in
+    let limits : Result Unit Fault = let a = c.args in
+    pick (leb (a.edges + (c.in-Some.node.count - 5) / 2) edge_limit)
+    (pick (not (marked a.marks.now a.stamp c.in-Some-read.number)) (Ok tt) (Err (fault 17 c.in-Some.node.line.start)))
+    (Err (fault 16 c.in-Some.node.line.start)) in
+    let parent : ℕ → ℕ = λ format. value (its_parent format (fields_of c.in-Some.node.line)) in
+    let highest : ℕ → ℕ = λ format. highest_in format (fields_of c.in-Some.node.line) in
+    let judged : (format : ℕ) → unless_faulty (faults format limits) (parent format) (highest format) ≡ c.judge.result = λ format. sym (c.judge.ensures format ∙ ap (λ (l : Result Unit Fault). unless_faulty (faults format l) (parent format) (highest format)) c.phrase_limits-limits.ensures) in
+    let numbered : (phrase_in (behind_hash (text (fields_of c.in-Some.node.line) 0))) ≡ Some c.in-Some-read.number = read ∙ c.in-Some-read.is in
+    let here = err_from_is_err_and c.from_residual.result c.from_residual.ensures.1 in
+    rw (← same) (
+    here.1 ∙ ap Err here.2 ∙
     refused_by_lem
-    (phrase_stepped format (tables_in c.args.file.now c.args.sheet.now) s (line_of c.args.file.now c.args.line) _ _ (sym c.count_fields-count.ensures) e _ _ (good_value o _ numbered) (g c.in-Good.number))
-    (has-shape format) (good_is_good o _ numbered) (parent format) (highest format) _ (judged format ∙ c.in-Faulty.is)
+    (phrase_stepped format (tables_in c.in-Some.node.line.file.now c.args.sheet.now) s (text_in c.in-Some.node.line) _ _ (sym c.in-Some.node.whole.counted) e _ _ (ap value numbered) (g c.in-Some-read.number))
+    shape (ap good numbered) (parent format) (highest format) _ (judged format ∙ c.in_err-parents.was)
+    )
 
-pub returns-in-Fine : goal.returns-in-Fine
-returns-in-Fine c format s e g =
-    let shape : (format : ℕ) → shaped format (fields_of c.args.file.now c.args.line) ≡ c.is_shaped.result = λ format. sym (c.is_shaped.ensures format (fields_of c.args.file.now c.args.line) (sym c.count_fields-count.ensures)) in
-    let has-shape : (format : ℕ) → shaped format (fields_of c.args.file.now c.args.line) ≡ true = λ format. shape format ∙ c.if-not-is_shaped.false in
-    let lined : Whole c.args.file.now c.args.line c.args.places.now c.count_fields-count.result = whole 0 c.requires.1 c.count_fields-count.ensures (has-shape 0) in
-    let read : as_number (phrase_in (behind_hash (text (fields_of c.args.file.now c.args.line) 0))) ≡ c.read-read.result = sym (phrase_read (behind_hash (text (fields_of c.args.file.now c.args.line) 0)) c.behind_hash-digits.ensures c.read-read.ensures) in
-    let fault : ℕ → Fault → Fault = λ format limits. first_fault format (fields_of c.args.file.now c.args.line) (tables_in c.args.file.now c.args.sheet.now) node_tags c.in-Good.number limits in
-    let limits : Fault = let a = c.args in
-    pick (leb (a.edges + (c.count_fields-count.result - 5) / 2) edge_limit)
-    (pick (not (marked a.marks.now a.stamp c.in-Good.number)) no_fault (record { number = 17; place = a.line.start }))
-    (record { number = 16; place = a.line.start }) in
-    let parent : ℕ → ℕ = λ format. value (its_parent format (fields_of c.args.file.now c.args.line)) in
-    let highest : ℕ → ℕ = λ format. highest_in format (fields_of c.args.file.now c.args.line) in
-    let judged : (format : ℕ) → unless_faulty (fault format limits) (parent format) (highest format) ≡ c.judge-judged.result = λ format. sym (c.judge-judged.ensures format ∙ ap (λ (l : Fault). unless_faulty (fault format l) (parent format) (highest format)) c.phrase_limits-limits.ensures) in
-    let numbered : as_number (phrase_in (behind_hash (text (fields_of c.args.file.now c.args.line) 0))) ≡ Good c.in-Good.number = read ∙ c.in-Good.is in
-    let o = (phrase_in (behind_hash (text (fields_of c.args.file.now c.args.line) 0))) in
-    let w = fine_tells (fault format limits) (parent format) (highest format) _ _ (judged format ∙ c.in-Fine.is) in
-    ap Phrase (c.node_said.ensures _ format no_text lined refl (sym w.itself) (sym w.top))
+pub returns : goal.returns
+returns c format s e g =
+    let same : c.in-Some.node.line ≡ c.args.line.now = c.in-Some.ensures.kept in
+    let shape : shaped format (fields_of c.in-Some.node.line) ≡ true = rw same (sym (c.in-Some.ensures.shaped format)) in
+    let read : (phrase_in (behind_hash (text (fields_of c.in-Some.node.line) 0))) ≡ c.read-read.result = sym (phrase_read (behind_hash (text (fields_of c.in-Some.node.line) 0)) c.behind_hash-digits.ensures c.read-read.ensures) in
+    let faults : ℕ → Result Unit Fault → Result Unit Fault = λ format limits. first_fault format (fields_of c.in-Some.node.line) (tables_in c.in-Some.node.line.file.now c.args.sheet.now) node_tags c.in-Some-read.number limits in
+    let limits : Result Unit Fault = let a = c.args in
+    pick (leb (a.edges + (c.in-Some.node.count - 5) / 2) edge_limit)
+    (pick (not (marked a.marks.now a.stamp c.in-Some-read.number)) (Ok tt) (Err (fault 17 c.in-Some.node.line.start)))
+    (Err (fault 16 c.in-Some.node.line.start)) in
+    let parent : ℕ → ℕ = λ format. value (its_parent format (fields_of c.in-Some.node.line)) in
+    let highest : ℕ → ℕ = λ format. highest_in format (fields_of c.in-Some.node.line) in
+    let judged : (format : ℕ) → unless_faulty (faults format limits) (parent format) (highest format) ≡ c.judge.result = λ format. sym (c.judge.ensures format ∙ ap (λ (l : Result Unit Fault). unless_faulty (faults format l) (parent format) (highest format)) c.phrase_limits-limits.ensures) in
+    let numbered : (phrase_in (behind_hash (text (fields_of c.in-Some.node.line) 0))) ≡ Some c.in-Some-read.number = read ∙ c.in-Some-read.is in
+    let w = none_broken (faults format limits) _ _ (judged format ∙ c.in_ok-parents.was) in
+    rw (← same) (
+    ap (λ (n : NodeSaid). Ok (Phrase n)) (c.node_said.ensures format no_text refl (sym (ap (λ (x : Parents). x.parent) w.1)) (sym (ap (λ (x : Parents). x.highest) w.1)))
     ∙ taken_as_lem
-    (phrase_stepped format (tables_in c.args.file.now c.args.sheet.now) s (line_of c.args.file.now c.args.line) _ _ (sym c.count_fields-count.ensures) e _ _ (good_value o _ numbered) (g c.in-Good.number))
-    (has-shape format) (good_is_good o _ numbered) w.none
-
-pub count_fields-count-requires : goal.count_fields-count-requires
-count_fields-count-requires c = c.requires.1
-
-pub is_shaped-requires : goal.is_shaped-requires
-is_shaped-requires c = tt
-
-pub behind_hash-digits-requires : goal.behind_hash-digits-requires
-behind_hash-digits-requires c =
-    let shape : (format : ℕ) → shaped format (fields_of c.args.file.now c.args.line) ≡ c.is_shaped.result = λ format. sym (c.is_shaped.ensures format (fields_of c.args.file.now c.args.line) (sym c.count_fields-count.ensures)) in
-    let has-shape : (format : ℕ) → shaped format (fields_of c.args.file.now c.args.line) ≡ true = λ format. shape format ∙ c.if-not-is_shaped.false in
-    let lined : Whole c.args.file.now c.args.line c.args.places.now c.count_fields-count.result = whole 0 c.requires.1 c.count_fields-count.ensures (has-shape 0) in
-    first_of lined 0 (omega arith)
-
-pub judge-judged-requires : goal.judge-judged-requires
-judge-judged-requires c =
-    let shape : (format : ℕ) → shaped format (fields_of c.args.file.now c.args.line) ≡ c.is_shaped.result = λ format. sym (c.is_shaped.ensures format (fields_of c.args.file.now c.args.line) (sym c.count_fields-count.ensures)) in
-    let has-shape : (format : ℕ) → shaped format (fields_of c.args.file.now c.args.line) ≡ true = λ format. shape format ∙ c.if-not-is_shaped.false in
-    let lined : Whole c.args.file.now c.args.line c.args.places.now c.count_fields-count.result = whole 0 c.requires.1 c.count_fields-count.ensures (has-shape 0) in
-    (c.requires.0, lined, c.requires.2, search rules)
-
-pub node_said-requires : goal.node_said-requires
-node_said-requires c =
-    let shape : (format : ℕ) → shaped format (fields_of c.args.file.now c.args.line) ≡ c.is_shaped.result = λ format. sym (c.is_shaped.ensures format (fields_of c.args.file.now c.args.line) (sym c.count_fields-count.ensures)) in
-    let has-shape : (format : ℕ) → shaped format (fields_of c.args.file.now c.args.line) ≡ true = λ format. shape format ∙ c.if-not-is_shaped.false in
-    let lined : Whole c.args.file.now c.args.line c.args.places.now c.count_fields-count.result = whole 0 c.requires.1 c.count_fields-count.ensures (has-shape 0) in
-    (_, lined)
+    (phrase_stepped format (tables_in c.in-Some.node.line.file.now c.args.sheet.now) s (text_in c.in-Some.node.line) _ _ (sym c.in-Some.node.whole.counted) e _ _ (ap value numbered) (g c.in-Some-read.number))
+    shape (ap good numbered) w.0
+    )

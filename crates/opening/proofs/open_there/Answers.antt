@@ -1,5 +1,5 @@
 -- `opening::open_there` meets its contract.
-use mathlib.Core.Option.{Option}
+use Rattle.std.specs.Prelude.{Option}
 use Rattle.rules.specs.Sentences.{Sentence}
 use Rattle.rules.specs.SentenceFrom.{sentence_from}
 use Rattle.opening.proofs.Opens.{there, not_there}

@@ -21,7 +21,6 @@ answer_of x = record { refusal = x.fault.number; place = x.fault.place; sentence
 pub take_lines-reached-requires : goal.take_lines-reached-requires
 take_lines-reached-requires c =
     let e = c.clear-3.ensures in (
-      c.byte_classes-classes.ensures,
       c.requires.0,
       c.clear.ensures ∙ ap (λ (n : ℕ). replicate n 0) c.requires.1 ∙ sym sheet_empty,
       c.clear-2.ensures ∙ ap (λ (n : ℕ). replicate n 0) c.requires.2 ∙ sym seen_set_none,

@@ -1,5 +1,4 @@
 -- `seen::add` meets its contract: a byte whose bit is clear has room for the bit's weight.
--- No loop.
 use native.Mathlib.Omega.{arith}
 use Prim.Native.Nat.{ℕ, ◌/◌, ◌%◌, ◌<◌}
 use mathlib.Core.Path.{◌≡◌}

@@ -6,7 +6,6 @@ use Rattle.sentences.proofs.read_sentence.Goals as goal
 
 pub read_into-requires : goal.read_into-requires
 read_into-requires c = (
-  c.byte_classes-classes.ensures,
   c.requires.0,
   cleared c.clear.ensures c.requires.1,
   cleared c.clear-2.ensures c.requires.2,

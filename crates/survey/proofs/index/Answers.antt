@@ -39,4 +39,4 @@ returns c =
     let sized : sheets_fit c.args.sheet.now c.args.seen.now ≡ true = sym c.sheets_fit.ensures ∙ c.if-not-sheets_fit.false in
     let x = c.args in
     read_index x.file.now x.sheet.now x.seen.now x.places.now _ sized c.if-places-ne-INDEX_SIZE.false _ _ _ _
-    (le-leb (length x.file.now) 268435456 c.if-file-gt-FILE_LIMIT.false) c.surveyed_as.ensures c.read_file.ensures
+    (le-leb (length x.file.now) 268435456 c.if-file-gt-FILE_LIMIT.false) c.from.ensures c.read_file.ensures

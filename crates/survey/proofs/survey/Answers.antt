@@ -29,4 +29,4 @@ pub returns : goal.returns
 returns c =
     let sized : sheets_fit c.args.sheet.now c.args.seen.now ≡ true = sym c.sheets_fit.ensures ∙ c.if-not-sheets_fit.false in
     let x = c.args in
-    read_whole x.file.now x.sheet.now x.seen.now _ _ _ _ _ _ _ sized (le-leb (length x.file.now) 268435456 c.if-file-gt-FILE_LIMIT.false) c.surveyed_as.ensures c.read_file.ensures
+    read_whole x.file.now x.sheet.now x.seen.now _ _ _ _ _ _ _ sized (le-leb (length x.file.now) 268435456 c.if-file-gt-FILE_LIMIT.false) c.from.ensures c.read_file.ensures

@@ -1,26 +1,18 @@
--- `table_sheet::clear_rows` meets its contract: the sheet is the one lent with as many zeros from the place on as were stored.
--- The measure is the count of zeros left.
+-- `table_sheet::clear_rows` meets its contract.
 use native.Mathlib.Omega.{arith}
-use Prim.Native.Nat.{ℕ, ◌+◌}
-use mathlib.Core.Path.{◌≡◌, refl, sym, ap, ◌∙◌}
-use mathlib.Core.List.{List}
-use lib.ListN.{set, length-set}
-use Rattle.columns.proofs.Splices.{splice_none, splice_zero}
+use native.Mathlib.Nat.{add-sub_cancel_left}
+use Prim.Native.Nat.{ℕ, ◌+◌, ◌-◌}
+use mathlib.Core.Path.{◌≡◌, ap, ◌∙◌}
+use lib.ListN.{length, take, drop, replicate, length-replicate, length-drop}
+use lib.Seq.{length-take-le}
+use Rattle.table_sheet.proofs.Parts.{part_splice}
 use Rattle.table_sheet.proofs.clear_rows.Goals as goal
-
-pub loop-i-init : goal.loop-i-init
-loop-i-init c = (omega arith, sym (splice_none c.args.sheet.now c.args.place), refl)
-
-pub loop-i-preserved : goal.loop-i-preserved
-loop-i-preserved c =
-    let a = c.args in (
-      omega arith,
-      ap (λ (x : List ℕ). set x (a.place + c.loop-i.i) 0) c.loop-i.invariant.1
-          ∙ splice_zero a.sheet.now a.place c.loop-i.i (omega arith),
-      simp length-set c.loop-i.invariant.2,
-    )
 
 pub returns : goal.returns
 returns c =
-    let e : c.loop-i.i ≡ c.args.numbers = omega arith in
-    rw e at c.loop-i.invariant.1
+    let a = c.args in
+    let sized : length (take (a.place + a.numbers - a.place) (drop a.place a.sheet.now)) ≡ a.numbers =
+    length-take-le (a.place + a.numbers - a.place) (drop a.place a.sheet.now) (omega (arith, length-drop a.place a.sheet.now)) ∙ add-sub_cancel_left a.place a.numbers in
+    part_splice a.place _ a.sheet.now _ (replicate a.numbers 0)
+    (c.fill.ensures.after (λ y e. e) ∙ ap (λ (n : ℕ). replicate n 0) sized)
+    (omega (arith, length-replicate {A = ℕ} a.numbers 0))

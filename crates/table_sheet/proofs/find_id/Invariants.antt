@@ -1,6 +1,5 @@
 -- `table_sheet::find_id` meets its contract: from here on the rows give the answer of all the rows asked for.
--- The measure is the number of rows left.
-use Prim.Native.Nat.{ℕ, ◌+◌, ◌-◌, ◌*◌, ◌≤◌}
+use Prim.Native.Nat.{ℕ, ◌+◌, ◌-◌, ◌*◌}
 use mathlib.Core.Path.{◌≡◌}
 use mathlib.Core.List.{List}
 use Rattle.rules.specs.Sheets.{row_width}
@@ -10,9 +9,4 @@ use Rattle.table_sheet.proofs.find_id.Given as goal
 
 abbrev pub invariant-loop-row : goal.invariant-loop-row
 invariant-loop-row l =
-    (l.row ≤ l.rows)
-    × (l.at ≡ l.place + row_width * l.row)
-    × ((file : List ℕ) → id_from l.row l.id1 (rows_from file l.sheet l.at (l.rows - l.row)) ≡ id_found l.id1 (rows_from file l.sheet l.place l.rows))
-
-abbrev pub decreases-loop-row : goal.decreases-loop-row
-decreases-loop-row l = l.rows - l.row
+    (file : List ℕ) → id_from l.row l.id1 (rows_from file l.sheet (l.place + row_width * l.row) (l.rows - l.row)) ≡ id_found l.id1 (rows_from file l.sheet l.place l.rows)

@@ -1,12 +1,8 @@
 -- `table_sheet::find_tag` meets its contract: a row that has the tag will do, wherever it stands; else the rows are
 -- looked through.
-use native.Mathlib.Omega.{arith}
 use mathlib.Core.Path.{sym, ◌∙◌}
 use Rattle.table_sheet.proofs.LookUps.{tag_hit}
 use Rattle.table_sheet.proofs.find_tag.Goals as goal
-
-pub tag_at-requires : goal.tag_at-requires
-tag_at-requires c = (omega arith, c.requires.2 c.row_near-hint.result c.if-hint-rows.true)
 
 pub returns-then-tag_at : goal.returns-then-tag_at
 returns-then-tag_at c =

@@ -9,9 +9,6 @@ use Rattle.texts.proofs.trim.Goals as goal
 pub returns-then-head-start : goal.returns-then-head-start
 returns-then-head-start c = sym (span_none _ _ _ c.skip_run-start.ensures c.if-head-start.true)
 
-pub overflow_cast-result : goal.overflow_cast-result
-overflow_cast-result c = omega (arith, c.if-head-start.false)
-
 pub overflow_cast-result-2 : goal.overflow_cast-result-2
 overflow_cast-result-2 c =
     let ends : c.trimmed_end-end.result ≤ length c.args.head.now = end_inside _ _ _ (omega (arith, c.if-head-start.false)) c.trimmed_end-end.ensures in

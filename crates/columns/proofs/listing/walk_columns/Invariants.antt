@@ -5,8 +5,8 @@ use lib.ListN.{length}
 use Rattle.columns.proofs.Walks.{Walking}
 use Rattle.columns.proofs.listing.walk_columns.Given as goal
 
-abbrev pub invariant-loop-first : goal.invariant-loop-first
-invariant-loop-first l = Walking l.line l.from l.start l.initial.places l.places l.cursor.at l.count
+abbrev pub invariant-loop-column : goal.invariant-loop-column
+invariant-loop-column l = Walking l.line l.from l.start l.initial.places l.places l.cursor.at l.count
 
-abbrev pub decreases-loop-first : goal.decreases-loop-first
-decreases-loop-first l = length l.line - l.cursor.at
+abbrev pub decreases-loop-column : goal.decreases-loop-column
+decreases-loop-column l = length l.line - l.cursor.at

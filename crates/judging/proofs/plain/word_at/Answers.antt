@@ -5,18 +5,11 @@ use Rattle.judging.specs.Judging.{so_far_by}
 use Rattle.judging.proofs.PlainTakings.{no_comment, word_taken}
 use Rattle.judging.proofs.plain.word_at.Goals as goal
 
-pub plain_word-parent-requires : goal.plain_word-parent-requires
-plain_word-parent-requires c = (c.requires.0.listed, c.requires.1, c.requires.0.five, no_comment _ _ _ c.requires.0 c.requires.3)
+pub plain_word-requires : goal.plain_word-requires
+plain_word-requires c = (c.requires.1, c.requires.0.five, no_comment _ c.requires.0 c.requires.3)
 
 pub returns : goal.returns
 returns c format marks stamp =
     let t = c.args.t in
-    word_taken _ _ _ c.requires.0 format _ _ c.requires.3 c.requires.4
-    ∙ c.plain_word-parent.ensures c.if-parent-eq0.false format (so_far_by t marks stamp) (eq-eqb t.phrases 0 c.if-t-ne0.false) (c.if-t-ge-WORD_LIMIT.false)
-    c.requires.2
-
-pub returns-then-t-ne0 : goal.returns-then-t-ne0
-returns-then-t-ne0 c format marks stamp = tt
-
-pub returns-then-parent-eq0 : goal.returns-then-parent-eq0
-returns-then-parent-eq0 c format marks stamp = tt
+    word_taken _ c.requires.0 format _ _ c.requires.3 c.requires.4
+    ∙ c.in_ok-parent.ensures format (so_far_by t marks stamp) (eq-eqb t.phrases 0 c.if-t-ne0.false) c.if-t-ge-WORD_LIMIT.false c.requires.2

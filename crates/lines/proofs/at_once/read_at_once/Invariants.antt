@@ -1,12 +1,7 @@
 -- `lines::at_once::read_at_once` meets its contract. The invariant, `Passing`: the borders in front of the place are
--- stored, and what is still to be found is what the line's start asks for. The measure is what is left of the pass.
-use Prim.Native.Nat.{◌-◌, ◌≤◌}
+-- stored, and what is still to be found is what the line's start asks for.
 use Rattle.lines.proofs.Passing.{Passing}
 use Rattle.lines.proofs.at_once.read_at_once.Given as goal
 
 abbrev pub invariant-loop-at : goal.invariant-loop-at
-invariant-loop-at l =
-    (l.at ≤ l.last) × Passing l.file l.from l.places l.at l.kept l.inside
-
-abbrev pub decreases-loop-at : goal.decreases-loop-at
-decreases-loop-at l = l.last - l.at
+invariant-loop-at l = Passing l.file l.from l.places l.at l.kept l.inside

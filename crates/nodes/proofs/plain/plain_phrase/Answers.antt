@@ -1,16 +1,13 @@
 -- `nodes::plain::plain_phrase` meets its contract: no rule refuses a phrase with plain fields and a larger parent.
 use native.Mathlib.Omega.{arith}
-use mathlib.Core.Path.{refl, sym, ◌∙◌}
+use mathlib.Core.Path.{sym, ◌∙◌}
 use Rattle.nodes.proofs.PlainLines.{plain_phrase}
 use Rattle.nodes.proofs.plain.plain_phrase.Goals as goal
 
 pub returns : goal.returns
-returns c n format s new few =
-    plain_phrase format _ s _ _ few (sym c.requires.0.counted ∙ c.requires.2) c.requires.3 _ (c.plain_parent-parent.ensures n) c.requires.4 new
+returns c format s new few =
+    plain_phrase format _ s _ _ few (sym c.args.line.now.listed.counted ∙ c.requires.1) c.requires.2 _ c.in_ok-parent.ensures c.requires.3 new
     (omega (arith, c.if-parent-number.false))
 
-pub plain_parent-parent-requires : goal.plain_parent-parent-requires
-plain_parent-parent-requires c = (c.requires.0, c.requires.1, c.requires.2, omega arith)
-
-pub returns-then-parent-number : goal.returns-then-parent-number
-returns-then-parent-number c n = absurd (n refl)
+pub plain_parent-requires : goal.plain_parent-requires
+plain_parent-requires c = (c.requires.0, c.requires.1, omega arith)

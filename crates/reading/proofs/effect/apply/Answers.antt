@@ -133,7 +133,3 @@ returns-in-SentenceEnds c = (
   λ from begins. rw (c.in-SentenceEnds.is, c.hand_out.ensures, c.add.ensures, c.tally_in-tally.ensures),
   rw c.in-SentenceEnds.is refl,
 )
-
-pub returns-in-Refused : goal.returns-in-Refused
-unfolding effect
-returns-in-Refused c = (λ from begins. rw c.in-Refused.is, rw c.in-Refused.is refl)

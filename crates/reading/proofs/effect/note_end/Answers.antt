@@ -3,7 +3,7 @@ use Prim.Native.Nat.{ℕ}
 use mathlib.Core.Path.{◌≡◌, refl}
 use mathlib.Core.List.{List}
 use Rattle.steps.specs.declared.Step.{Step}
-use Rattle.steps.specs.declared.Step.TheVariants.{Ignored, Format, TableBegins, Row, TableEnds, SentenceBegins, Word, Phrase, SentenceEnds, Refused}
+use Rattle.steps.specs.declared.Step.TheVariants.{Ignored, Format, TableBegins, Row, TableEnds, SentenceBegins, Word, Phrase, SentenceEnds}
 use Rattle.judging.specs.declared.state.State.{State}
 use Rattle.reading.specs.Effects.{effect, noted_by}
 use Rattle.reading.proofs.effect.note_end.Goals as goal
@@ -19,7 +19,6 @@ none_noted from (SentenceBegins h) s begins o = refl
 none_noted from (Word n) s begins o = refl
 none_noted from (Phrase n) s begins o = refl
 none_noted from SentenceEnds s begins o = absurd (o refl)
-none_noted from (Refused f) s begins o = refl
 
 pub returns-in_default : goal.returns-in_default
 returns-in_default c = let a = c.args in none_noted a.from a.step a.s a.begins.now c.in_default.not-SentenceEnds

@@ -9,7 +9,7 @@ use Rattle.rules.specs.Sheets.{table_count}
 use Rattle.table_sheet.specs.Outlines.{with_outline}
 use Rattle.steps.specs.declared.Step.{Step}
 use Rattle.steps.specs.declared.RowSaid.{RowSaid}
-use Rattle.steps.specs.declared.Step.TheVariants.{Ignored, Format, TableBegins, Row, TableEnds, SentenceBegins, Word, Phrase, SentenceEnds, Refused}
+use Rattle.steps.specs.declared.Step.TheVariants.{Ignored, Format, TableBegins, Row, TableEnds, SentenceBegins, Word, Phrase, SentenceEnds}
 use Rattle.judging.specs.States.{table_open}
 use Rattle.judging.specs.declared.state.State.{State}
 use Rattle.reading.specs.NotedTags.{outlines_by}
@@ -25,7 +25,6 @@ none_noted (SentenceBegins h) s file outlines o = refl
 none_noted (Word n) s file outlines o = refl
 none_noted (Phrase n) s file outlines o = refl
 none_noted SentenceEnds s file outlines o = refl
-none_noted (Refused f) s file outlines o = refl
 
 pub returns-in_default : goal.returns-in_default
 returns-in_default c = let a = c.args in none_noted a.step a.s a.file.now a.outlines.now c.in_default.not-Row

@@ -36,7 +36,3 @@ returns-in-Word c = λ from at end sheet seen begins. rw (c.in-Word.is, c.moved.
 pub returns-in-Phrase : goal.returns-in-Phrase
 unfolding effect
 returns-in-Phrase c = λ from at end sheet seen begins. rw (c.in-Phrase.is, c.moved-in-Phrase.ensures, c.with_phrase-tally.ensures, c.bare_node-in-Phrase.ensures, c.tally_in-in-Phrase.ensures, c.mark.ensures)
-
-pub returns-in-Other : goal.returns-in-Other
-unfolding effect
-returns-in-Other c = λ from at end sheet seen begins. rw c.in-Other.is

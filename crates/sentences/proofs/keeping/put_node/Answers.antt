@@ -8,12 +8,12 @@ use Rattle.sentence_sheet.specs.declared.NodeRecord.{NodeRecord}
 use Rattle.sentences.proofs.keeping.put_node.Goals as goal
 
 pub put_node-requires : goal.put_node-requires
-put_node-requires c = let f = c.requires.1 in (f.number, omega (arith, f.sheet_size))
+put_node-requires c = let f = c.requires in (f.number, omega (arith, f.sheet_size))
 
 pub put_pairs-requires : goal.put_pairs-requires
 put_pairs-requires c =
-    let f = c.requires.1 in
-    (c.requires.0, f.whole, f.few, f.edges_size)
+    let f = c.requires in
+    (f.whole, f.few, f.edges_size)
 
 pub returns : goal.returns
 returns c =
@@ -21,9 +21,6 @@ returns c =
       c.put_node.ensures ∙ ap (λ (r : NodeRecord). splice (field_place 0 a.node.number) (record_numbers r) a.sheet.now) c.record_said.ensures,
       c.put_pairs.ensures,
     )
-
-pub record_said-requires : goal.record_said-requires
-record_said-requires c = tt
 
 pub shape_of-sheet : goal.shape_of-sheet
 shape_of-sheet c = c.put_node.auto.sheet

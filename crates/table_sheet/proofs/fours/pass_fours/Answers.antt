@@ -1,41 +1,42 @@
 -- `table_sheet::fours::pass_fours` meets its contract: from here on the rows give the answer of all the rows asked for.
--- The measure is the number of rows left.
-use native.Mathlib.Nat.{sub-zero}
 use native.Mathlib.Omega.{arith}
-use Prim.Native.Nat.{ℕ, ◌+◌, ◌-◌, ◌*◌}
-use mathlib.Core.Path.{◌≡◌, ◌∙◌, subst}
-use mathlib.Core.List.{List}
+use Prim.Native.Nat.{ℕ, ◌+◌, ◌-◌, ◌*◌, ◌/◌}
+use mathlib.Core.Path.{◌≡◌, ap, ap₂, ◌∙◌}
 use Rattle.rules.specs.Sheets.{row_width}
 use Rattle.table_sheet.specs.SheetRows.{rows_from}
-use Rattle.table_sheet.specs.LookUps.{id_from, id_found}
+use Rattle.table_sheet.specs.LookUps.{id_from}
 use Rattle.table_sheet.proofs.LookUps.{ids_miss}
 use Rattle.table_sheet.proofs.fours.pass_fours.Goals as goal
 
-pub loop-row-init : goal.loop-row-init
-loop-row-init c = (omega arith, omega arith, λ file. rw sub-zero)
-
 pub returns-then-not-four_without : goal.returns-then-not-four_without
 returns-then-not-four_without c =
-    let rest : (file : List ℕ) → id_from c.loop-row.row c.args.id1 (rows_from file c.args.sheet.now (c.args.place + row_width * c.loop-row.row) (c.args.rows - c.loop-row.row)) ≡ id_found c.args.id1 (rows_from file c.args.sheet.now c.args.place c.args.rows) = λ file. let a = c.args in
-    let row = c.loop-row.row in
-    subst (λ (at : ℕ). id_from row a.id1 (rows_from file a.sheet.now at (a.rows - row)) ≡ id_found a.id1 (rows_from file a.sheet.now a.place a.rows))
-    c.loop-row.invariant.1 (c.loop-row.invariant.2 file) in
-    (c.loop-row.invariant.0, rest)
-
-pub loop-row-preserved : goal.loop-row-preserved
-loop-row-preserved c =
-    let a = c.args in (
-      omega arith,
+    let a = c.args in
+    let four = c.loop-four.four in
+    let place : a.place + row_width * (4 * four) ≡ a.place + 24 * four = omega arith in (
       omega arith,
       λ file.
-          ids_miss file a.sheet.now c.loop-row.at c.loop-row.row a.rows a.id1 c.loop-row-test.true (c.four_without.ensures (c.if-not-four_without.false))
-          ∙ c.loop-row.invariant.2 file,
+          ap (λ (at : ℕ). id_from (4 * four) a.id1 (rows_from file a.sheet.now at (a.rows - 4 * four))) place
+          ∙ c.loop-four.invariant file,
     )
+
+pub loop-four-preserved : goal.loop-four-preserved
+loop-four-preserved c file =
+    let a = c.args in
+    let four = c.loop-four.four in
+    let row : 4 * (four + 1) ≡ 4 * four + 4 = omega arith in
+    let place : a.place + 24 * (four + 1) ≡ a.place + 24 * four + 24 = omega arith in
+    ap₂ (λ (r at : ℕ). id_from r a.id1 (rows_from file a.sheet.now at (a.rows - r))) row place
+    ∙ ids_miss file a.sheet.now (a.place + 24 * four) (4 * four) a.rows a.id1 (omega arith) (c.four_without.ensures (c.if-not-four_without.false))
+    ∙ c.loop-four.invariant file
 
 pub returns : goal.returns
 returns c =
-    let rest : (file : List ℕ) → id_from c.loop-row.row c.args.id1 (rows_from file c.args.sheet.now (c.args.place + row_width * c.loop-row.row) (c.args.rows - c.loop-row.row)) ≡ id_found c.args.id1 (rows_from file c.args.sheet.now c.args.place c.args.rows) = λ file. let a = c.args in
-    let row = c.loop-row.row in
-    subst (λ (at : ℕ). id_from row a.id1 (rows_from file a.sheet.now at (a.rows - row)) ≡ id_found a.id1 (rows_from file a.sheet.now a.place a.rows))
-    c.loop-row.invariant.1 (c.loop-row.invariant.2 file) in
-    (c.loop-row.invariant.0, rest)
+    let a = c.args in
+    let four = c.loop-four.four in
+    let row : a.rows / 4 * 4 ≡ 4 * four = omega arith in
+    let place : a.place + row_width * (a.rows / 4 * 4) ≡ a.place + 24 * four = omega arith in (
+      omega arith,
+      λ file.
+          ap₂ (λ (r at : ℕ). id_from r a.id1 (rows_from file a.sheet.now at (a.rows - r))) row place
+          ∙ c.loop-four.invariant file,
+    )

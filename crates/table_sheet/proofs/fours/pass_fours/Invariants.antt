@@ -1,18 +1,11 @@
 -- `table_sheet::fours::pass_fours` meets its contract: from here on the rows give the answer of all the rows asked for.
--- The measure is the number of rows left.
-use Prim.Native.Nat.{ℕ, ◌+◌, ◌-◌, ◌*◌, ◌≤◌}
+use Prim.Native.Nat.{ℕ, ◌+◌, ◌-◌, ◌*◌}
 use mathlib.Core.Path.{◌≡◌}
 use mathlib.Core.List.{List}
-use Rattle.rules.specs.Sheets.{row_width}
 use Rattle.table_sheet.specs.SheetRows.{rows_from}
 use Rattle.table_sheet.specs.LookUps.{id_from, id_found}
 use Rattle.table_sheet.proofs.fours.pass_fours.Given as goal
 
-abbrev pub invariant-loop-row : goal.invariant-loop-row
-invariant-loop-row l =
-    (l.row ≤ l.rows)
-    × (l.at ≡ l.place + row_width * l.row)
-    × ((file : List ℕ) → id_from l.row l.id1 (rows_from file l.sheet l.at (l.rows - l.row)) ≡ id_found l.id1 (rows_from file l.sheet l.place l.rows))
-
-abbrev pub decreases-loop-row : goal.decreases-loop-row
-decreases-loop-row l = l.rows - l.row
+abbrev pub invariant-loop-four : goal.invariant-loop-four
+invariant-loop-four l =
+    (file : List ℕ) → id_from (4 * l.four) l.id1 (rows_from file l.sheet (l.place + 24 * l.four) (l.rows - 4 * l.four)) ≡ id_found l.id1 (rows_from file l.sheet l.place l.rows)

@@ -11,5 +11,5 @@ unfolding few_bytes
 returns c =
     let n = length c.args.tag.now in
     ap₂ (λ (x y : ℕ). bit_or x (moved y 56))
-    (ap₂ (λ (x y : ℕ). bit_or (moved x (64 - 8 * n)) (moved y (64 - 8 * n + 8 * (n / 2)))) c.wide-2.ensures.0 c.wide.ensures.0)
-    c.wide-3.ensures.0
+    (ap₂ (λ (x y : ℕ). bit_or (moved x (64 - 8 * n)) (moved y (64 - 8 * n + 8 * (n / 2)))) c.from-2.ensures c.from.ensures)
+    c.from-3.ensures

@@ -3,6 +3,7 @@
 use Prim.Native.Nat.{ℕ}
 use mathlib.Core.Path.{sym, ap, ◌∙◌}
 use mathlib.Core.Bool.{not}
+use Rattle.std.proofs.Math.Bool.{not-not}
 use lib.ListN.{get_or}
 use Rattle.table_sheet.specs.SheetRows.{rows_from}
 use Rattle.table_sheet.proofs.LookUps.{tag_found}
@@ -19,6 +20,7 @@ returns-then-outlines-place_of-eq0 c =
 pub returns : goal.returns
 returns c =
     let a = c.args in
-    ap not
-    (c.is_row.ensures
+    sym (not-not c.is_none.result)
+    ∙ ap not
+    (sym c.is_none.ensures
     ∙ tag_found a.tag.now (rows_from a.file.now a.sheet.now a.place a.rows) c.seek_tag.result c.seek_tag.ensures)

@@ -1,22 +1,14 @@
 -- `table_sheet::quick::has_by_halves` meets its contract: a row that has the tag will do, wherever it stands.
-use native.Mathlib.Omega.{arith}
 use native.Mathlib.Nat.{add-sub_cancel_left}
 use Prim.Native.Nat.{◌+◌, ◌*◌}
 use mathlib.Core.Path.{◌≡◌, sym, ◌∙◌}
-use mathlib.Core.Bool.{false≢true}
 use lib.ListN.{take, drop}
 use Rattle.rules.specs.Lists.{same}
 use Rattle.rules.specs.Sheets.{row_width}
 use Rattle.table_sheet.specs.SheetRows.{row_at, rows_from}
-use Rattle.table_sheet.specs.declared.Found.TheVariants as found
+use Rattle.std.specs.Prelude.{Some}
 use Rattle.table_sheet.proofs.LookUps.{tag_hit, tag_found}
 use Rattle.table_sheet.proofs.quick.has_by_halves.Goals as goal
-
-pub returns-then-rows-row : goal.returns-then-rows-row
-returns-then-rows-row c e = absurd (false≢true e)
-
-pub tag_at-requires : goal.tag_at-requires
-tag_at-requires c = (omega arith, c.requires.2 c.row_by_halves-row.result c.if-rows-row.false)
 
 pub returns : goal.returns
 returns c e =
@@ -25,5 +17,5 @@ returns c e =
     let tag = take a.len (drop a.start a.file.now) in
     let told : c.tag_at.result ≡ same tag (row_at a.file.now a.sheet.now (a.place + row_width * row)).first.bytes =
     c.tag_at.ensures ∙ rw add-sub_cancel_left in
-    sym (tag_found tag (rows_from a.file.now a.sheet.now a.place a.rows) (found.Row row)
+    sym (tag_found tag (rows_from a.file.now a.sheet.now a.place a.rows) (Some row)
     (tag_hit tag a.file.now a.sheet.now a.place row a.rows c.if-rows-row.false (sym told ∙ e)))

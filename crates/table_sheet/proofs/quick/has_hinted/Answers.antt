@@ -1,9 +1,5 @@
 -- `table_sheet::quick::has_hinted` meets its contract: short and long tags do, of others it says nothing.
-use mathlib.Core.Bool.{false≢true}
 use Rattle.table_sheet.proofs.quick.has_hinted.Goals as goal
-
-pub returns-then-len-gt16 : goal.returns-then-len-gt16
-returns-then-len-gt16 c e = absurd (false≢true e)
 
 pub returns-then-len-ge8 : goal.returns-then-len-ge8
 returns-then-len-ge8 c = c.has_long.ensures

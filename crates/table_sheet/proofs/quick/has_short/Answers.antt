@@ -2,21 +2,9 @@
 use borrow.Author.Tests.{eqb-true}
 use native.Mathlib.Omega.{arith}
 use mathlib.Core.Path.{sym, ◌∙◌}
-use mathlib.Core.Bool.{false≢true}
 use Rattle.texts.proofs.SamePlaces.{front_same}
 use Rattle.table_sheet.proofs.LookUps.{tag_among_lem}
 use Rattle.table_sheet.proofs.quick.has_short.Goals as goal
-
-pub returns-then-not-has_length : goal.returns-then-not-has_length
-returns-then-not-has_length c e = absurd (false≢true e)
-
-pub start_of-first-requires : goal.start_of-first-requires
-start_of-first-requires c =
-    let told = c.has_length.ensures (c.if-not-has_length.false) in
-    omega (arith, told.0)
-
-pub returns-then-start-first : goal.returns-then-start-first
-returns-then-start-first c e = absurd (false≢true e)
 
 pub returns : goal.returns
 returns c e =

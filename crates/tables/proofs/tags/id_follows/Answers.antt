@@ -1,17 +1,9 @@
 -- `tables::tags::id_follows` meets its contract: there is no row yet, or the id of the last one tells.
 use Rattle.tables.proofs.RowsSoFar.{follows_none, follows_next, follows_unknown, follows_not}
-use native.Mathlib.Omega.{arith}
-use Prim.Native.Nat.{◌+◌, ◌-◌, ◌*◌}
 use Rattle.tables.proofs.tags.id_follows.Goals as goal
 
 pub returns-then-rows-eq0 : goal.returns-then-rows-eq0
 returns-then-rows-eq0 c file = follows_none file c.args.sheet.now c.args.place c.args.rows c.if-rows-eq0.true c.args.id1
-
-pub overflow_cast-last : goal.overflow_cast-last
-overflow_cast-last c = omega (arith, c.shared_slice_known-1.given (c.args.place + 6 * (c.args.rows - 1)))
-
-pub overflow_add-last-2 : goal.overflow_add-last-2
-overflow_add-last-2 c = omega (arith, c.shared_slice_known-1.given (c.args.place + 6 * (c.args.rows - 1)))
 
 pub returns-then-id1-last : goal.returns-then-id1-last
 returns-then-id1-last c file = follows_next file c.args.sheet.now c.args.place c.args.rows c.if-rows-eq0.false c.args.id1 c.if-id1-last.true

@@ -1,13 +1,9 @@
 -- `texts::words::same_places` meets its contract: the two numbers at the back and those at the front tell.
 use native.Mathlib.Omega.{arith}
 use mathlib.Core.Path.{sym, ◌∙◌}
-use mathlib.Core.Bool.{false≢true}
 use borrow.Author.Tests.{eqb-true}
 use Rattle.texts.proofs.SamePlaces.{eights_same}
 use Rattle.texts.proofs.words.same_places.Goals as goal
-
-pub returns-then-eight_at : goal.returns-then-eight_at
-returns-then-eight_at c = λ e. absurd (false≢true e)
 
 pub returns : goal.returns
 returns c e =

@@ -38,7 +38,6 @@ slice_bounds-print_begun-end c = sym (ap length c.loop-n.invariant.firsts_zero â
 pub print_begun-end-requires : goal.print_begun-end-requires
 print_begun-end-requires c =
     let g = c.loop-n.invariant in (
-      c.byte_classes-classes.ensures,
       c.requires.0,
       each_at (Entry c.args.file.now) c.args.begins.now c.loop-n.n 0 c.requires.1 c.loop-n-test.true,
       g.sheet_zero,
