@@ -15,10 +15,11 @@ ghost use Rattle.columns.specs.Cursors.{next_column};
 // the class of white bytes
 const WHITE: u8 = 1;
 
+// Most bytes lie behind the space: they cost one comparison, and the table isn't asked.
 pub fn is_white(b: u8) -> bool
     ensures { result ≡ white b }
 {
-    classes::class_of(b) == WHITE
+    b <= b' ' && classes::class_of(b) == WHITE
 }
 
 // The first place from `at` on where a run ends: of white bytes or, in a column, of bytes that aren't white.

@@ -1,19 +1,20 @@
 // A line of a file with its columns listed. Every judge of the line looks only there.
 ghost use Rattle.columns.specs.Listing.{Listed};
 
+use crate::listing;
 use crate::listing::{Line, Places, Span};
 
 #[derive(Clone, Copy)]
-pub struct ListedLine<'a> {
-    pub file: &'a [u8],
+pub struct ListedLine<'f, 'p> {
+    pub file: &'f [u8],
     pub start: usize,
     pub end: usize,
     pub columns: usize,
-    pub places: &'a Places,
+    pub places: &'p Places,
     pub ghost listed: { Listed file.now (record { start = start; end = end; columns = columns }) places.now },
 }
 
-impl<'a> ListedLine<'a> {
+impl<'f, 'p> ListedLine<'f, 'p> {
     ghost use Rattle.std.specs.Prelude.{◌≡◌, ◌-◌, ◌≤◌, ◌<◌, length};
     ghost use Rattle.rules.specs.Bytes.{ignored};
     ghost use Rattle.rules.specs.Texts.{trim};
@@ -22,7 +23,7 @@ impl<'a> ListedLine<'a> {
     ghost use Rattle.columns.specs.Listing.{span_of};
     ghost use Rattle.columns.specs.Lines.{line_in, text_in, columns_in};
 
-    pub fn new(file: &'a [u8], line: Line, places: &'a Places) -> Self
+    pub fn new(file: &'f [u8], line: Line, places: &'p Places) -> Self
         requires { Listed file.now line places.now }
         ensures { (result.file.now ≡ file.now) × (line_in result ≡ line) × (result.places.now ≡ places.now) }
     {
@@ -35,8 +36,18 @@ impl<'a> ListedLine<'a> {
         }
     }
 
+    fn line(&self) -> Line
+        ensures { result ≡ line_in self.now }
+    {
+        Line {
+            start: self.start,
+            end: self.end,
+            columns: self.columns,
+        }
+    }
+
     // The bytes of column k.
-    pub fn column_text(&self, k: usize) -> &'a [u8]
+    pub fn column_text(&self, k: usize) -> &'f [u8]
         requires { k < self.now.columns }
         ensures { result.now ≡ (written (columns_in self.now) k).bytes }
     {
@@ -49,11 +60,7 @@ impl<'a> ListedLine<'a> {
         requires { k < self.now.columns }
         ensures { result ≡ span_of (written (columns_in self.now) k) }
     {
-        let start = self.places[2 * k];
-        Span {
-            start,
-            len: self.places[2 * k + 1] - start,
-        }
+        listing::column_span(self.line(), self.places, k)
     }
 
     // From column k up to the line's end, without the white bytes there; 0, 0 if there is no column k.
@@ -61,15 +68,7 @@ impl<'a> ListedLine<'a> {
         requires { 1 ≤ k }
         ensures { result ≡ span_of (trim (column (columns_in self.now) (k - 1)).after) }
     {
-        let columns = self.columns;
-        if columns <= k {
-            return Span { start: 0, len: 0 };
-        }
-        let start = self.places[2 * k];
-        Span {
-            start,
-            len: self.places[2 * columns - 1] - start,
-        }
+        listing::text_from(self.line(), self.places, k)
     }
 
     // How many columns stand in front of the first that is exactly %%, all if none is.
@@ -89,11 +88,11 @@ impl<'a> ListedLine<'a> {
         requires { fields_count ≡ length (fields (columns_in self.now)) }
         ensures { result ≡ span_of (comment (columns_in self.now)) }
     {
-        self.text_from(fields_count + 1)
+        listing::comment_of(self.line(), self.places, fields_count)
     }
 
     // Empty if the line has no column or starts with a white byte.
-    pub fn first_column(&self) -> &'a [u8]
+    pub fn first_column(&self) -> &'f [u8]
         ensures { result.now ≡ (first_column (text_in self.now)).bytes }
     {
         let start = self.start;
@@ -110,16 +109,6 @@ impl<'a> ListedLine<'a> {
     pub fn is_ignored(&self) -> bool
         ensures { result ≡ ignored (text_in self.now).bytes }
     {
-        if self.columns == 0 {
-            return true;
-        }
-        let start = self.start;
-        if self.end - start < 2 {
-            return false;
-        }
-        if self.file[start] != b'%' {
-            return false;
-        }
-        self.file[start + 1] == b'%'
+        listing::is_ignored(self.file, self.line())
     }
 }

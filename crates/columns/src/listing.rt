@@ -1,9 +1,12 @@
-// The columns of a line, listed once: where each starts and ends in the file.
-ghost use Rattle.std.specs.Prelude.{◌≡◌, ◌+◌, ◌-◌, ◌≤◌, length, drop};
+// The columns of a line, listed once: where each starts and ends in the file. What a list without its file tells, or a file
+// without the list, stands here too; a line with both is a `ListedLine`.
+ghost use Rattle.std.specs.Prelude.{◌≡◌, List, ℕ, ◌+◌, ◌-◌, ◌≤◌, ◌<◌, length, drop};
+ghost use Rattle.rules.specs.Bytes.{ignored};
 ghost use Rattle.rules.specs.Numbers.{line_limit, file_limit};
-ghost use Rattle.rules.specs.Columns.{columns_from, columns};
+ghost use Rattle.rules.specs.Texts.{trim};
+ghost use Rattle.rules.specs.Columns.{columns_from, columns, column, written, fields, comment};
 ghost use Rattle.columns.specs.Splices.{splice};
-ghost use Rattle.columns.specs.Listing.{text_between, places_of};
+ghost use Rattle.columns.specs.Listing.{text_between, line_of, columns_of, places_of, span_of, Listed};
 
 use crate::Cursor;
 use crate::reader::list_columns;
@@ -56,4 +59,57 @@ pub fn read_line(file: &[u8], start: usize, end: usize, places: &mut Places) -> 
         end,
         columns: count,
     }
+}
+
+pub fn column_span(line: Line, places: &Places, k: usize) -> Span
+    requires { (k < line.columns) × ((file : List ℕ) × Listed file line places.now) }
+    ensures { (file : List ℕ) → Listed file line places.now → result ≡ span_of (written (columns_of file line) k) }
+{
+    let start = places[2 * k];
+    Span {
+        start,
+        len: places[2 * k + 1] - start,
+    }
+}
+
+// From column k up to the line's end, without the white bytes there; 0, 0 if there is no column k.
+pub fn text_from(line: Line, places: &Places, k: usize) -> Span
+    requires { (1 ≤ k) × ((file : List ℕ) × Listed file line places.now) }
+    ensures { (file : List ℕ) → Listed file line places.now → result ≡ span_of (trim (column (columns_of file line) (k - 1)).after) }
+{
+    let columns = line.columns;
+    if columns <= k {
+        return Span { start: 0, len: 0 };
+    }
+    let start = places[2 * k];
+    Span {
+        start,
+        len: places[2 * columns - 1] - start,
+    }
+}
+
+// The text behind the column %% that follows the fields.
+pub fn comment_of(line: Line, places: &Places, fields_count: usize) -> Span
+    requires { (file : List ℕ) × Listed file line places.now × (fields_count ≡ length (fields (columns_of file line))) }
+    ensures { (file : List ℕ) → Listed file line places.now → fields_count ≡ length (fields (columns_of file line)) → result ≡ span_of (comment (columns_of file line)) }
+{
+    text_from(line, places, fields_count + 1)
+}
+
+// A line of white bytes only, or one that starts with %%.
+pub fn is_ignored(file: &[u8], line: Line) -> bool
+    requires { (places : List ℕ) × Listed file.now line places }
+    ensures { result ≡ ignored (line_of file.now line).bytes }
+{
+    if line.columns == 0 {
+        return true;
+    }
+    let start = line.start;
+    if line.end - start < 2 {
+        return false;
+    }
+    if file[start] != b'%' {
+        return false;
+    }
+    file[start + 1] == b'%'
 }

@@ -3,7 +3,7 @@ use crate::node_lines::NodeLine;
 use numbers::PhraseNumber;
 use steps::Fault;
 
-impl<'a> NodeLine<'a> {
+impl<'f, 'p> NodeLine<'f, 'p> {
     ghost use Rattle.std.specs.Prelude.{◌≡◌, not, ◌<◌, eqb, ltb};
     ghost use Rattle.rules.specs.Lists.{pick};
     ghost use Rattle.rules.specs.Texts.{reads, at_most, behind_hash};
@@ -15,7 +15,7 @@ impl<'a> NodeLine<'a> {
     ghost use Rattle.steps.specs.Faults.{fault};
     ghost use Rattle.nodes.specs.NodeLines.{fields_of, phrase_in};
 
-    pub fn field(&self, k: usize) -> &'a [u8]
+    pub fn field(&self, k: usize) -> &'f [u8]
         requires { k < self.now.count }
         ensures { result.now ≡ (text (fields_of self.now.line) k).bytes }
     {
@@ -23,7 +23,7 @@ impl<'a> NodeLine<'a> {
     }
 
     // The digits of a phrase's number.
-    pub fn behind_hash(&self) -> &'a [u8]
+    pub fn behind_hash(&self) -> &'f [u8]
         ensures { result.now ≡ (behind_hash (text (fields_of self.now.line) 0)).bytes }
     {
         let first = self.field(0);

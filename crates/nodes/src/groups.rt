@@ -11,7 +11,7 @@ pub struct Own {
     pub limits: Result<(), Fault>,
 }
 
-impl<'a> NodeLine<'a> {
+impl<'f, 'p> NodeLine<'f, 'p> {
     ghost use Rattle.std.specs.Prelude.{◌≡◌, ℕ, ◌<◌};
     ghost use Rattle.rules.specs.Numbers.{value};
     ghost use Rattle.rules.specs.Nodes.{its_parent, parents_written, tags_short, tags_known, parents_allowed};

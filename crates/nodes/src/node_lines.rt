@@ -7,8 +7,8 @@ ghost use Rattle.nodes.specs.NodeLines.{fields_of, Whole};
 use columns::listed::ListedLine;
 
 #[derive(Clone, Copy)]
-pub struct NodeLine<'a> {
-    pub line: ListedLine<'a>,
+pub struct NodeLine<'f, 'p> {
+    pub line: ListedLine<'f, 'p>,
     pub count: usize,
     pub ghost whole: { Whole (fields_of line) count },
 }
@@ -23,13 +23,13 @@ fn is_shaped(count: usize) -> bool
     (count - 5) % 2 == 0
 }
 
-impl<'a> NodeLine<'a> {
+impl<'f, 'p> NodeLine<'f, 'p> {
     ghost use Rattle.std.specs.Prelude.{◌≡◌, ℕ, ◌-◌, ◌/◌, is_some, IfSome};
     ghost use Rattle.rules.specs.Nodes.{shaped};
     ghost use Rattle.nodes.specs.NodeLines.{fields_of};
 
     // None of a line with another number of fields.
-    pub fn new(line: &ListedLine<'a>) -> Option<Self>
+    pub fn new(line: &ListedLine<'f, 'p>) -> Option<Self>
         ensures shaped { (format : ℕ) → is_some result ≡ shaped format (fields_of line.now) }
         ensures kept { IfSome result (λ node. node.line ≡ line.now) }
     {

@@ -15,7 +15,7 @@ pub struct Parents {
     pub highest: u32,
 }
 
-impl<'a> NodeLine<'a> {
+impl<'f, 'p> NodeLine<'f, 'p> {
     ghost use Rattle.std.specs.Prelude.{◌≡◌, ℕ, ◌≤◌, ◌<◌, map};
     ghost use Rattle.rules.specs.Rules.{Rule};
     ghost use Rattle.rules.specs.Pairs.{Pair};

@@ -46,7 +46,8 @@ fn within<const LOWEST: u32, const HIGHEST: u32>(s: &[u8]) -> Option<u32>
     if n < LOWEST { None } else { Some(n) }
 }
 
-pub struct SentenceNumber;
+#[derive(Clone, Copy)]
+pub struct SentenceNumber(pub u32);
 
 impl SentenceNumber {
     pub const LOWEST: u32 = 1;
@@ -60,7 +61,8 @@ impl SentenceNumber {
     }
 }
 
-pub struct OriginId;
+#[derive(Clone, Copy)]
+pub struct OriginId(pub u32);
 
 impl OriginId {
     pub const LOWEST: u32 = 1;
@@ -74,7 +76,8 @@ impl OriginId {
     }
 }
 
-pub struct Date;
+#[derive(Clone, Copy)]
+pub struct Date(pub u32);
 
 impl Date {
     pub const LOWEST: u32 = 0;
@@ -88,7 +91,8 @@ impl Date {
     }
 }
 
-pub struct FormatNumber;
+#[derive(Clone, Copy)]
+pub struct FormatNumber(pub u32);
 
 impl FormatNumber {
     pub const LOWEST: u32 = 0;
@@ -103,7 +107,8 @@ impl FormatNumber {
 }
 
 // The number of a phrase, and a secondary parent: the digits are read first, and their range decides.
-pub struct PhraseNumber;
+#[derive(Clone, Copy)]
+pub struct PhraseNumber(pub u32);
 
 impl PhraseNumber {
     pub const LOWEST: u32 = 500;
@@ -158,20 +163,24 @@ fn is_minus_one(s: &[u8]) -> bool
 }
 
 // An editor's id, from -1 to 65535: the value is one more than the id, as the sheets hold it.
-pub struct EditorId;
+#[derive(Clone, Copy)]
+pub struct EditorId(pub u32);
 
 impl EditorId {
     pub const LOWEST: i32 = -1;
 
-    pub const HIGHEST: u32 = 65535;
+    pub const HIGHEST: i32 = 65535;
+
+    // The same, of an id without a sign.
+    const HIGHEST_PLAIN: u32 = Self::HIGHEST as u32;
 
     pub fn read(s: &[u8]) -> Option<u32>
         ensures { result ≡ signed_id s.now }
     {
         if is_minus_one(s) {
-            return Some(0);
+            return Some((Self::LOWEST + 1) as u32);
         }
-        let n = within::<0, { EditorId::HIGHEST }>(s)?;
+        let n = within::<0, { EditorId::HIGHEST_PLAIN }>(s)?;
         Some(n + 1)
     }
 }

@@ -10,7 +10,7 @@ use lib.Dec.{ltb}
 use borrow.Author.Tests.{lt-ltb, le-ltb, ltb-true, ltb-false}
 use Rattle.rules.specs.Lists.{pick}
 use Rattle.rules.specs.Tidy.{digits_within, digits_of}
-use Rattle.printing.specs.Over.{over}
+use Rattle.printing.specs.Over.{over, Put}
 use Rattle.printing.proofs.OverLaws.{over_one, over_last}
 
 -- room for more digits changes nothing
@@ -94,9 +94,9 @@ pub putting_start : (at n : ℕ) (lent : List ℕ) (place : ℕ) → place ≡ a
 putting_start at n lent place e =
     record { going = λ h. (e, refl); done = λ h. absurd (omega (arith, digits_some n)) }
 
-pub putting_next : (at n : ℕ) (lent : List ℕ) (place left : ℕ) (out : List ℕ) → at ≤ place → Putting at n lent (place + 1) left out
+next_put : (at n : ℕ) (lent : List ℕ) (place left : ℕ) (out : List ℕ) → at ≤ place → Putting at n lent (place + 1) left out
     → Putting at n lent place (left / 10) (over place ((48 + left % 10) ∷ []) out)
-putting_next at n lent place left out h p = by (ltb left 10) refl (p.going (omega arith))
+next_put at n lent place left out h p = by (ltb left 10) refl (p.going (omega arith))
   where
     by : (t : Bool) → ltb left 10 ≡ t → (place + 1 ≡ at + length (digits_of left)) × (over at (digits_of left) out ≡ over at (digits_of n) lent)
         → Putting at n lent place (left / 10) (over place ((48 + left % 10) ∷ []) out)
@@ -112,3 +112,9 @@ putting_next at n lent place left out h p = by (ltb left 10) refl (p.going (omeg
           going = λ k. (omega (arith, length_more left many, g.0), last_put at left out place many g.0 ∙ g.1);
           done = λ k. absurd (omega (arith, length_more left many, digits_some (left / 10), g.0));
         }
+
+-- what a turn leaves: the place that is written need only equal the next one, however it is told
+pub putting_next : (at n : ℕ) (lent : List ℕ) (place left : ℕ) (out : List ℕ) {here digit end : ℕ} {new : List ℕ} → at ≤ place
+    → Putting at n lent (place + 1) left out → digit ≡ 48 + left % 10 → Put 1 (digit ∷ []) here out end new → here ≡ place
+    → Putting at n lent place (left / 10) new
+putting_next at n lent place left out h p d q e = rw (q.bytes, e, d) (next_put at n lent place left out h p)

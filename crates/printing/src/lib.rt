@@ -5,9 +5,9 @@
 pub mod digits;
 pub mod fields;
 
-ghost use Rattle.std.specs.Prelude.{[], ◌∷◌, ◌+◌, ◌≤◌, length};
+ghost use Rattle.std.specs.Prelude.{◌≡◌, [], ◌∷◌, ◌+◌, ◌≤◌, length, take};
 ghost use Rattle.rules.specs.Tidy.{digits_of, keyword_line, commented};
-ghost use Rattle.printing.specs.Over.{farthest, Put};
+ghost use Rattle.printing.specs.Over.{over, farthest, Put};
 ghost use Rattle.printing.specs.Further.{further, text_of};
 
 pub fn put_byte(b: u8, out: &mut [u8], at: usize) -> usize
@@ -21,18 +21,28 @@ pub fn put_byte(b: u8, out: &mut [u8], at: usize) -> usize
     at + 1
 }
 
+// Byte by byte: `copy_from_slice` would have the library for C need `memcpy` and `memmove`.
+fn copy(text: &[u8], count: usize, out: &mut [u8], at: usize)
+    requires { (count ≤ length text.now) × (at + count ≤ length out.old) }
+    ensures { out.new ≡ over at (take count text.now) out.old }
+{
+    for i in 0..count {
+        out[at + i] = text[i];
+    }
+}
+
 pub fn put_text(text: &[u8], out: &mut [u8], at: usize) -> usize
     requires { at + length text.now ≤ farthest }
     ensures { Put (length text.now) text.now at out.old result out.new }
 {
     let end = at + text.len();
     if end <= out.len() {
-        out[at..end].copy_from_slice(text);
+        copy(text, text.len(), out, at);
         return end;
     }
     if at < out.len() {
         let room = out.len() - at;
-        out[at..].copy_from_slice(&text[..room]);
+        copy(text, room, out, at);
     }
     end
 }

@@ -6,6 +6,7 @@ use native.Mathlib.Omega.{arith}
 use mathlib.Core.Path.{◌≡◌, refl, subst}
 use mathlib.Core.List.{List, []}
 use lib.ListN.{length}
+use Rattle.std.specs.Prelude.{Option, Some, None}
 use Rattle.rules.specs.Sheets.{table_count, row_width, row_place}
 use Rattle.columns.specs.Splices.{splice}
 use Rattle.table_sheet.specs.Outlines.{outline_count, with_outline, Outlined}
@@ -47,7 +48,8 @@ module _ (outlines file : List ℕ) where
     stay_outlined SentenceEnds a k' e = rw e (no_row o.size)
 
     -- behind an ordinary line nothing is noted
-    pub plainly_outlined : (p : Plain) → Applicable (plain_step p) 0 (kept k.state [] [] k.marks []) → (k' : Kept) → k' ≡ effect from (plain_step p) at end k
+    pub plainly_outlined : (p : Option Plain) → Applicable (plain_step p) 0 (kept k.state [] [] k.marks []) → (k' : Kept) → k' ≡ effect from (plain_step p) at end k
         → RowsOutlined outlines file k'.sheet k'.state.phase
-    plainly_outlined (plain.Word parent) a k' e = stay_outlined (plain_step (plain.Word parent)) a k' e
-    plainly_outlined (plain.Phrase number parent) a k' e = stay_outlined (plain_step (plain.Phrase number parent)) a k' e
+    plainly_outlined (Some (plain.Word parent)) a k' e = stay_outlined (plain_step (Some (plain.Word parent))) a k' e
+    plainly_outlined (Some (plain.Phrase number parent)) a k' e = stay_outlined (plain_step (Some (plain.Phrase number parent))) a k' e
+    plainly_outlined None a k' e = stay_outlined (plain_step None) a k' e

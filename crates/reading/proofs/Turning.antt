@@ -3,6 +3,7 @@
 use Prim.Native.Nat.{ℕ, suc, ◌+◌, ◌≤◌, ◌<◌}
 use native.Mathlib.Omega.{arith}
 use mathlib.Core.Path.{◌≡◌, refl, sym, ap, ap₂, ◌∙◌, subst}
+use mathlib.Core.Bool.{true, false≢true}
 use mathlib.Core.List.{List, [], ◌∷◌, ◌++◌}
 use lib.ListN.{length, drop}
 use Rattle.rules.specs.Bytes.{ignored}
@@ -18,7 +19,7 @@ use Rattle.lines.specs.LineEnds.{first_line, line_end}
 use Rattle.lines.specs.NextLines.{line_end_of, ListedBy}
 use Rattle.lines.specs.declared.Unreadable.{Unreadable}
 use Rattle.lines.proofs.FoundLines.{told_end, told_start, told_listed}
-use Rattle.std.specs.Prelude.{Option, Some, Result, Ok, Err}
+use Rattle.std.specs.Prelude.{Option, Some, None, is_some, Result, Ok, Err}
 use Rattle.lines.proofs.Lines.{at_behind, at_below, at_place, at_take}
 use Rattle.columns.specs.Listing.{text_between, line_of, columns_of, Listed}
 use Rattle.columns.specs.Lines.{line_in, text_in, columns_in}
@@ -29,7 +30,7 @@ use Rattle.steps.specs.Steps.{step_for, step_of}
 use Rattle.steps.specs.declared.Fault.{Fault}
 use Rattle.steps.specs.declared.Step.{Step}
 use Rattle.steps.specs.declared.Step.TheVariants as steps
-use Rattle.reading.specs.Effects.{Kept, kept, effect, noted_by, plain_step, Applicable}
+use Rattle.reading.specs.Effects.{Kept, kept, effect, judged_step, noted_by, plain_step, Applicable}
 use Rattle.judging.specs.Judging.{judged_by, Judgeable}
 use Rattle.judging.specs.States.{tally_in}
 use Rattle.judging.specs.PlainLines.{PlainBy}
@@ -45,6 +46,11 @@ use Rattle.reading.proofs.RowsSound.{rows_sound}
 use Rattle.reading.proofs.Going.{Going, stop_by}
 
 -- ---- which step it is
+
+-- what is not refused is a step
+pub not_refused : (j : Result Step Fault) → ((f : Fault) → j ≡ Err f → ⊥) → j ≡ Ok (judged_step j)
+not_refused (Ok y) o = refl
+not_refused (Err f) o = absurd (o f refl)
 
 -- whether it can be taken does not depend on the beginnings
 applies_alike : (y : Step) (size : ℕ) (k : Kept) (begins : List ℕ) → Applicable y size k → Applicable y size (kept k.state k.sheet k.seen k.marks begins)
@@ -247,18 +253,19 @@ module _ {file : List ℕ} {from size at : ℕ} {k : Kept} {l : Line} {places : 
             subst (λ (x : Fault). Walked file from size (reached_at k.state x.number x.place) k.sheet k.seen k.begins) (sym its) t
         by (granted t) u s = absurd (let z : ◌≡◌ {A = ℕ} 0 1 = cc in omega arith)
 
-  -- ---- as the quick way has it: p is what it took the line for
+  -- ---- as the quick way has it: p is what it answered, and it took the line
 
-  module _ (p : Plain) (says : PlainBy (columns_of file l) (tally_in k.state.phase).words judged (Some p)) where
-    abbrev Goes : Plain → Type 0
+  module _ (p : Option Plain) (says : PlainBy (columns_of file l) (tally_in k.state.phase).words judged p) (o : is_some p ≡ true) where
+    abbrev Goes : Option Plain → Type 0
     Goes x =
         Applicable (plain_step x) 0 (kept k.state [] [] k.marks [])
         × ((k' : Kept) → k' ≡ effect from (plain_step x) at (e + 1) k → Going file from size (e + 1) k')
 
     pub plainly : Goes p
     unfolding effect
-    plainly = by p says
+    plainly = by p says o
       where
-        by : (x : Plain) → PlainBy (columns_of file l) (tally_in k.state.phase).words judged (Some x) → Goes x
-        by (plain.Word parent) b = goes_on _ (sym b) _ refl
-        by (plain.Phrase number parent) b = goes_on _ (sym b) _ refl
+        by : (x : Option Plain) → PlainBy (columns_of file l) (tally_in k.state.phase).words judged x → is_some x ≡ true → Goes x
+        by (Some (plain.Word parent)) b m = goes_on _ (sym b) _ refl
+        by (Some (plain.Phrase number parent)) b m = goes_on _ (sym b) _ refl
+        by None b m = absurd (false≢true m)

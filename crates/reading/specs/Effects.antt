@@ -1,12 +1,13 @@
 -- What a step of a line does to all that a reading keeps, and what that needs; at is the place of the line, end the place
 -- behind its newline. Nothing is promised of the hints.
-use Rattle.std.specs.Prelude.{ℕ, ◌+◌, ◌-◌, ◌*◌, ◌≤◌, ◌<◌, ◌≡◌, false, List, [], ◌∷◌, leb, length, set}
+use Rattle.std.specs.Prelude.{ℕ, ◌+◌, ◌-◌, ◌*◌, ◌≤◌, ◌<◌, ◌≡◌, false, List, [], ◌∷◌, leb, length, set, Option, Some, None, Result, Ok, Err}
 use Rattle.rules.specs.Lists.{pick}
 use Rattle.rules.specs.Numbers.{file_limit, row_limit}
 use Rattle.rules.specs.Sheets.{table_count, row_place, table_sheet_size}
 use Rattle.seen.specs.Bits.{bit_at, with_bit}
 use Rattle.columns.specs.Splices.{splice}
 use Rattle.columns.specs.Listing.{no_span}
+use Rattle.steps.specs.declared.Fault.{Fault}
 use Rattle.steps.specs.declared.NodeSaid.{NodeSaid}
 use Rattle.steps.specs.declared.RowSaid.{RowSaid}
 use Rattle.steps.specs.declared.Step.{Step}
@@ -81,6 +82,11 @@ effect from (Phrase n) at end k =
     (set k.marks (n.number - 500) (k.state.handed + 1)) k.begins
 effect from SentenceEnds at end k = sentence_kept from (tally_in k.state.phase) end k
 
+-- the step of a line that was judged; one that is refused leaves all as it was
+abbrev pub judged_step : Result Step Fault → Step
+judged_step (Ok step) = step
+judged_step (Err f) = Ignored
+
 -- the list of beginnings behind a step, whatever else is kept
 abbrev pub noted_by : ℕ → Step → State → List ℕ → List ℕ
 noted_by from step s begins = (effect from step 0 0 (kept s [] [] [] begins)).begins
@@ -102,10 +108,11 @@ bare_said its_number its_parent =
       highest = its_parent;
     }
 
--- its step
-abbrev pub plain_step : Plain → Step
-plain_step (plain.Word its_parent) = Word (bare_said 0 its_parent)
-plain_step (plain.Phrase its_number its_parent) = Phrase (bare_said its_number its_parent)
+-- its step; a line that is left to the judge does nothing yet
+abbrev pub plain_step : Option Plain → Step
+plain_step (Some (plain.Word its_parent)) = Word (bare_said 0 its_parent)
+plain_step (Some (plain.Phrase its_number its_parent)) = Phrase (bare_said its_number its_parent)
+plain_step None = Ignored
 
 -- ---- what a step needs; size is the file's length
 

@@ -1,8 +1,8 @@
-// What the step of a line does to all that a reading keeps. Steps are matched here alone.
+// What a line does to all that a reading keeps, by the judge's answer or by the quick way's. Steps are matched here alone.
 ghost use Rattle.std.specs.Prelude.{◌≡◌, List, [], ℕ, ◌+◌, ◌-◌, ◌≤◌, length};
 ghost use Rattle.rules.specs.Numbers.{file_limit};
 ghost use Rattle.judging.specs.States.{tally_in};
-ghost use Rattle.reading.specs.Effects.{kept, format_read, handed_out, noted, effect, noted_by, bare_said, plain_step, Applicable};
+ghost use Rattle.reading.specs.Effects.{kept, format_read, handed_out, noted, effect, judged_step, noted_by, bare_said, plain_step, Applicable};
 ghost use Rattle.reading.specs.NotedTags.{outlines_by, TagApplies, hints_by};
 
 use crate::rows::{end_table, take_row};
@@ -12,7 +12,7 @@ use judging::state::{
     MARKS, Phase, State, Tally, first_tally, mark, moved, table_in, tally_in, with_phrase,
     with_word,
 };
-use steps::{NodeSaid, Step};
+use steps::{Fault, NodeSaid, Step};
 
 fn format_read(s: State, format: u32) -> State
     ensures { result ≡ format_read s format }
@@ -39,11 +39,14 @@ fn note_beginning(tally: Tally, from: u32, begins: &mut [u32])
 }
 
 // A sentence that ends is noted, and nothing else.
-pub fn note_end(step: Step, s: State, from: u32, begins: &mut [u32])
+pub fn note_end(judged: Result<Step, Fault>, s: State, from: u32, begins: &mut [u32])
     requires { (tally_in s.phase).start ≤ file_limit }
-    ensures { begins.new ≡ noted_by from step s begins.old }
+    ensures { begins.new ≡ noted_by from (judged_step judged) s begins.old }
 {
     let phase = s.phase;
+    let Ok(step) = judged else {
+        return;
+    };
     let Step::SentenceEnds = step else {
         return;
     };
@@ -51,11 +54,19 @@ pub fn note_end(step: Step, s: State, from: u32, begins: &mut [u32])
 }
 
 // The outline of a row's tag is noted, and nothing else.
-pub fn note_tag(step: Step, s: State, file: &[u8], outlines: &mut [u8; table_sheet::OUTLINES])
-    requires { TagApplies step s (length file.now) }
-    ensures { outlines.new ≡ outlines_by step s file.now outlines.old }
+pub fn note_tag(
+    judged: Result<Step, Fault>,
+    s: State,
+    file: &[u8],
+    outlines: &mut [u8; table_sheet::OUTLINES],
+)
+    requires { TagApplies (judged_step judged) s (length file.now) }
+    ensures { outlines.new ≡ outlines_by (judged_step judged) s file.now outlines.old }
 {
     let phase = s.phase;
+    let Ok(step) = judged else {
+        return;
+    };
     let Step::Row(row) = step else {
         return;
     };
@@ -95,12 +106,15 @@ fn bare_node(number: u32, parent: u32) -> NodeSaid
     }
 }
 
-// An ordinary line, that was not judged.
-pub fn take_plain(plain: Plain, s: State, marks: &mut [u32; MARKS]) -> State
+// An ordinary line, that was not judged; one that is left to the judge does nothing yet.
+pub fn take_plain(plain: Option<Plain>, s: State, marks: &mut [u32; MARKS]) -> State
     requires { Applicable (plain_step plain) 0 (kept s [] [] marks.old []) }
     ensures { (from at end : ℕ) (sheet seen begins : List ℕ) → kept result sheet seen marks.new begins ≡ effect from (plain_step plain) at end (kept s sheet seen marks.old begins) }
 {
     let phase = s.phase;
+    let Some(plain) = plain else {
+        return s;
+    };
     match plain {
         Plain::Word(parent) => {
             let tally = with_word(tally_in(phase), bare_node(0, parent));
@@ -116,7 +130,7 @@ pub fn take_plain(plain: Plain, s: State, marks: &mut [u32; MARKS]) -> State
 
 // All but the beginnings and the outlines.
 pub fn apply(
-    step: Step,
+    judged: Result<Step, Fault>,
     line: Line,
     s: State,
     file: &[u8],
@@ -125,12 +139,16 @@ pub fn apply(
     marks: &mut [u32; MARKS],
     hints: &mut [u8; table_sheet::HINTS],
 ) -> State
-    requires { (line.start ≤ file_limit) × (line.end ≤ file_limit) × Applicable step (length file.now) (kept s sheet.old seen.old marks.old []) }
-    ensures { ((from : ℕ) (begins : List ℕ) → kept result sheet.new seen.new marks.new (noted_by from step s begins)
-        ≡ effect from step line.start (line.end + 1) (kept s sheet.old seen.old marks.old begins))
-        × (hints.new ≡ hints_by step s file.now sheet.new hints.old) }
+    requires { (line.start ≤ file_limit) × (line.end ≤ file_limit) × Applicable (judged_step judged) (length file.now) (kept s sheet.old seen.old marks.old []) }
+    ensures { ((from : ℕ) (begins : List ℕ) → kept result sheet.new seen.new marks.new (noted_by from (judged_step judged) s begins)
+        ≡ effect from (judged_step judged) line.start (line.end + 1) (kept s sheet.old seen.old marks.old begins))
+        × (hints.new ≡ hints_by (judged_step judged) s file.now sheet.new hints.old) }
 {
     let phase = s.phase;
+    let step = match judged {
+        Ok(step) => step,
+        Err(_) => return s,
+    };
     match step {
         Step::Ignored => s,
         Step::Format(n) => format_read(s, n),

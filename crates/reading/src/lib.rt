@@ -71,18 +71,19 @@ fn take_lines(
             Err(why) => return stop_at(s, line_refusal(why), at as u32),
         };
         let line = ListedLine::new(file, found, &places);
-        if let Some(plain) = plain_line(&line, s, sheet, &hints, &marks) {
+        let plain = plain_line(&line, s, sheet, &hints, &marks);
+        if plain.is_some() {
             s = take_plain(plain, s, &mut marks);
             at = found.end + 1;
             continue;
         }
-        let step = match judging::judge(&line, s, sheet, &hints, &outlines, seen, &marks) {
-            Ok(step) => step,
-            Err(fault) => return stop_at(s, fault.number, fault.place),
-        };
-        note_end(step, s, from, begins);
-        note_tag(step, s, file, &mut outlines);
-        s = apply(step, found, s, file, sheet, seen, &mut marks, &mut hints);
+        let judged = judging::judge(&line, s, sheet, &hints, &outlines, seen, &marks);
+        if let Err(fault) = judged {
+            return stop_at(s, fault.number, fault.place);
+        }
+        note_end(judged, s, from, begins);
+        note_tag(judged, s, file, &mut outlines);
+        s = apply(judged, found, s, file, sheet, seen, &mut marks, &mut hints);
         at = found.end + 1;
     }
     stop_at(s, closing(s.phase, sheet), at as u32)

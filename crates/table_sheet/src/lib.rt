@@ -68,7 +68,9 @@ pub fn find_id(sheet: &[u32], place: usize, rows: usize, id1: u32) -> Option<usi
     None
 }
 
-// Whether the first text of the row at a place is this tag. Texts of another length aren't compared.
+// Whether the first text of the row at a place is this tag. Texts of another length aren't compared. Always inlined, as the
+// comparison is.
+#[inline(always)]
 fn tag_at(file: &[u8], sheet: &[u32], place: usize, tag: &[u8]) -> bool
     requires { (place + row_width ≤ length sheet.now) × RowInside file.now sheet.now place }
     ensures { result ≡ same tag.now (row_at file.now sheet.now place).first.bytes }
@@ -81,7 +83,9 @@ fn tag_at(file: &[u8], sheet: &[u32], place: usize, tag: &[u8]) -> bool
     texts::same_text(tag, &file[start..start + len])
 }
 
-// One of the rows from a place on whose first text is this tag, counted from 0.
+// One of the rows from a place on whose first text is this tag, counted from 0. Never inlined: a large caller has no registers
+// left for the loop.
+#[inline(never)]
 pub fn seek_tag(file: &[u8], sheet: &[u32], place: usize, rows: usize, tag: &[u8]) -> Option<usize>
     requires { (place + row_width * rows ≤ length sheet.now) × Inside file.now sheet.now place rows }
     ensures { TagFound tag.now (rows_from file.now sheet.now place rows) result }
@@ -107,10 +111,10 @@ fn find_by_halves(
     requires { (table < table_count) × (place + row_width * rows ≤ length sheet.now) × Inside file.now sheet.now place rows }
     ensures { TagFound tag.now (rows_from file.now sheet.now place rows) result }
 {
-    let row = order::row_by_halves(file, sheet, hints, table, place, rows, tag);
-    if row < rows {
-        if tag_at(file, sheet, place + ROW_WIDTH * row, tag) {
-            return Some(row);
+    let near = order::row_by_halves(file, sheet, hints, table, place, rows, tag);
+    if near < rows {
+        if tag_at(file, sheet, place + ROW_WIDTH * near, tag) {
+            return Some(near);
         }
     }
     seek_tag(file, sheet, place, rows, tag)

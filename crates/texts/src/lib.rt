@@ -27,7 +27,8 @@ fn same_few(a: &[u8], b: &[u8]) -> bool
 }
 
 // The lengths are compared first, then what holds the last byte, then the rest. Tags are compared most often, and have 4 to 16
-// bytes or fewer.
+// bytes or fewer. Always inlined, so that a loop over rows asks for the length once.
+#[inline(always)]
 pub fn same_text(a: &[u8], b: &[u8]) -> bool
     ensures { result ≡ same a.now b.now }
 {

@@ -7,7 +7,7 @@ use mathlib.Core.List.{List}
 use lib.ListN.{get_or}
 use borrow.Author.Tests.{eqb-false}
 use Rattle.seen.specs.Bits.{bit, bit_at, with_bit}
-use Rattle.seen.proofs.Weights.{room, weight}
+use Rattle.seen.proofs.Weights.{room}
 use Rattle.seen.proofs.add.Goals as goal
 
 -- a bit that isn't 1 is 0
@@ -21,7 +21,7 @@ pub overflow_add-seen : goal.overflow_add-seen
 overflow_add-seen c =
     let a = c.args in
     let k : a.n % 8 < 8 = omega arith in
-    rw (weight (a.n % 8) k)
+    rw c.weight.ensures
     (record {
       fits =
           room (get_or a.seen.now (a.n / 8) 0) (a.n % 8) (c.slice_known-1.given (a.n / 8)).fits k
@@ -30,4 +30,4 @@ overflow_add-seen c =
 
 pub returns : goal.returns
 unfolding with_bit
-returns c = rw (weight (c.args.n % 8) (omega arith))
+returns c = rw c.weight.ensures

@@ -1,5 +1,4 @@
--- `numbers::quick::three_digits` meets its contract: in the arm that answers, three digits stand there, of which the first
--- is 5 at least.
+-- `numbers::quick::three_digits` meets its contract: past its pattern three digits stand there, and the first is 5 at least.
 use native.Mathlib.Omega.{arith}
 use Prim.Native.Nat.{ℕ, ◌+◌, ◌-◌}
 use mathlib.Core.Path.{◌≡◌}
@@ -8,8 +7,8 @@ use lib.ListN.{get_or, take, drop}
 use Rattle.numbers.proofs.ThreeDigits.{ThreeDigits, three_write}
 use Rattle.numbers.proofs.quick.three_digits.Goals as goal
 
-pub returns-in-53-to-57 : goal.returns-in-53-to-57
-returns-in-53-to-57 c =
+pub returns : goal.returns
+returns c =
     let s : List ℕ = take (c.args.at + 3 - c.args.at) (drop c.args.at c.args.file.now) in
     let three : ThreeDigits (get_or s 0 0) (get_or s 1 0) (get_or s 2 0) = record {
       first_low = omega arith;
@@ -20,5 +19,5 @@ returns-in-53-to-57 c =
       third_high = omega arith;
     } in
     let wide : c.args.at + 3 - c.args.at ≡ 3 = omega arith in
-    rw (c.from.ensures, c.from-in-53-to-57.ensures, c.from-in-53-to-57-2.ensures, wide)
-    (rw wide at (three_write s (omega (arith, c.in-53-to-57.len_at_least, c.in-53-to-57.len_below)) three))
+    rw (c.from-hundreds.ensures, c.from-tens.ensures, c.from-ones.ensures, wide)
+    (rw wide at (three_write s (omega arith) three))

@@ -2,9 +2,7 @@
 -- the output lent.
 use native.Mathlib.Omega.{arith}
 use Prim.Native.Nat.{ℕ, ◌+◌, ◌-◌}
-use mathlib.Core.Path.{◌≡◌, ap, ◌∙◌}
-use mathlib.Core.List.{[], ◌∷◌}
-use Rattle.printing.specs.Over.{over}
+use mathlib.Core.Path.{◌≡◌, ap}
 use Rattle.printing.proofs.DigitLaws.{putting_start, putting_next}
 use Rattle.printing.proofs.digits.put_digits.Goals as goal
 
@@ -18,5 +16,5 @@ loop-place-preserved c =
     let a = c.args in
     let l = c.loop-place in
     let e : l.place ≡ l.place - 1 + 1 = omega arith in
-    let put = c.put_byte.ensures.bytes ∙ ap (λ (d : ℕ). over (l.place - 1) (d ∷ []) l.out) c.last_digit.ensures in
-    rw put (putting_next a.at a.n a.out.now (l.place - 1) l.left l.out (omega arith) (rw (← e) l.invariant))
+    putting_next a.at a.n a.out.now (l.place - 1) l.left l.out (omega arith) (rw (← e) l.invariant)
+    c.last_digit.ensures c.put_byte.ensures (omega arith)

@@ -21,11 +21,15 @@ none_noted from (Phrase n) s begins o = refl
 none_noted from SentenceEnds s begins o = absurd (o refl)
 
 pub returns-in_default : goal.returns-in_default
-returns-in_default c = let a = c.args in none_noted a.from a.step a.s a.begins.now c.in_default.not-SentenceEnds
+unfolding effect
+returns-in_default c = rw c.in_default.is refl
+
+pub returns-in_default-step : goal.returns-in_default-step
+returns-in_default-step c = let a = c.args in rw c.in-Ok.is (none_noted a.from c.in-Ok.step a.s a.begins.now c.in_default-step.not-SentenceEnds)
 
 pub note_beginning-requires : goal.note_beginning-requires
 note_beginning-requires c = rw c.tally_in.ensures c.requires
 
 pub returns : goal.returns
 unfolding effect
-returns c = rw (c.in-SentenceEnds.is, c.note_beginning.ensures, c.tally_in.ensures)
+returns c = rw (c.in-Ok.is, c.in-SentenceEnds.is, c.note_beginning.ensures, c.tally_in.ensures)
