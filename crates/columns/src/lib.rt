@@ -12,14 +12,14 @@ ghost use Rattle.rules.specs.Bytes.{white};
 ghost use Rattle.columns.specs.Leading.{run_length, in_run};
 ghost use Rattle.columns.specs.Cursors.{next_column};
 
-// the class of white bytes
-const WHITE: u8 = 1;
+// the class of illegal bytes
+const ILLEGAL: u8 = 0;
 
-// Most bytes lie behind the space: they cost one comparison, and the table isn't asked.
+// Most bytes lie behind the space, and cost one comparison. Of those up to the space the white ones alone are legal.
 pub fn is_white(b: u8) -> bool
     ensures { result ≡ white b }
 {
-    b <= b' ' && classes::class_of(b) == WHITE
+    b <= b' ' && classes::class_of(b) != ILLEGAL
 }
 
 // The first place from `at` on where a run ends: of white bytes or, in a column, of bytes that aren't white.
